@@ -1,0 +1,4 @@
+-- Definitions on lists and numbers that contracts of several crates cite.
+pub mod Tests
+pub mod Bytes
+pub mod Parts

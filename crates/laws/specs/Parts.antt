@@ -1,0 +1,8 @@
+-- A list written over another.
+use Prim.Native.Nat.{ℕ, _+_}
+use mathlib.Core.List.{List, _++_}
+use lib.ListN.{length, take, drop}
+
+-- `area` with `bs` written over it from place `from` on
+abbrev pub over : ℕ → List ℕ → List ℕ → List ℕ
+over from bs area = take from area ++ (bs ++ drop (from + length bs) area)
