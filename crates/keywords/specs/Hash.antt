@@ -1,0 +1,37 @@
+-- The hash of a keyword and its place in a table, as document 01 has them in "Keywords and hash".
+use Prim.Native.Nat.{ℕ, _+_, _-_, _*_, _/_, _%_, _^_}
+use mathlib.Core.List.{List, [], _∷_, map}
+use Rattle.laws.specs.Bytes.{little, xor}
+use Rattle.keywords.specs.Keywords.{lower}
+
+-- chunks of four bytes, little-endian, the last zero-padded, joined by exclusive or
+unfoldable pub word : List ℕ → ℕ
+word [] = 0
+word (a ∷ []) = little (a ∷ [])
+word (a ∷ b ∷ []) = little (a ∷ b ∷ [])
+word (a ∷ b ∷ c ∷ []) = little (a ∷ b ∷ c ∷ [])
+word (a ∷ b ∷ c ∷ d ∷ rest) = xor 32 (little (a ∷ b ∷ c ∷ d ∷ [])) (word rest)
+
+-- the factor of document 001's appendix
+abbrev pub factor : ℕ
+factor = 0x4F1BBCDC
+
+-- the hash of a keyword, of which a place takes the top bits
+unfoldable pub hashOf : List ℕ → ℕ
+hashOf k = word (map lower k) * factor % 2 ^ 32
+
+-- the place of a keyword in a table of 2 to the power b entries: the top b bits of its hash
+abbrev pub placeOf : ℕ → List ℕ → ℕ
+placeOf b k = hashOf k / 2 ^ (32 - b)
+
+-- the same for a table of n entries, whatever n is: the hash scaled from 2 to the power 32 down to n
+abbrev pub scaled : ℕ → ℕ → ℕ
+scaled n h = h * n / 2 ^ 32
+
+abbrev pub placeIn : ℕ → List ℕ → ℕ
+placeIn n k = scaled n (hashOf k)
+
+-- document 001's appendix: the byte at index i is shifted by i modulo 4 bytes and joined by exclusive or
+unfoldable pub rolling : ℕ → ℕ → List ℕ → ℕ
+rolling acc j [] = acc
+rolling acc j (b ∷ bs) = rolling (xor 32 acc (b * 256 ^ j)) ((j + 1) % 4) bs

@@ -1,0 +1,3 @@
+-- Keywords of a text, and the place of a keyword in a table.
+pub mod Keywords
+pub mod Hash
