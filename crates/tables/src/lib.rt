@@ -1,0 +1,23 @@
+// Floor 2: one neighbour's route table: updates read on its part of the route area, and whether it withholds a query.
+// Nothing here knows of lines or neighbours.
+
+// What is kept of a table beside its entries, which stand in the lent part, one byte an entry.
+#[repr(C)]
+pub struct Table {
+    pub mark: u8,
+    pub length: u32,
+    pub infinity: u8,
+    pub place: u8,
+    pub size: u8,
+    pub bits: u8,
+    pub at: u32,
+}
+
+// The answer to an update, and the table after it.
+#[repr(C)]
+pub struct Updated {
+    pub answer: u8,
+    pub table: Table,
+}
+
+pub fn nothing() {}
