@@ -1,0 +1,3 @@
+-- The writer of table updates, and what reading its bytes gives.
+pub mod Writer
+pub mod RoundTrip

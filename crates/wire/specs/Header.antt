@@ -1,0 +1,35 @@
+-- The header of a message, as document 01 has it: number 16 bytes, type, TTL, Hops, payload length 4 bytes, little-endian; the payload from byte 23.
+use Prim.Native.Nat.{ℕ}
+use mathlib.Core.List.{List, [], _∷_, _++_}
+use lib.ListN.{length, getD, take, drop}
+use Rattle.laws.specs.Bytes.{little, littleBytes}
+
+-- read off a message
+abbrev pub numberOf : List ℕ → List ℕ
+numberOf m = take 16 m
+
+abbrev pub kindOf : List ℕ → ℕ
+kindOf m = getD m 16 0
+
+abbrev pub ttlOf : List ℕ → ℕ
+ttlOf m = getD m 17 0
+
+abbrev pub hopsOf : List ℕ → ℕ
+hopsOf m = getD m 18 0
+
+abbrev pub sizeOf : List ℕ → ℕ
+sizeOf m = little (take 4 (drop 19 m))
+
+abbrev pub payloadOf : List ℕ → List ℕ
+payloadOf m = take (sizeOf m) (drop 23 m)
+
+-- the types of messages
+abbrev pub routeUpdate : ℕ
+routeUpdate = 0x30
+
+-- written: the header of a payload of n bytes, and a whole message
+abbrev pub header : List ℕ → ℕ → ℕ → ℕ → ℕ → List ℕ
+header number kind ttl hops n = number ++ (kind ∷ ttl ∷ hops ∷ littleBytes 4 n)
+
+unfoldable pub message : List ℕ → ℕ → ℕ → ℕ → List ℕ → List ℕ
+message number kind ttl hops payload = header number kind ttl hops (length payload) ++ payload

@@ -1,0 +1,2 @@
+-- Messages as bytes.
+pub mod Header
