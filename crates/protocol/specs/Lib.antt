@@ -1,0 +1,10 @@
+-- The rules of the station's calls.
+pub mod Memory
+pub mod Lines
+pub mod Order
+pub mod Outcomes
+pub mod Queries
+pub mod Hits
+pub mod Pings
+pub mod Calls
+pub mod Runs
