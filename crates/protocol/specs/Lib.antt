@@ -8,3 +8,6 @@ pub mod Hits
 pub mod Pings
 pub mod Calls
 pub mod Runs
+pub mod Expected
+pub mod History
+pub mod Demand3
