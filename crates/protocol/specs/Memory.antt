@@ -64,9 +64,9 @@ abbrev pub isFound : Found → Bool
 isFound Absent = false
 isFound (At n a) = true
 
--- who asked, and `capacity`, which is nobody, where the number is not remembered
+-- who asked; 10, which is nobody, where the number is not remembered
 abbrev pub askerOf : Found → ℕ
-askerOf Absent = capacity
+askerOf Absent = 10
 askerOf (At n a) = a
 
 -- the number is remembered
