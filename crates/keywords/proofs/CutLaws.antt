@@ -2,16 +2,17 @@
 use mathlib.Core.Path.{_≡_, refl, sym, ap, ap₂, _∙_}
 use mathlib.Core.Bool.{Bool, true, false, cond, not, _||_, _&&_, Bool·beq}
 use mathlib.Core.List.{List, [], _∷_, map}
-use Prim.Native.Nat.{ℕ, zero, suc, _+_, _-_, _≤_, _<_}
+use mathlib.Core.Logic.{_↔_}
+use Prim.Native.Nat.{ℕ, suc, _+_, _-_, _≤_, _<_}
 use native.Mathlib.Numerals.{add-one}
 use native.Mathlib.Decide.{decLe}
 use native.Mathlib.Omega.{arith}
 use lib.Dec.{ltb}
 use lib.ListN.{length, getD, take, drop, length-take, length-drop, drop-of-length-le}
 use lib.Seq.{drop-cons, drop-drop}
-use borrow.Author.Tests.{lt-ltb, le-ltb, not-true, not-false}
+use borrow.Author.Tests.{lt-ltb, le-ltb}
 use Rattle.laws.specs.Tests.{any, all}
-use Rattle.keywords.specs.Keywords.{isSeparator, lower, onto, filled, leading, matching, pieces, startBy, endBy, keywordsOf, cutStart, cutEnd}
+use Rattle.keywords.specs.Keywords.{isSeparator, lower, onto, filled, leading, matching, pieces, startBy, endBy, keywordsOf, cutStart, cutEnd, keywordAt, textBehind}
 use Rattle.keywords.specs.Hash.{hashOf}
 use Rattle.keywords.proofs.HashLaws.{hash-lower}
 
@@ -145,8 +146,7 @@ module _ (s : ℕ → Bool) where
 
 -- ---- the keywords of a text
 
-pub keywords-cut : (text : List ℕ) → cutStart text < cutEnd text
-    → keywordsOf text ≡ map lower (take (cutEnd text - cutStart text) (drop (cutStart text) text)) ∷ keywordsOf (drop (cutEnd text) text)
+pub keywords-cut : (text : List ℕ) → cutStart text < cutEnd text → keywordsOf text ≡ map lower (keywordAt text) ∷ keywordsOf (textBehind text)
 unfolding keywordsOf
 keywords-cut text h = ap (map (map lower)) (pieces-cut isSeparator text h)
 
@@ -160,12 +160,13 @@ cut-end = pieces-end isSeparator
 pub cut-within : (text : List ℕ) → (cutStart text ≤ cutEnd text) × (cutEnd text ≤ length text)
 cut-within text = (omega arith, end-within isSeparator text)
 
--- the first keyword of a text as it stands there, and the text behind it
-abbrev pub keywordAt : List ℕ → List ℕ
-keywordAt text = take (cutEnd text - cutStart text) (drop (cutStart text) text)
-
-abbrev pub textBehind : List ℕ → List ℕ
-textBehind text = drop (cutEnd text) text
+-- a cut is empty exactly where the text has no keyword
+pub cut-empty : (text : List ℕ) → (cutStart text ≡ cutEnd text) ↔ (keywordsOf text ≡ [])
+cut-empty text = (keywords-none text, λ e. by e (decLe (suc (cutStart text)) (cutEnd text)))
+  where
+    by : keywordsOf text ≡ [] → Dec (cutStart text < cutEnd text) → cutStart text ≡ cutEnd text
+    by e (yes h) = let z : _≡_ {A = ℕ} 0 1 = cc (keywords-cut text h) in absurd (omega arith)
+    by e (no h) = omega arith
 
 -- one step of a loop over the keywords, seen through any function of them
 keywords-step : {B : Type 0} (g : List (List ℕ) → B) (text : List ℕ)

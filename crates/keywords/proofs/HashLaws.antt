@@ -3,11 +3,11 @@ use mathlib.Core.Path.{_≡_, refl, sym, ap, ap₂, _∙_}
 use mathlib.Core.List.{List, [], _∷_, map}
 use mathlib.Core.Logic.{_⊎_, inl, inr}
 use Prim.Native.Nat.{ℕ, zero, suc, _+_, _-_, _*_, _/_, _%_, _^_, _≤_, _<_}
-use native.Mathlib.Nat.{mod-lt, mul-div-mul-right, div-lt-iff-lt-mul, mul-lt-mul-of-pos-right, mul-comm}
+use native.Mathlib.Nat.{mul-div-mul-right, div-lt-iff-lt-mul, mul-lt-mul-of-pos-right, mul-comm}
 use native.Mathlib.Numerals.{add-one}
 use native.Mathlib.Decide.{decLe}
 use native.Mathlib.Omega.{arith}
-use lib.ListN.{length, getD, drop, List·getD-map}
+use lib.ListN.{length, getD, drop}
 use lib.Seq.{drop-cons}
 use lib.Pow.{pow-pos, pow-add, shr-lt, shr-shr}
 use lib.Bits.{bitXor}
@@ -172,6 +172,15 @@ pub place-below : (b : ℕ) (k : List ℕ) → b ≤ 32 → placeOf b k < 2 ^ b
 place-below b k h =
     let e : b + (32 - b) ≡ 32 = omega arith in
     shr-lt b (32 - b) (rw e (hash-below k))
+
+-- no bits leave one place, and from 32 on the place is the whole hash
+pub place-none : (k : List ℕ) → placeOf 0 k ≡ 0
+place-none k = let h = hash-below k in omega arith
+
+pub place-whole : (b : ℕ) (k : List ℕ) → 32 ≤ b → placeOf b k ≡ hashOf k
+place-whole b k h =
+    let e : 32 - b ≡ 0 = omega arith in
+    rw e (omega arith)
 
 -- a place in a table is the place in a table with 2 to the power c times as many entries, cut down by as many
 pub place-cut : (b c : ℕ) (k : List ℕ) → b + c ≤ 32 → placeOf b k ≡ placeOf (b + c) k / 2 ^ c

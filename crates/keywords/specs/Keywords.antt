@@ -1,9 +1,9 @@
 -- Keywords of a text, as document 01 has them in "Keywords and hash".
-use Prim.Native.Nat.{ℕ, suc, _+_}
+use Prim.Native.Nat.{ℕ, suc, _+_, _-_}
 use mathlib.Core.Bool.{Bool, true, false, cond, not, _&&_}
 use mathlib.Core.List.{List, [], _∷_, map}
 use lib.Dec.{eqb, leb}
-use lib.ListN.{drop}
+use lib.ListN.{take, drop}
 use Rattle.keywords.specs.declared.cut.Cut.{Cut}
 
 -- the bytes that part keywords
@@ -62,3 +62,10 @@ cutEnd = endBy isSeparator
 
 abbrev pub cutOf : List ℕ → Cut
 cutOf text = record { start = cutStart text; end = cutEnd text }
+
+-- the first keyword as the text has it, upper case and all, and the text behind it
+abbrev pub keywordAt : List ℕ → List ℕ
+keywordAt text = take (cutEnd text - cutStart text) (drop (cutStart text) text)
+
+abbrev pub textBehind : List ℕ → List ℕ
+textBehind text = drop (cutEnd text) text

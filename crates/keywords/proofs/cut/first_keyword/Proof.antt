@@ -1,4 +1,4 @@
--- The run of separators, and the run of other bytes behind it. Assumes nothing.
+-- The run of separators, and the run of other bytes behind it.
 use Prim.Native.Nat.{_+_, _≤_}
 use mathlib.Core.Path.{_≡_, ap, ap₂, _∙_}
 use mathlib.Core.Bool.{true, false}
@@ -7,7 +7,7 @@ use lib.ListN.{length, drop}
 use borrow.Author.Needs.{needs}
 use Rattle.laws.proofs.Parts.{part-tail}
 use Rattle.keywords.specs.declared.cut.Cut.{Cut}
-use Rattle.keywords.specs.Keywords.{leading, matching, isSeparator, cutStart, cutEnd}
+use Rattle.keywords.specs.Keywords.{leading, matching, isSeparator, cutEnd}
 use Rattle.keywords.proofs.CutLaws.{leading-within, end-within}
 use Rattle.keywords.proofs.cut.first_keyword.Statement.{statement}
 use Rattle.keywords.proofs.cut.first_keyword.Tie as tie

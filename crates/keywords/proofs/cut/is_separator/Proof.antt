@@ -1,4 +1,4 @@
--- The test is the definition. Assumes nothing.
+-- The test is the definition.
 use mathlib.Core.Path.{refl}
 use Rattle.keywords.specs.Keywords.{isSeparator}
 use Rattle.keywords.proofs.cut.is_separator.Statement.{statement}

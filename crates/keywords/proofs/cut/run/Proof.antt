@@ -1,12 +1,12 @@
--- What was passed and the run that is left are the whole run. Assumes nothing.
+-- What was passed and the run that is left are the whole run.
 use Prim.Native.Nat.{_+_, _-_, _≤_}
-use mathlib.Core.Path.{_≡_, refl, sym, ap, _∙_}
+use mathlib.Core.Path.{_≡_, _∙_}
 use mathlib.Core.Bool.{Bool·beq}
 use native.Mathlib.Omega.{arith}
 use lib.ListN.{length, getD, drop, drop-of-length-le}
 use borrow.Author.Needs.{needs}
 use borrow.Author.Tests.{not-true, not-false}
-use Rattle.keywords.specs.Keywords.{isSeparator, leading, matching}
+use Rattle.keywords.specs.Keywords.{leading, matching}
 use Rattle.keywords.proofs.CutLaws.{leading-on, leading-off, matching-is}
 use Rattle.keywords.proofs.cut.run.Statement.{statement}
 use Rattle.keywords.proofs.cut.run.Tie as tie

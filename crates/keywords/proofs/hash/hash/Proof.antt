@@ -1,4 +1,4 @@
--- The product of the joined chunks, modulo 2 to the power 32. Assumes nothing.
+-- The product of the joined chunks, modulo 2 to the power 32.
 use Prim.Native.Nat.{_*_, _%_, _^_}
 use mathlib.Core.Path.{ap}
 use borrow.Author.Needs.{needs}

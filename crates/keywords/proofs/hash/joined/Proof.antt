@@ -1,9 +1,8 @@
--- What is left of the keyword, joined to what was joined already, is the whole. Assumes nothing.
-use Prim.Native.Nat.{_+_, _-_, _*_, _%_, _^_, _≤_, _<_}
-use mathlib.Core.Path.{_≡_, refl, sym, ap, _∙_}
+-- What is left of the keyword, joined to what was joined already, is the whole.
+use Prim.Native.Nat.{_-_, _*_, _%_, _^_, _≤_, _<_}
+use mathlib.Core.Path.{_≡_, sym, ap, _∙_}
 use mathlib.Core.List.{map}
-use native.Mathlib.Omega.{arith}
-use lib.ListN.{length, getD, drop, drop-of-length-le}
+use lib.ListN.{length, drop, drop-of-length-le}
 use lib.Bits.{xor-lt}
 use borrow.Author.Needs.{needs}
 use Rattle.keywords.specs.Keywords.{lower}

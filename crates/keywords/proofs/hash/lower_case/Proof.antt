@@ -1,4 +1,4 @@
--- Letters, what stands above them and what stands below them. Assumes nothing.
+-- Letters, what stands above them and what stands below them.
 use mathlib.Core.Path.{sym}
 use borrow.Author.Needs.{needs}
 use Rattle.keywords.proofs.HashLaws.{lower-letter, lower-over, lower-under}

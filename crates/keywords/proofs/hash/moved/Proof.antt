@@ -1,4 +1,4 @@
--- A shift by whole bytes is a product with a power of 256. Assumes nothing.
+-- A shift by whole bytes is a product with a power of 256.
 use borrow.Author.Needs.{needs}
 use Rattle.keywords.proofs.HashLaws.{moved-whole}
 use Rattle.keywords.proofs.hash.moved.Statement.{statement}

@@ -1,4 +1,4 @@
--- The top bits of the hash. Assumes nothing.
+-- The top bits of the hash.
 use Prim.Native.Nat.{_-_, _/_, _^_}
 use mathlib.Core.Path.{ap, _∙_}
 use borrow.Author.Needs.{needs}

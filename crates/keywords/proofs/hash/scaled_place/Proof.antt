@@ -1,4 +1,4 @@
--- The product of two 32-bit numbers fits 64 bits. Assumes nothing.
+-- The product of two 32-bit numbers fits 64 bits.
 use Prim.Native.Nat.{_*_, _^_, _<_}
 use native.Mathlib.Omega.{arith}
 use borrow.Author.Needs.{needs}

@@ -1,4 +1,4 @@
--- No bit, every bit, and some. Assumes nothing.
+-- No bit, every bit, and some.
 use mathlib.Core.Path.{_≡_}
 use Prim.Native.Nat.{_-_}
 use native.Mathlib.Omega.{arith}
