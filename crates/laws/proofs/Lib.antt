@@ -1,0 +1,3 @@
+-- Facts on lists and numbers that several crates cite.
+pub mod Bits
+pub mod Parts
