@@ -1,0 +1,25 @@
+//! An independent second implementation of the station core.
+//!
+//! It is written from the project's statement of the core (document 01) and its sources: document 002 for messages, 001 for route tables
+//! and their hash, 004 for the stored pongs. It is there to be compared with the proved crates of `crates/`: both print the table of
+//! `docs/VECTORS.md` and the text of a session file, and the two must be equal. It shares nothing with those crates, neither code nor
+//! definitions nor tests, so that a fault in one of the two shows. It also is the bar that the proved crates are timed against, so it
+//! allocates nothing while a message is handled.
+//!
+//! No promise of this crate is proved. It has unit tests for document 01's own examples and for errors that are easily made.
+//!
+//! - [`hash`]: a keyword's place in a route table.
+//! - [`keywords`]: the keywords of a query's text.
+//! - [`table`]: route tables, RESET and PATCH, withholding.
+//! - [`writer`]: the updates from one table to the next.
+//! - [`header`]: the message header.
+//!
+//! Answers are document 01's numbers, 0 to 18.
+
+#![forbid(unsafe_code)]
+
+pub mod hash;
+pub mod header;
+pub mod keywords;
+pub mod table;
+pub mod writer;
