@@ -12,12 +12,14 @@
 //! - [`keywords`]: the keywords of a query's text.
 //! - [`table`]: route tables, RESET and PATCH, withholding.
 //! - [`writer`]: the updates from one table to the next.
+//! - [`handshake`]: the groups that are exchanged before the first message.
 //! - [`header`]: the message header.
 //!
 //! Answers are document 01's numbers, 0 to 18.
 
 #![forbid(unsafe_code)]
 
+pub mod handshake;
 pub mod hash;
 pub mod header;
 pub mod keywords;
