@@ -11,6 +11,25 @@ pub const UPDATE: u8 = 0x30;
 pub const QUERY: u8 = 0x80;
 pub const HIT: u8 = 0x81;
 
+/// A header that was read.
+#[derive(Clone, Copy, Debug, PartialEq, Eq)]
+pub struct Header {
+    pub number: [u8; 16],
+    pub kind: u8,
+    pub ttl: u8,
+    pub hops: u8,
+    pub payload: u32,
+}
+
+/// Reads the header at the start of `bytes`, if so many are there.
+#[inline]
+pub fn read(bytes: &[u8]) -> Option<Header> {
+    let bytes: &[u8; BYTES] = bytes.first_chunk()?;
+    let payload = u32::from_le_bytes([bytes[19], bytes[20], bytes[21], bytes[22]]);
+    let number = *bytes.first_chunk()?;
+    Some(Header { number, kind: bytes[16], ttl: bytes[17], hops: bytes[18], payload })
+}
+
 /// Writes a header into the first 23 bytes of `out`.
 #[inline]
 pub fn write(out: &mut [u8], number: &[u8; 16], kind: u8, ttl: u8, hops: u8, payload: usize) {

@@ -14,6 +14,9 @@
 //! - [`writer`]: the updates from one table to the next.
 //! - [`handshake`]: the groups that are exchanged before the first message.
 //! - [`header`]: the message header.
+//! - [`station`]: the state of a station and the calls on it.
+//! - [`tally`]: counts of the answers given.
+//! - [`session`]: the text of a session file.
 //!
 //! Answers are document 01's numbers, 0 to 18.
 
@@ -23,5 +26,8 @@ pub mod handshake;
 pub mod hash;
 pub mod header;
 pub mod keywords;
+pub mod session;
+pub mod station;
 pub mod table;
+pub mod tally;
 pub mod writer;
