@@ -142,40 +142,42 @@ impl Table {
     }
 }
 
-/// The two numbers of a byte at 4 bits: the first four bits are the high ones.
+/// Data bytes that are unpacked at a time at 4 bits.
+const BLOCK: usize = 128;
+
+/// The numbers of at most [`BLOCK`] bytes at 4 bits, as 8-bit numbers: two for each byte, the first four bits first.
 #[inline]
-fn nibbles(byte: u8) -> (i16, i16) {
-    (i16::from((byte as i8) >> 4), i16::from(((byte << 4) as i8) >> 4))
+fn unpacked(data: &[u8]) -> [u8; 2 * BLOCK] {
+    let mut numbers = [0; 2 * BLOCK];
+    for (pair, &byte) in numbers.chunks_exact_mut(2).zip(data) {
+        pair[0] = ((byte as i8) >> 4) as u8;
+        pair[1] = (((byte << 4) as i8) >> 4) as u8;
+    }
+    numbers
 }
 
-#[inline]
-fn fits(entry: u8, number: i16, infinity: u8) -> bool {
-    let sum = i16::from(entry) + number;
-    sum >= 1 && sum <= i16::from(infinity)
-}
-
-fn bytes_fit(entries: &[u8], data: &[u8], infinity: u8) -> bool {
-    entries.iter().zip(data).fold(true, |all, (&entry, &byte)| all & fits(entry, i16::from(byte as i8), infinity))
-}
-
-fn nibbles_fit(entries: &[u8], data: &[u8], infinity: u8) -> bool {
-    entries.chunks_exact(2).zip(data).fold(true, |all, (pair, &byte)| {
-        let (first, second) = nibbles(byte);
-        all & fits(pair[0], first, infinity) & fits(pair[1], second, infinity)
+/// Whether every 8-bit number leads its entry to 1..Infinity.
+fn bytes_fit(entries: &[u8], numbers: &[u8], infinity: u8) -> bool {
+    entries.iter().zip(numbers).fold(true, |all, (&entry, &number)| {
+        let sum = i16::from(entry) + i16::from(number as i8);
+        all & (sum >= 1) & (sum <= i16::from(infinity))
     })
 }
 
-fn add_bytes(entries: &mut [u8], data: &[u8]) {
-    for (entry, &byte) in entries.iter_mut().zip(data) {
-        *entry = entry.wrapping_add(byte);
+fn add_bytes(entries: &mut [u8], numbers: &[u8]) {
+    for (entry, &number) in entries.iter_mut().zip(numbers) {
+        *entry = entry.wrapping_add(number);
     }
 }
 
+fn nibbles_fit(entries: &[u8], data: &[u8], infinity: u8) -> bool {
+    let mut blocks = entries.chunks(2 * BLOCK).zip(data.chunks(BLOCK));
+    blocks.all(|(entries, data)| bytes_fit(entries, &unpacked(data), infinity))
+}
+
 fn add_nibbles(entries: &mut [u8], data: &[u8]) {
-    for (pair, &byte) in entries.chunks_exact_mut(2).zip(data) {
-        let (first, second) = nibbles(byte);
-        pair[0] = pair[0].wrapping_add(first as u8);
-        pair[1] = pair[1].wrapping_add(second as u8);
+    for (entries, data) in entries.chunks_mut(2 * BLOCK).zip(data.chunks(BLOCK)) {
+        add_bytes(entries, &unpacked(data));
     }
 }
 
@@ -232,9 +234,7 @@ mod tests {
     /// C60: high four bits first, numbers with a sign.
     #[test]
     fn numbers_of_a_byte() {
-        assert_eq!(nibbles(0x09), (0, -7));
-        assert_eq!(nibbles(0x78), (7, -8));
-        assert_eq!(nibbles(0x8F), (-8, -1));
+        assert_eq!(unpacked(&[0x09, 0x78, 0x8F])[..7], [0, -7, 7, -8, -8, -1, 0i8].map(|number| number as u8));
         let (_, part, answers) = after(&[&[0, 4, 0, 0, 0, 127], &[1, 1, 1, 0, 8, 0x82, 0xFF, 0, 0xFF]]);
         assert_eq!((part, answers), ([1, 126, 127, 126, 7, 7, 7, 7], vec![0, 0]));
     }
