@@ -137,7 +137,7 @@ enum Line<'a> {
 }
 
 fn field_line(line: &[u8]) -> Option<Line<'_>> {
-    if line.first().is_some_and(|&byte| blank(byte)) {
+    if line.first().map_or(false, |&byte| blank(byte)) {
         return Some(Line::More(without_blanks(line)));
     }
     let colon = line.iter().position(|&byte| byte == b':')?;

@@ -24,9 +24,9 @@ pub struct Header {
 /// Reads the header at the start of `bytes`, if so many are there.
 #[inline]
 pub fn read(bytes: &[u8]) -> Option<Header> {
-    let bytes: &[u8; BYTES] = bytes.first_chunk()?;
+    let bytes = bytes.get(..BYTES)?;
     let payload = u32::from_le_bytes([bytes[19], bytes[20], bytes[21], bytes[22]]);
-    let number = *bytes.first_chunk()?;
+    let number = bytes[..16].try_into().ok()?;
     Some(Header { number, kind: bytes[16], ttl: bytes[17], hops: bytes[18], payload })
 }
 

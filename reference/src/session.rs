@@ -14,8 +14,8 @@ const OWN: OwnPong = OwnPong { port: 6346, address: [127, 0, 0, 1], files: 0, ki
 const EVENT: usize = 6;
 
 fn number(bytes: &[u8], at: usize) -> Option<usize> {
-    let four = bytes.get(at..)?.first_chunk()?;
-    usize::try_from(u32::from_le_bytes(*four)).ok()
+    let four = bytes.get(at..at.checked_add(4)?)?;
+    usize::try_from(u32::from_le_bytes(four.try_into().ok()?)).ok()
 }
 
 /// The events of a file, or none if the file is not a session file.

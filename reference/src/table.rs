@@ -137,7 +137,7 @@ impl Table {
     /// Whether the entry for a keyword's product is Infinity or more than the TTL. The table is not empty.
     #[inline]
     pub fn far(&self, part: &[u8], ttl: u8, product: u32) -> bool {
-        let entry = part[hash::top(product, self.length.ilog2()) as usize];
+        let entry = part[hash::top(product, 31 - self.length.leading_zeros()) as usize];
         entry == self.infinity || entry > ttl
     }
 }

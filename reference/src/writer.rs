@@ -15,7 +15,7 @@ pub struct Entries<'a> {
 
 impl Entries<'_> {
     fn allowed(&self) -> bool {
-        u32::try_from(self.entries.len()).is_ok_and(length_allowed)
+        u32::try_from(self.entries.len()).map_or(false, length_allowed)
             && infinity_allowed(self.infinity)
             && self.entries.iter().fold(true, |all, &entry| all & (entry >= 1) & (entry <= self.infinity))
     }
@@ -42,7 +42,7 @@ pub fn write_table(old: Option<Entries>, new: Entries, number: &[u8; 16], size: 
     }
     let bits = if narrow(old, new) { 4 } else { 8 };
     let data = new.entries.len() * bits / 8;
-    let run = data.div_ceil(size);
+    let run = (data + size - 1) / size;
     if run > 255 {
         return refused(14);
     }

@@ -1,15 +1,18 @@
 //! The remembered queries, and the test that a state is in order.
 //!
 //! To find a number that is remembered twice in linear time, the test enters every kept number into an index by hash. The same index then
-//! serves the call that asked for the test. The hash has a random key, drawn once, so that no choice of numbers makes it slow.
+//! serves the call that asked for the test. The hash has a random key so that no choice of numbers makes it slow.
 
 use super::{Line, State, GONE, LINES, MEMORY};
 use std::collections::hash_map::RandomState;
-use std::hash::BuildHasher;
-use std::sync::OnceLock;
+use std::hash::{BuildHasher, Hasher};
 
 const SLOTS: usize = 2 * MEMORY;
 const FREE: u16 = u16::MAX;
+
+fn random() -> u64 {
+    RandomState::new().build_hasher().finish()
+}
 
 /// The kept places of the memory by the hash of their number, with linear probing.
 pub(super) struct Index {
@@ -19,12 +22,10 @@ pub(super) struct Index {
 
 impl Index {
     fn new() -> Index {
-        static KEY: OnceLock<(u64, u64)> = OnceLock::new();
-        let key = *KEY.get_or_init(|| {
-            let random = RandomState::new();
-            (random.hash_one(0), random.hash_one(1))
-        });
-        Index { slots: [FREE; SLOTS], key }
+        thread_local! {
+            static KEY: (u64, u64) = (random(), random());
+        }
+        Index { slots: [FREE; SLOTS], key: KEY.with(|key| *key) }
     }
 
     #[inline]

@@ -137,7 +137,7 @@ impl Line {
 
     fn in_order(&self, room: usize) -> bool {
         let ring = usize::from(self.pong_count) <= PONGS && usize::from(self.pong_next) < PONGS;
-        ring && (0..PONGS).all(|rank| self.pong(rank).is_none_or(|pong| pong.hops <= REACH))
+        ring && (0..PONGS).all(|rank| self.pong(rank).map_or(true, |pong| pong.hops <= REACH))
             && (self.open || (self.table.mark == table::NONE && self.pong_count == 0 && !self.pinged))
             && table_in_order(&self.table, room)
     }
@@ -242,19 +242,28 @@ impl State {
     /// Handles a message that arrived on a line.
     pub fn message(&mut self, line: usize, clock: u32, own: &OwnPong, bytes: &[u8], out: &mut [u8], route: &mut [u8]) -> Handled {
         let refused = |answer| Handled { answer, ..QUIET };
-        let Some(index) = self.index() else { return refused(1) };
+        let index = match self.index() {
+            Some(index) => index,
+            None => return refused(1),
+        };
         if !self.areas_fit(out, route) {
             return refused(2);
         }
         if line >= LINES || !self.lines[line].open {
             return refused(3);
         }
-        let Some(header) = header::read(bytes) else { return refused(4) };
+        let header = match header::read(bytes) {
+            Some(header) => header,
+            None => return refused(4),
+        };
         if header.payload > header::PAYLOAD as u32 {
             return refused(5);
         }
         let used = header::BYTES + header.payload as usize;
-        let Some(payload) = bytes.get(header::BYTES..used) else { return refused(4) };
+        let payload = match bytes.get(header::BYTES..used) {
+            Some(payload) => payload,
+            None => return refused(4),
+        };
         let done = match header.kind {
             PING => self.ping(line, clock, own, &header, out),
             PONG => self.pong(line, clock, &header, payload),
@@ -272,7 +281,10 @@ impl State {
     /// Sends a query of the station's own.
     pub fn own_query(&mut self, number: &[u8; 16], text: &[u8], out: &mut [u8], route: &[u8]) -> Handled {
         let refused = |answer| Handled { answer, ..QUIET };
-        let Some(index) = self.index() else { return refused(1) };
+        let index = match self.index() {
+            Some(index) => index,
+            None => return refused(1),
+        };
         if !self.areas_fit(out, route) {
             return refused(2);
         }
@@ -333,7 +345,7 @@ impl State {
     }
 
     fn pong(&mut self, line: usize, clock: u32, header: &Header, payload: &[u8]) -> Result<Handled, u8> {
-        let data = *payload.first_chunk().ok_or(6)?;
+        let data = payload.get(..PONG_BYTES).and_then(|data| data.try_into().ok()).ok_or(6)?;
         if header.ttl == 0 || header.hops > REACH {
             return Err(8);
         }
