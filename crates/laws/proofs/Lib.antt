@@ -1,0 +1,2 @@
+-- Facts on lists and numbers that several crates cite.
+pub mod Writing
