@@ -1,3 +1,4 @@
 -- Facts on lists and numbers that several crates cite.
 pub mod Bits
 pub mod Parts
+pub mod Writing
