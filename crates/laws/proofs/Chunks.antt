@@ -1,13 +1,13 @@
 -- Laws of tests, of facts that hold of each element, and of numbers and parts inside lists. Assumes nothing.
 use Prim.Native.Nat.{ℕ, zero, suc, _+_, _*_, _/_, _%_, _^_, _<_}
 use mathlib.Core.Path.{_≡_, refl, _∙_}
-use mathlib.Core.Bool.{Bool, true, false, cond, _&&_, _||_, false≢true}
+use mathlib.Core.Bool.{Bool, true, false, cond, not, _&&_, _||_, false≢true}
 use mathlib.Core.List.{List, [], _∷_, _++_}
 use native.Mathlib.Omega.{arith}
 use native.Mathlib.Nat.{div-lt-iff-lt-mul, div-add-mod, pow-suc, add-comm}
 use lib.Dec.{eqb, leb}
 use borrow.Author.Tests.{eqb-true, leb-true}
-use lib.ListN.{length, getD, take, drop}
+use lib.ListN.{length, getD, take, drop, replicate}
 use lib.Seq.{getD-append-add, take-append-add, drop-append-add}
 use Rattle.laws.specs.Tests.{firstOf, any, all}
 use Rattle.laws.specs.Bytes.{little, littleBytes}
@@ -23,6 +23,15 @@ and-first false b e = e
 pub and-second : (a b : Bool) → (a && b) ≡ true → b ≡ true
 and-second true b e = e
 and-second false b e = absurd (false≢true e)
+
+-- where the first of two tests holds and not both do
+pub guarded : (a b : Bool) → (a && b) ≡ false → a ≡ true → b ≡ false
+guarded true b e h = e
+guarded false b e h = absurd (false≢true h)
+
+pub implied : (a b : Bool) → (a ≡ true → b ≡ true) → (not a || b) ≡ true
+implied true b f = f refl
+implied false b f = refl
 
 module _ {A : Type 0} (P : A → Type 0) where
   pub cond-by : (b : Bool) (x y : A) → (b ≡ true → P x) → (b ≡ false → P y) → P (cond b x y)
@@ -42,6 +51,10 @@ module _ {A : Type 0} where
   pub each-by : (P Q : A → Type 0) → ((x : A) → P x → Q x) → (xs : List A) → Each P xs → Each Q xs
   each-by P Q f [] p = tt
   each-by P Q f (x ∷ xs) p = (f x (p .0), each-by P Q f xs (p .1))
+
+  pub each-replicate : (P : A → Type 0) (n : ℕ) (x : A) → P x → Each P (replicate n x)
+  each-replicate P zero x h = tt
+  each-replicate P (suc n) x h = (h, each-replicate P n x h)
 
   -- what a test says of each element where it holds of all
   pub each-all : (f : A → Bool) (P : A → Type 0) → ((x : A) → f x ≡ true → P x) → (xs : List A) → all f xs ≡ true → Each P xs

@@ -68,7 +68,7 @@ pub large-number : (bits v : ℕ) → half bits ≤ v → (gain bits v ≡ 0) ×
 large-number bits v h = let e : ltb v (half bits) ≡ false = le-ltb v (half bits) h in (rw e, rw e)
 
 -- twice the half
-twice-half : {bits : ℕ} → Width bits → (2 ^ bits ≡ half bits * 2) × (0 < half bits)
+pub twice-half : {bits : ℕ} → Width bits → (2 ^ bits ≡ half bits * 2) × (0 < half bits)
 twice-half four = (refl, omega arith)
 twice-half eight = (refl, omega arith)
 
