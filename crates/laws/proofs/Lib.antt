@@ -2,3 +2,4 @@
 pub mod Bits
 pub mod Parts
 pub mod Writing
+pub mod Chunks
