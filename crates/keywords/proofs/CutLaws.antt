@@ -169,9 +169,9 @@ cut-empty text = (keywords-none text, λ e. by e (decLe (suc (cutStart text)) (c
     by e (no h) = omega arith
 
 -- one step of a loop over the keywords, seen through any function of them
-keywords-step : {B : Type 0} (g : List (List ℕ) → B) (text : List ℕ)
+pub keywords-step : {B : Type 0} (g : List (List ℕ) → B) (text : List ℕ)
     → g (keywordsOf text) ≡ cond (ltb (cutStart text) (cutEnd text)) (g (map lower (keywordAt text) ∷ keywordsOf (textBehind text))) (g [])
-keywords-step {B} g text = by (decLe (suc (cutStart text)) (cutEnd text))
+keywords-step g text = by (decLe (suc (cutStart text)) (cutEnd text))
   where
     by : Dec (cutStart text < cutEnd text)
         → g (keywordsOf text) ≡ cond (ltb (cutStart text) (cutEnd text)) (g (map lower (keywordAt text) ∷ keywordsOf (textBehind text))) (g [])
