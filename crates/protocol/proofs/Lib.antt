@@ -1,1 +1,4 @@
+-- The session by computation, and the theorems over lists of calls.
 pub mod Session
+pub mod Updates
+pub mod Account
