@@ -2,3 +2,4 @@
 pub mod Session
 pub mod Updates
 pub mod Account
+pub mod Forwarding
