@@ -3,3 +3,7 @@ pub mod Session
 pub mod Updates
 pub mod Account
 pub mod Forwarding
+pub mod Outcomes
+pub mod InOrder
+pub mod Matching
+pub mod Demand3
