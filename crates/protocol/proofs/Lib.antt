@@ -5,5 +5,6 @@ pub mod Account
 pub mod Forwarding
 pub mod Outcomes
 pub mod InOrder
+pub mod Memory
 pub mod Matching
 pub mod Demand3

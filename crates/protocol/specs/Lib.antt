@@ -11,3 +11,4 @@ pub mod Runs
 pub mod Expected
 pub mod History
 pub mod Demand3
+pub mod Kept
