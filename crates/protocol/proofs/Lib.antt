@@ -6,5 +6,6 @@ pub mod Forwarding
 pub mod Outcomes
 pub mod InOrder
 pub mod Memory
+pub mod Kept
 pub mod Matching
 pub mod Demand3
