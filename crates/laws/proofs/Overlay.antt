@@ -8,7 +8,7 @@ use mathlib.Core.Bool.{Bool, true, false}
 use mathlib.Core.List.{List, [], _∷_, _++_, append-assoc}
 use lib.Dec.{ltb}
 use lib.ListN.{length, take, drop, length-append, length-take, length-drop, take-append-drop}
-use lib.Seq.{take-append-seam, take-append-le, drop-append-le, drop-append-add, drop-at, length-take-le, drop-drop, take-add}
+use lib.Seq.{take-append-seam, take-append-le, drop-append-le, drop-append-add, drop-at, length-take-le, drop-drop, take-all, take-take}
 use borrow.Author.Tests.{ltb-true, ltb-false}
 use Rattle.laws.specs.Parts.{over}
 
@@ -63,6 +63,17 @@ over-same from n area =
         go zero ys = refl
         go (suc k) [] = refl
         go (suc k) (y ∷ ys) = ap (_∷_ y) (go k ys)
+
+-- so does writing what stands at the front of a part
+pub over-front : (from n room : ℕ) (area : List ℕ) → over from (take n (take room (drop from area))) area ≡ area
+over-front from n room area = go (ltb room n) refl
+  where
+    go : (b : Bool) → ltb room n ≡ b → over from (take n (take room (drop from area))) area ≡ area
+    go true e =
+        let k : room < n = ltb-true room n e in
+        let long : length (take room (drop from area)) ≤ n = simp length-take (omega arith) in
+        ap (λ x. over from x area) (take-all n (take room (drop from area)) long) ∙ over-same from room area
+    go false e = ap (λ x. over from x area) (take-take n room (drop from area) (ltb-false room n e)) ∙ over-same from n area
 
 -- eight parts of `room` places: what is written at the front of one leaves the others
 pub over-apart : (L l room : ℕ) (bs area : List ℕ) → (L ≡ l → ⊥) → length bs ≤ room → l ≤ 7 → length area / 8 ≡ room

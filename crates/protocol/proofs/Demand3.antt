@@ -38,7 +38,7 @@ use Rattle.protocol.specs.Demand3.{GoesTo, OwnGoesTo, Agrees, AllAgree, 
 use Rattle.protocol.proofs.Updates.{Sound, sound-updated, updated-within, update-sent}
 use Rattle.protocol.proofs.Account.{Accounts, noHeld, account}
 use Rattle.protocol.proofs.Forwarding.{goes-iff, own-goes-iff}
-use Rattle.protocol.proofs.Outcomes.{of-pick, of-refused, eachLine-at, all-unsent, none-unsent, LetIn, let-in, early-unsent, asked-in}
+use Rattle.protocol.proofs.Outcomes.{other-type, of-pick, of-refused, eachLine-at, all-unsent, none-unsent, LetIn, let-in, early-unsent, asked-in}
 use Rattle.protocol.proofs.InOrder.{closed-mark}
 use Rattle.protocol.proofs.Matching.{Matches, LeftAlone, left-alone, untouched, line-set, other-line, same-line}
 
@@ -67,10 +67,6 @@ kept-lent (Other x) r = refl
 
 along : {a b : Bool} {P : Type 0} → a ≡ b → (b ≡ true) ↔ P → (a ≡ true) ↔ P
 along e f = ((λ p. f .0 (sym e ∙ p)), (λ p. e ∙ f .1 p))
-
--- a message of one type is of no other
-other-type : (m : List ℕ) (n k : ℕ) → eqb (kindOf m) n ≡ true → eqb n k ≡ false → eqb (kindOf m) k ≡ false
-other-type m n k e f = ap (λ x. eqb x k) (eqb-true (kindOf m) n e) ∙ f
 
 not-update : (L l : ℕ) (m : List ℕ) → eqb (kindOf m) routeUpdate ≡ false → isUpdateOf L l m ≡ false
 not-update L l m k = ap (λ b. eqb l L && b) k ∙ and-false (eqb l L)

@@ -7,5 +7,6 @@ pub mod Outcomes
 pub mod InOrder
 pub mod Memory
 pub mod Kept
+pub mod Refused
 pub mod Matching
 pub mod Demand3

@@ -11,7 +11,7 @@ use borrow.Author.Tests.{eqb-true, eqb-false, ltb-true, ltb-false, not-false, no
 use Rattle.laws.specs.Tests.{firstOf, all, any}
 use Rattle.laws.proofs.Refusals.{clash, or-fst, or-snd, no-refusal, NoRefusal, answer-in, refusal-in}
 use Rattle.laws.proofs.Rings.{map-getD}
-use Rattle.wire.specs.Header.{sizeOf}
+use Rattle.wire.specs.Header.{kindOf, sizeOf}
 use Rattle.protocol.specs.declared.Station.{Station}
 use Rattle.protocol.specs.Memory.{numberIn, seen}
 use Rattle.protocol.specs.Lines.{lineNumbers, lineAt}
@@ -96,3 +96,7 @@ pub asked-in : (s : Station) (number text : List ℕ) (out route : ℕ) → firs
 asked-in s number text out route e =
     let p : NoRefusal (ownRules s number text out route) = no-refusal (ownRules s number text out route) refl e in
     record { order = not-false (inOrder s) (p .0); room = same-room s out route (p .1 .0); unseen = p .1 .1 .1 .1 .0 }
+
+-- a message of one type is of no other
+pub other-type : (m : List ℕ) (n k : ℕ) → eqb (kindOf m) n ≡ true → eqb n k ≡ false → eqb (kindOf m) k ≡ false
+other-type m n k e f = ap (λ x. eqb x k) (eqb-true (kindOf m) n e) ∙ f

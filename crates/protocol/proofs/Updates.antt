@@ -9,7 +9,7 @@ use lib.Dec.{eqb, leb}
 use lib.ListN.{length, getD, take, drop, replicate, length-append, length-take, length-drop, length-replicate}
 use borrow.Author.Tests.{leb-true, eqb-true, eqb-false, not-false}
 use Rattle.laws.specs.Tests.{firstOf, every, any}
-use Rattle.laws.proofs.Refusals.{clash, of-choice, Each, each, NoRefusal, no-refusal, answer-in, and-rest, or-rest, or-right}
+use Rattle.laws.proofs.Refusals.{clash, of-choice, Each, each, NoRefusal, no-refusal, answer-in, refusal-in, and-rest, or-rest, or-right}
 use Rattle.tables.specs.declared.Table.{Table}
 use Rattle.tables.specs.Patch.{added}
 use Rattle.tables.specs.Tables.{Held, noTable, lengths, goodLength, goodInfinity, ready, running}
@@ -107,6 +107,12 @@ by-update P room h ttl hops p f g b = go (firstOf (updateRules room h ttl hops p
 pub update-sent : (room : ℕ) (h : Held) (ttl hops : ℕ) (p : List ℕ) → not (unsent (updateAnswer room h ttl hops p)) ≡ true
 unfolding updateAnswer
 update-sent room h ttl hops p = answer-in (λ n. not (unsent n)) (updateRules room h ttl hops p) refl refl
+
+-- and a refusal's is 14, 15 or 16
+pub update-range : (room : ℕ) (h : Held) (ttl hops : ℕ) (p : List ℕ) → (updateAnswer room h ttl hops p ≡ 0 → ⊥)
+    → (leb 14 (updateAnswer room h ttl hops p) && leb (updateAnswer room h ttl hops p) 16) ≡ true
+unfolding updateAnswer
+update-range room h ttl hops p n = refusal-in (λ k. leb 14 k && leb k 16) (updateRules room h ttl hops p) refl n
 
 -- lengths
 added-length : (bits : ℕ) (vs es : List ℕ) → length (added bits vs es) ≡ length es
