@@ -36,7 +36,6 @@ over-ahead from bs area b n h k = inside (bs ++ drop (from + length bs) area) �
 pub over-behind : (from : ℕ) (bs area : List ℕ) (b : ℕ) → from + length bs ≤ length area → from + length bs ≤ b
     → drop b (over from bs area) ≡ drop b area
 over-behind from bs area b h k =
-    let front : List ℕ = take from area ++ bs in
     let long : length (take from area ++ bs) ≡ from + length bs = simp (length-append, length-take) (omega arith) in
     let e : length (take from area ++ bs) + (b - (from + length bs)) ≡ b = omega (arith, long) in
     let f : from + length bs + (b - (from + length bs)) ≡ b = omega arith in

@@ -3,12 +3,12 @@
 use Prim.Native.Nat.{ℕ, zero, suc, _+_, _-_, _^_, _≤_, _<_}
 use native.Mathlib.Omega.{arith}
 use mathlib.Core.Path.{_≡_, refl, sym, ap, ap₂, _∙_, subst}
-use mathlib.Core.Bool.{Bool, true, false, cond, not, _&&_, _||_, and-false}
+use mathlib.Core.Bool.{Bool, true, false, cond, _&&_, and-false}
 use mathlib.Core.List.{List, [], _∷_, _++_, map}
 use lib.Dec.{eqb, ltb, leb}
 use lib.ListN.{length, getD, take, drop, length-drop, length-replicate, getD-replicate, List·getD-append}
 use lib.Seq.{getD-take, getD-drop, getD-append-add, length-take-le}
-use lib.IntN.{ℤ, pos, negℤ, _+ℤ_, +ℤ-assoc, +ℤ-idr, pos-+ℤ-pos, +ℤ-negℤ-cancel}
+use lib.IntN.{pos, negℤ, _+ℤ_, +ℤ-assoc, +ℤ-idr, pos-+ℤ-pos, +ℤ-negℤ-cancel}
 use borrow.Author.Tests.{ltb-true, ltb-false, leb-true, ne-eqb}
 use Rattle.laws.specs.Tests.{any, all}
 use Rattle.laws.proofs.Refusals.{clash, and-fst, and-snd}
@@ -18,10 +18,10 @@ use Rattle.tables.specs.Tables.{Held, noTable, ready, settled}
 use Rattle.tables.specs.Updates.{lengthIn, infinityIn, bitsIn, numbersIn, isPatch, isLast, inRange, updateAnswer, updated, resetBy, movedOn, patchBy, brokenBy}
 use Rattle.protocol.specs.Outcomes.{Outcome, unsent}
 use Rattle.protocol.specs.Runs.{Call, Open, Close, Message, Ask, Made}
-use Rattle.protocol.specs.Expected.{Expected, wiped, opens, closes, brings, asks, brought, isUpdateOf, expectedAnswer, feed, expected}
-use Rattle.protocol.specs.History.{Update, noted, updatesOf, accepted, isReset, finishes, sinceReset, atRest, speaks, covered, signed, gives, sumAt}
+use Rattle.protocol.specs.Expected.{Expected, wiped, opens, closes, brings, asks, brought, isUpdateOf, feed, expected}
+use Rattle.protocol.specs.History.{Update, noted, updatesOf, accepted, isReset, finishes, sinceReset, speaks, covered, signed, gives, sumAt}
 use Rattle.protocol.specs.Demand3.{Agrees, AllAgree}
-use Rattle.protocol.proofs.Updates.{Patches, Resets, by-update, patched-length}
+use Rattle.protocol.proofs.Updates.{Patches, by-update, patched-length}
 
 -- an entry moved by a raw number is the entry plus the signed number, where it does not fall below 0
 minus : (e d : ℕ) → d ≤ e → pos (e - d) ≡ pos e +ℤ negℤ (pos d)

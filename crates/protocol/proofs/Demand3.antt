@@ -1,40 +1,40 @@
 -- Demand 3, proved: the invariant holds at the start, each call keeps it, and so does every list of calls.
 -- Assumes nothing.
-use Prim.Native.Nat.{ℕ, zero, suc, _+_, _-_, _*_, _/_, _≤_, _<_, zero-le}
+use Prim.Native.Nat.{ℕ, _*_, _/_, _≤_, _<_, zero-le}
 use native.Mathlib.Omega.{arith}
 use native.Mathlib.Nat.{mul-le-mul-right}
 use mathlib.Core.Path.{_≡_, refl, sym, ap, ap₂, _∙_, subst}
-use mathlib.Core.Bool.{Bool, true, false, cond, not, _&&_, _||_, and-false}
+use mathlib.Core.Bool.{Bool, true, false, cond, not, _&&_, and-false}
 use mathlib.Core.Logic.{_↔_}
-use mathlib.Core.List.{List, [], _∷_, _++_}
-use lib.Dec.{eqb, leb, ltb}
-use lib.ListN.{length, getD, take, drop, set, length-set, length-take, length-drop}
+use mathlib.Core.List.{List, [], _∷_}
+use lib.Dec.{eqb, leb}
+use lib.ListN.{length, getD, take, drop, set, length-set, length-take}
 use lib.Seq.{take-take}
 use lib.IntN.{pos, _+ℤ_}
-use borrow.Author.Tests.{eqb-true, eqb-false, eq-eqb, ne-eqb, not-false, not-true}
-use Rattle.laws.specs.Tests.{firstOf, all, every}
+use borrow.Author.Tests.{eqb-true, eqb-false, eq-eqb, ne-eqb, not-true}
+use Rattle.laws.specs.Tests.{firstOf}
 use Rattle.laws.specs.Parts.{over}
-use Rattle.laws.proofs.Refusals.{clash, of-choice, and-fst, or-rest, each, all-getD, no-refusal}
+use Rattle.laws.proofs.Refusals.{clash, of-choice}
 use Rattle.laws.proofs.Overlay.{over-read, over-apart}
-use Rattle.wire.specs.Header.{kindOf, ttlOf, hopsOf, sizeOf, payloadOf, routeUpdate}
+use Rattle.wire.specs.Header.{kindOf, ttlOf, hopsOf, payloadOf, routeUpdate}
 use Rattle.tables.specs.declared.Table.{Table}
-use Rattle.tables.specs.Tables.{Held, none, settled, heldIn, noTable}
+use Rattle.tables.specs.Tables.{Held, settled, heldIn, noTable}
 use Rattle.tables.specs.Updates.{updateAnswer, updated}
 use Rattle.protocol.specs.declared.Own.{Own}
 use Rattle.protocol.specs.declared.Line.{Line}
 use Rattle.protocol.specs.declared.Station.{Station}
 use Rattle.protocol.specs.Memory.{remember}
 use Rattle.protocol.specs.Lines.{emptyLine, nowhere, lineAt, withLine, withTable, pingedAt, withPong, partOf, heldAt}
-use Rattle.protocol.specs.Order.{inOrder, lineInOrder, emptyWhenClosed}
-use Rattle.protocol.specs.Outcomes.{Outcome, quiet, refusedOr, unsent}
-use Rattle.protocol.specs.Queries.{usualLimit, queryType, passes, goesOn, queryRules, queryTaken, queryOutcome, ownTaken, textIn, lifeOf}
+use Rattle.protocol.specs.Order.{inOrder}
+use Rattle.protocol.specs.Outcomes.{Outcome, quiet, unsent}
+use Rattle.protocol.specs.Queries.{usualLimit, queryType, passes, goesOn, queryRules, queryTaken, queryOutcome, ownTaken, lifeOf}
 use Rattle.protocol.specs.Hits.{hitType, hitRules, hitFound, hitTaken, hitOutcome}
 use Rattle.protocol.specs.Pings.{pingType, pongType, isProbe, pingRules, pingTaken, pingOutcome, pongRules, arrivedPong, pongOutcome}
 use Rattle.protocol.specs.Calls.{openingRules, opening, closedState, closingRules, closing, early, updateOutcome, byType, arriving, ownRules, asking, messageOutcome, ownOutcome}
-use Rattle.protocol.specs.Runs.{Area, Same, Other, Call, Open, Close, Message, Ask, Made, World, lent, keptArea, outcomeOf, areaAfter, step, run, start, FairArea, FairCall, Fair}
+use Rattle.protocol.specs.Runs.{Area, Same, Other, Call, Open, Close, Message, Ask, World, lent, keptArea, outcomeOf, areaAfter, step, run, start, FairArea, FairCall, Fair}
 use Rattle.protocol.specs.Expected.{Expected, wiped, brings, asks, brought, isUpdateOf, expectedAnswer, hears, feed, expected}
 use Rattle.protocol.specs.History.{Update, updatesOf, sumAt}
-use Rattle.protocol.specs.Demand3.{GoesTo, OwnGoesTo, Agrees, AllAgree, entriesAt, Stands, Claimed, Demand3}
+use Rattle.protocol.specs.Demand3.{GoesTo, Agrees, AllAgree, entriesAt, Stands, Demand3}
 use Rattle.protocol.proofs.Updates.{Sound, sound-updated, updated-within, update-sent}
 use Rattle.protocol.proofs.Account.{Accounts, noHeld, account}
 use Rattle.protocol.proofs.Forwarding.{goes-iff, own-goes-iff}
@@ -43,7 +43,7 @@ use Rattle.protocol.proofs.InOrder.{closed-mark}
 use Rattle.protocol.proofs.Matching.{Matches, LeftAlone, left-alone, untouched, line-set, other-line, same-line}
 
 -- what a call has to leave where e was expected before it
-abbrev Good : ℕ → ℕ → Call → Expected → List ℕ → Outcome → Type 0
+abbrev pub Good : ℕ → ℕ → Call → Expected → List ℕ → Outcome → Type 0
 Good L room c e area o =
     Matches L room (feed L room (brought c) (unsent (o .answer)) e) (o .state) (areaAfter c area (o .route)) × Agrees L room e c o
 
@@ -114,7 +114,6 @@ module _ (L room : ℕ) (seven : L ≤ 7) (e : Expected) (s : Station) (area : L
     unfolding pongOutcome
     pong-good k =
         let v : isUpdateOf L l m ≡ false = not-update L l m (other-type m pongType routeUpdate k refl) in
-        let x : Line = withPong (lineAt s l) (arrivedPong clock m) in
         of-refused Goods (firstOf (pongRules m)) s area (quiet 0 (withLine s l (withPong (lineAt s l) (arrivedPong clock m))) area)
         (λ _. aside (quiet 0 (withLine s l (withPong (lineAt s l) (arrivedPong clock m))) area) refl v
         (same-line L s (withLine s l (withPong (lineAt s l) (arrivedPong clock m))) area l (withPong (lineAt s l) (arrivedPong clock m)) refl refl below refl refl)
@@ -313,13 +312,13 @@ module _ (L room : ℕ) (seven : L ≤ 7) (e : Expected) (s : Station) (area : L
 
 -- every call, and every list
 module _ (L room : ℕ) (seven : L ≤ 7) where
-  call-good : (c : Call) (e : Expected) (w : World) → Matches L room e (w .state) (w .area) → FairCall room c → Good L room c e (w .area) (outcomeOf w c)
+  pub call-good : (c : Call) (e : Expected) (w : World) → Matches L room e (w .state) (w .area) → FairCall room c → Good L room c e (w .area) (outcomeOf w c)
   call-good (Open l) e w q f = opening-good L room seven e (w .state) (w .area) q l
   call-good (Close l) e w q f = closing-good L room seven e (w .state) (w .area) q l
   call-good (Message l clock own m out a) e w q f = message-good L room seven e (w .state) (w .area) q l clock own m out a f
   call-good (Ask number text out a) e w q f = ask-good L room seven e (w .state) (w .area) q number text out a f
 
-  list-good : (cs : List Call) (w : World) → Fair room cs → AllAgree L room (w .log) → Matches L room (expected L room (w .log)) (w .state) (w .area)
+  pub list-good : (cs : List Call) (w : World) → Fair room cs → AllAgree L room (w .log) → Matches L room (expected L room (w .log)) (w .state) (w .area)
       → AllAgree L room (run w cs .log) × Matches L room (expected L room (run w cs .log)) (run w cs .state) (run w cs .area)
   list-good [] w f a q = (a, q)
   list-good (c ∷ cs) w f a q =
@@ -363,19 +362,23 @@ module _ (L room : ℕ) (e : Expected) (us : List Update) (s : Station) (area : 
             speaking = ap (λ k. eqb k settled) m ∙ t .speaking;
           }
 
-pub demand3 : Demand3
-demand3 s area L cs eight order seven closed fair =
-    let q : Matches L (s .room) (wiped false) s area
-    = record {
+-- the invariant holds at the start: the line is closed
+pub begins : (s : Station) (area : List ℕ) (L : ℕ) → length (s .lines) ≡ 8 → inOrder s ≡ true → L ≤ 7 → lineAt s L .live ≡ false
+    → Matches L (s .room) (wiped false) s area
+begins s area L eight order seven closed =
+    record {
       sameRoom = refl;
       eight = eight;
       live = sym closed;
       whileOpen = λ o. absurd (clash o closed);
       whileClosed = λ _. (refl, closed-mark s L order (omega arith) closed);
       sound = record { full = refl; within = zero-le; good = refl };
-    } in
+    }
+
+pub demand3 : Demand3
+demand3 s area L cs eight order seven closed fair =
     let w : World = run (start s area) cs in
-    let g = list-good L (s .room) seven cs (start s area) fair tt q in
+    let g = list-good L (s .room) seven cs (start s area) fair tt (begins s area L eight order seven closed) in
     record {
       room′ = g .1 .sameRoom;
       calls = g .0;

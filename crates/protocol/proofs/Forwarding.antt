@@ -1,6 +1,6 @@
 -- The tests by which a query goes on, and what they say in words: the place of a keyword, what a table withholds, the lines it goes to.
 -- Assumes nothing.
-use Prim.Native.Nat.{ℕ, zero, suc, _+_, _-_, _*_, _/_, _%_, _^_, _≤_, _<_, min}
+use Prim.Native.Nat.{ℕ, zero, suc, _+_, _-_, _*_, _/_, _^_, _≤_, _<_}
 use native.Mathlib.Nat.{mul-div-mul-right, mul-div-cancel, one-le-pow, pow-suc, mod-lt, div-eq-of-lt, mul-zero, zero-div}
 use native.Mathlib.Omega.{arith}
 use mathlib.Core.Path.{_≡_, refl, sym, ap, _∙_, subst}
@@ -13,10 +13,10 @@ use lib.ListN.{length, getD}
 use borrow.Author.Tests.{ltb-true, lt-ltb, leb-true, le-leb, lt-leb, eqb-true, eqb-false, eq-eqb, ne-eqb, not-true}
 use Rattle.laws.specs.Tests.{any, all}
 use Rattle.laws.proofs.Refusals.{clash, and-fst, and-snd, and-intro, or-split, or-left, or-right}
-use Rattle.wire.specs.Header.{ttlOf, hopsOf, payloadOf}
+use Rattle.wire.specs.Header.{payloadOf}
 use Rattle.keywords.specs.Keywords.{keywordsOf}
 use Rattle.keywords.specs.Hash.{hashOf, placeOf, scaled}
-use Rattle.tables.specs.Tables.{Held, settled, lengths}
+use Rattle.tables.specs.Tables.{settled, lengths}
 use Rattle.tables.specs.Admission.{far, entryOf, withholds}
 use Rattle.protocol.specs.Lines.{isOther}
 use Rattle.protocol.specs.Queries.{usualLimit, textIn, lifeOf, passes, goesOn}

@@ -1,19 +1,18 @@
 -- A state in order, fact by fact.
 -- Assumes nothing.
-use Prim.Native.Nat.{ℕ, zero, suc, _+_, _≤_, _<_}
-use mathlib.Core.Path.{_≡_, refl, sym, ap, _∙_}
-use mathlib.Core.Bool.{Bool, true, false, cond, not, _&&_, _||_}
+use Prim.Native.Nat.{ℕ, _<_}
+use mathlib.Core.Path.{_≡_}
+use mathlib.Core.Bool.{Bool, true, false, not, _&&_}
 use mathlib.Core.List.{List, [], _∷_}
 use lib.Dec.{eqb, leb, ltb}
-use lib.ListN.{length, getD}
+use lib.ListN.{length}
 use borrow.Author.Tests.{eqb-true}
-use Rattle.laws.specs.Tests.{every, all}
+use Rattle.laws.specs.Tests.{all}
 use Rattle.laws.proofs.Refusals.{and-fst, or-rest, each, every-of, all-getD}
 use Rattle.tables.specs.Tables.{none, tableInOrder}
-use Rattle.protocol.specs.declared.Pong.{Pong}
 use Rattle.protocol.specs.declared.Line.{Line}
 use Rattle.protocol.specs.declared.Station.{Station}
-use Rattle.protocol.specs.Memory.{capacity, Query, remembered, noTwice}
+use Rattle.protocol.specs.Memory.{capacity, remembered, noTwice}
 use Rattle.protocol.specs.Lines.{nowhere, lineAt, pongCapacity, storedPongs}
 use Rattle.protocol.specs.Order.{askerFits, emptyWhenClosed, lineInOrder, inOrder}
 

@@ -1,39 +1,37 @@
 -- A state in order stays in order, whatever the call and its answer.
 -- Assumes nothing.
-use Prim.Native.Nat.{ℕ, zero, suc, _+_, _-_, _*_, _/_, _%_, _≤_, _<_, min}
+use Prim.Native.Nat.{ℕ, zero, suc, _+_, _/_, _%_, _≤_, _<_, min}
 use native.Mathlib.Omega.{arith}
-use mathlib.Core.Path.{_≡_, refl, sym, ap, ap₂, _∙_, subst}
+use mathlib.Core.Path.{_≡_, refl, sym, ap, _∙_}
 use mathlib.Core.Bool.{Bool, true, false, cond, not, _&&_, _||_}
-use mathlib.Core.List.{List, [], _∷_, map}
+use mathlib.Core.List.{List, [], _∷_}
 use lib.Dec.{eqb, leb, ltb}
-use lib.ListN.{length, getD, set, take, drop, replicate, length-set, length-map, length-take, length-drop, getD-replicate}
-use lib.Seq.{getD-set-same, getD-set-other, set-out}
-use borrow.Author.Tests.{leb-true, le-leb, ltb-true, lt-ltb, ltb-false, eqb-true, eqb-false, eq-eqb, not-true, not-false}
-use Rattle.laws.specs.Tests.{firstOf, every, all, any}
+use lib.ListN.{length, getD, set, replicate, length-set, length-map, length-take, length-drop, getD-replicate}
+use lib.Seq.{getD-set-same, getD-set-other}
+use borrow.Author.Tests.{leb-true, le-leb, ltb-true, lt-ltb, ltb-false, eqb-true, eqb-false, eq-eqb, not-false}
+use Rattle.laws.specs.Tests.{firstOf, all, any}
 use Rattle.laws.specs.Ring.{keptPlaces}
-use Rattle.laws.proofs.Refusals.{clash, and-fst, and-snd, and-intro, or-fst, or-snd, or-rest, or-left, or-right, or-split, of-choice, Each, each, every-of, no-refusal, NoRefusal, all-getD, all-set, all-take, all-weaken, all-map}
-use Rattle.laws.proofs.Rings.{onward-below}
+use Rattle.laws.proofs.Refusals.{and-fst, and-snd, and-intro, or-fst, or-snd, or-rest, or-right, of-choice, Each, each, every-of, no-refusal, NoRefusal, all-getD, all-set, all-take, all-weaken, all-map}
 use Rattle.wire.specs.Header.{kindOf, ttlOf, hopsOf, sizeOf, payloadOf, routeUpdate}
 use Rattle.tables.specs.declared.Table.{Table}
-use Rattle.tables.specs.Tables.{Held, none, running, settled, broken, ready, goodLength, goodInfinity, insideRun, betweenRuns, withinLimits, tableInOrder}
-use Rattle.tables.specs.Updates.{lengthIn, infinityIn, placeIn, sizeIn, bitsIn, numbersIn, isLast, updated, resetBy, movedOn, patchBy, brokenBy}
-use Rattle.protocol.specs.declared.Pong.{Pong}
+use Rattle.tables.specs.Tables.{Held, running, settled, broken, ready, goodLength, goodInfinity, insideRun, betweenRuns, withinLimits, tableInOrder}
+use Rattle.tables.specs.Updates.{placeIn, sizeIn, bitsIn, numbersIn, isLast, updated, resetBy, movedOn, patchBy, brokenBy}
 use Rattle.protocol.specs.declared.Line.{Line}
 use Rattle.protocol.specs.declared.Station.{Station}
 use Rattle.protocol.specs.declared.Own.{Own}
-use Rattle.protocol.specs.Memory.{capacity, here, gone, numberIn, Number, sameNumber, Query, remembered, seen, remember, noTwice, left}
+use Rattle.protocol.specs.Memory.{capacity, here, gone, numberIn, Number, sameNumber, remembered, seen, remember, noTwice, left}
 use Rattle.protocol.specs.Lines.{lineCount, emptyLine, nowhere, lineAt, withLine, withTable, pingedAt, withPong, pongCapacity, storedPongs, heldAt}
-use Rattle.protocol.specs.Order.{askerFits, emptyWhenClosed, lineInOrder, inOrder}
-use Rattle.protocol.specs.Outcomes.{Outcome, quiet, refusedOr}
+use Rattle.protocol.specs.Order.{askerFits, lineInOrder, inOrder}
+use Rattle.protocol.specs.Outcomes.{quiet}
 use Rattle.protocol.specs.Queries.{usualLimit, queryType, queryRules, queryTaken, queryOutcome, ownTaken}
 use Rattle.protocol.specs.Hits.{hitType, hitRules, hitFound, hitTaken, hitOutcome}
 use Rattle.protocol.specs.Pings.{pingType, pongType, isProbe, pingRules, pingTaken, pingOutcome, pongRules, arrivedPong, pongOutcome}
 use Rattle.protocol.specs.Calls.{fresh, freshState, openingRules, opening, closedState, closingRules, closing, early, updateOutcome, byType, arriving, ownRules, asking, messageOutcome, ownOutcome}
-use Rattle.protocol.specs.Runs.{Call, Open, Close, Message, Ask, World, lent, outcomeOf, step, run}
-use Rattle.protocol.specs.Kept.{sizedLine, Sized, Kept, FreshFacts, FreshInOrder, KeptByCalls, OrderKept, OrderKeptByLists, asked, leftBy}
+use Rattle.protocol.specs.Runs.{Call, Open, Close, Message, Ask, lent, outcomeOf, step, run}
+use Rattle.protocol.specs.Kept.{sizedLine, Sized, Kept, FreshInOrder, OrderKept, OrderKeptByLists, asked, leftBy}
 use Rattle.protocol.proofs.Updates.{Resets, Patches, by-update}
-use Rattle.protocol.proofs.Outcomes.{of-pick, of-refused, LetIn, let-in, AskedIn, asked-in, is-open}
-use Rattle.protocol.proofs.InOrder.{StateFacts, LineFacts, state-facts, state-order, line-facts, line-order, facts-at}
+use Rattle.protocol.proofs.Outcomes.{of-pick, of-refused, LetIn, let-in, asked-in}
+use Rattle.protocol.proofs.InOrder.{StateFacts, LineFacts, state-facts, state-order, line-order, facts-at}
 use Rattle.protocol.proofs.Memory.{remembered-newest, remembered-left, stored-newest, seen-any, noTwice-take, noTwice-new, noTwice-left}
 
 -- a table stays in order
@@ -213,7 +211,6 @@ module _ (s : Station) (z : Sized s) (o : inOrder s ≡ true) (l : ℕ) (m route
   unfolding updateOutcome storedPongs
   kept-update =
       let long : length (heldAt s l route .entries) ≤ lineAt s l .table .length = simp length-take (omega arith) in
-      let t : Table = updated (s .room) (heldAt s l route) (ttlOf m) (hopsOf m) (payloadOf m) .table in
       kept-line s z o l (d .line) (withTable (lineAt s l) (updated (s .room) (heldAt s l route) (ttlOf m) (hopsOf m) (payloadOf m) .table)) (λ v. v)
       (record {
         empty = rw (d .live);

@@ -10,3 +10,4 @@ pub mod Kept
 pub mod Refused
 pub mod Matching
 pub mod Demand3
+pub mod Periods

@@ -1,25 +1,23 @@
 -- The remembered queries and the stored pongs as newest-first lists: one more goes in front, and closing a line marks its queries as gone.
 -- Assumes nothing.
-use Prim.Native.Nat.{ℕ, zero, suc, _+_, _≤_, _<_, min}
+use Prim.Native.Nat.{ℕ, zero, suc, _<_}
 use native.Mathlib.Omega.{arith}
 use mathlib.Core.Path.{_≡_, refl, sym, ap, ap₂, _∙_}
-use mathlib.Core.Bool.{Bool, true, false, cond, not, _&&_, _||_}
+use mathlib.Core.Bool.{Bool, true, false, not, _&&_, _||_}
 use mathlib.Core.List.{List, [], _∷_, map}
-use lib.Dec.{eqb, ltb}
-use lib.ListN.{length, getD, set, take}
+use lib.Dec.{ltb}
+use lib.ListN.{getD, take}
 use lib.Seq.{getD-set-same, getD-set-other}
-use borrow.Author.Tests.{ltb-true}
+use borrow.Author.Tests.{ltb-true, not-true}
 use Rattle.laws.specs.Tests.{any}
 use Rattle.laws.specs.Ring.{keptPlaces}
-use Rattle.laws.proofs.Refusals.{and-fst, and-snd, and-intro, any-take}
+use Rattle.laws.proofs.Refusals.{and-fst, and-snd, any-take}
 use Rattle.laws.proofs.Rings.{map-agree, map-map, map-getD, kept-below, ring-push}
-use Rattle.protocol.specs.declared.Pong.{Pong}
-use Rattle.protocol.specs.declared.Line.{Line}
 use Rattle.protocol.specs.declared.Station.{Station}
 use Rattle.protocol.specs.Memory.{capacity, Number, sameNumber, Query, queryAt, remembered, Found, Absent, At, later, pickFound, find, isFound, seen, remember, noTwice, left}
-use Rattle.protocol.specs.Lines.{pongCapacity, withPong, storedPongs}
+use Rattle.protocol.specs.Lines.{withPong, storedPongs}
 use Rattle.protocol.specs.Calls.{closedState}
-use Rattle.protocol.specs.Kept.{Sized, asked, leftBy, RemembersNewest, RemembersLeft, StoresNewest}
+use Rattle.protocol.specs.Kept.{asked, leftBy, RemembersNewest, RemembersLeft, StoresNewest}
 
 pub remembered-newest : RemembersNewest
 unfolding remembered remember
@@ -81,9 +79,8 @@ unfolding noTwice
 noTwice-take zero qs h = refl
 noTwice-take (suc k) [] h = refl
 noTwice-take (suc k) (q ∷ qs) h =
-    let t : Query → Bool = λ p. sameNumber (p .number) (q .number) in
     let a : any (λ p. sameNumber (p .number) (q .number)) qs ≡ false
-    = borrow.Author.Tests.not-true (any (λ p. sameNumber (p .number) (q .number)) qs) (and-fst (not (any (λ p. sameNumber (p .number) (q .number)) qs)) (noTwice qs) h) in
+    = not-true (any (λ p. sameNumber (p .number) (q .number)) qs) (and-fst (not (any (λ p. sameNumber (p .number) (q .number)) qs)) (noTwice qs) h) in
     rw (any-take (λ p. sameNumber (p .number) (q .number)) k qs a) (noTwice-take k qs (and-snd (not (any (λ p. sameNumber (p .number) (q .number)) qs)) (noTwice qs) h))
 
 pub noTwice-new : (n : Number) (who : ℕ) (qs : List Query) → any (λ q. sameNumber (q .number) n) qs ≡ false → noTwice qs ≡ true → noTwice (asked n who ∷ qs) ≡ true

@@ -1,15 +1,15 @@
 -- Cases of an outcome: refused or not, of one type or another; and what it says that a message or an own query was let in.
 -- Assumes nothing.
-use Prim.Native.Nat.{ℕ, zero, suc, _+_, _*_, _/_, _≤_, _<_}
+use Prim.Native.Nat.{ℕ, zero, suc, _+_, _/_, _≤_, _<_}
 use native.Mathlib.Omega.{arith}
-use mathlib.Core.Path.{_≡_, refl, sym, ap, _∙_, subst}
-use mathlib.Core.Bool.{Bool, true, false, cond, not, _&&_, _||_}
-use mathlib.Core.List.{List, [], _∷_}
-use lib.Dec.{eqb, leb, ltb}
+use mathlib.Core.Path.{_≡_, refl, ap, _∙_}
+use mathlib.Core.Bool.{Bool, true, false, not, _||_}
+use mathlib.Core.List.{List}
+use lib.Dec.{eqb, ltb}
 use lib.ListN.{length, getD}
 use borrow.Author.Tests.{eqb-true, eqb-false, ltb-true, ltb-false, not-false, not-true}
-use Rattle.laws.specs.Tests.{firstOf, all, any}
-use Rattle.laws.proofs.Refusals.{clash, or-fst, or-snd, no-refusal, NoRefusal, answer-in, refusal-in}
+use Rattle.laws.specs.Tests.{firstOf, all}
+use Rattle.laws.proofs.Refusals.{or-fst, or-snd, no-refusal, NoRefusal, answer-in, refusal-in}
 use Rattle.laws.proofs.Rings.{map-getD}
 use Rattle.wire.specs.Header.{kindOf, sizeOf}
 use Rattle.protocol.specs.declared.Station.{Station}
@@ -17,7 +17,7 @@ use Rattle.protocol.specs.Memory.{numberIn, seen}
 use Rattle.protocol.specs.Lines.{lineNumbers, lineAt}
 use Rattle.protocol.specs.Order.{inOrder}
 use Rattle.protocol.specs.Outcomes.{Outcome, quiet, pickOutcome, refusedOr, eachLine, unsent}
-use Rattle.protocol.specs.Calls.{notOpen, shortOutput, otherRoom, earlyRules, early, ownRules, openingRules, closingRules}
+use Rattle.protocol.specs.Calls.{notOpen, shortOutput, otherRoom, earlyRules, early, ownRules}
 
 module _ (P : Outcome → Type 0) where
   pub of-pick : (b : Bool) (x y : Outcome) → (b ≡ true → P x) → (b ≡ false → P y) → P (pickOutcome b x y)

@@ -1,30 +1,29 @@
 -- A refusal leaves what stands; a state out of order is answered 1.
 -- Assumes nothing.
-use Prim.Native.Nat.{ℕ, zero, suc, _+_, _*_, _≤_, _<_}
+use Prim.Native.Nat.{ℕ, _*_, _≤_}
 use native.Mathlib.Omega.{arith}
-use mathlib.Core.Path.{_≡_, refl, sym, ap, ap₂, _∙_, subst}
-use mathlib.Core.Bool.{Bool, true, false, cond, not, _&&_, _||_, and-false}
-use mathlib.Core.List.{List, [], _∷_}
-use lib.Dec.{eqb, leb, ltb}
-use lib.ListN.{length, take, drop}
-use borrow.Author.Tests.{leb-true, lt-leb, eqb-true}
+use mathlib.Core.Path.{_≡_, refl, sym, ap, _∙_}
+use mathlib.Core.Bool.{true, false, cond, _&&_, and-false}
+use mathlib.Core.List.{List, []}
+use lib.Dec.{eqb, leb}
+use lib.ListN.{length}
+use borrow.Author.Tests.{leb-true, lt-leb}
 use Rattle.laws.specs.Tests.{firstOf}
 use Rattle.laws.specs.Parts.{over}
-use Rattle.laws.proofs.Refusals.{clash, and-fst, and-snd, and-intro, answer-in}
+use Rattle.laws.proofs.Refusals.{and-snd, and-intro}
 use Rattle.laws.proofs.Overlay.{over-front}
 use Rattle.wire.specs.Header.{kindOf, ttlOf, hopsOf, payloadOf, routeUpdate}
-use Rattle.tables.specs.Tables.{Held, broken, marked}
-use Rattle.tables.specs.Updates.{updateAnswer, updated, brokenBy}
+use Rattle.tables.specs.Tables.{Held}
+use Rattle.tables.specs.Updates.{updateAnswer, brokenBy}
 use Rattle.protocol.specs.declared.Station.{Station}
 use Rattle.protocol.specs.declared.Own.{Own}
 use Rattle.protocol.specs.Lines.{emptyLine, lineAt, withLine, withTable, withPong, heldAt}
-use Rattle.protocol.specs.Order.{inOrder}
 use Rattle.protocol.specs.Outcomes.{Outcome, quiet, refusedOr, unsent}
 use Rattle.protocol.specs.Queries.{usualLimit, queryType, queryRules, queryTaken, queryOutcome, ownTaken}
 use Rattle.protocol.specs.Hits.{hitType, hitRules, hitFound, hitTaken, hitOutcome}
 use Rattle.protocol.specs.Pings.{pingType, pongType, pingRules, pingTaken, pingOutcome, pongRules, arrivedPong, pongOutcome}
-use Rattle.protocol.specs.Calls.{openingRules, opening, closedState, closingRules, closing, early, updateOutcome, byType, arriving, ownRules, asking, messageOutcome, ownOutcome}
-use Rattle.protocol.specs.Kept.{AnsweredOne, OutOfOrder, marksBroken, brokenAt, afterRefusal, RefusedQuietly, RefusalsLeave, RefusalFrame}
+use Rattle.protocol.specs.Calls.{openingRules, opening, closedState, closingRules, closing, early, updateOutcome, byType, arriving, ownRules, asking, messageOutcome}
+use Rattle.protocol.specs.Kept.{OutOfOrder, marksBroken, brokenAt, afterRefusal, RefusedQuietly, RefusalFrame}
 use Rattle.protocol.proofs.Updates.{by-update, update-range}
 use Rattle.protocol.proofs.Outcomes.{of-pick, of-refused, other-type, early-unsent}
 

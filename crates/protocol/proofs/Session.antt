@@ -2,9 +2,9 @@
 use Prim.Native.Nat.{ℕ}
 use native.Mathlib.Omega.{arith}
 use mathlib.Core.Path.{_≡_, refl}
-use mathlib.Core.Bool.{Bool, true, false}
-use mathlib.Core.List.{List, [], _∷_, _++_, map}
-use lib.ListN.{length, replicate, take, drop}
+use mathlib.Core.Bool.{true}
+use mathlib.Core.List.{List, [], _∷_, map}
+use lib.ListN.{replicate, take}
 use Rattle.laws.specs.Ring.{keptPlaces}
 use Rattle.wire.specs.Header.{message, routeUpdate}
 use Rattle.keywords.specs.Keywords.{keywordsOf, pieces, filled}
@@ -21,7 +21,7 @@ use Rattle.protocol.specs.Queries.{untilZero, queryOutcome}
 use Rattle.protocol.specs.Hits.{hitOutcome}
 use Rattle.protocol.specs.Pings.{walk, pingOutcome, pongOutcome}
 use Rattle.protocol.specs.Calls.{fresh, opening, closing, early, updateOutcome, byType, arriving, asking}
-use Rattle.protocol.specs.Runs.{Call, Open, Close, Message, Ask, Same, Other, Made, World, run, start}
+use Rattle.protocol.specs.Runs.{Call, Open, Close, Message, Ask, Same, Other, World, run, start}
 use Rattle.protocol.specs.Demand3.{Claimed}
 use Rattle.protocol.proofs.Kept.{fresh-in-order}
 use Rattle.protocol.proofs.Demand3.{demand3}

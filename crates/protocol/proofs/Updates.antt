@@ -1,18 +1,18 @@
 -- What an update leaves: its three cases, and that a table keeps as many entries as it is long, within its room.
 -- Assumes nothing.
-use Prim.Native.Nat.{ℕ, zero, suc, _+_, _-_, _≤_, _<_, min}
+use Prim.Native.Nat.{ℕ, suc, _+_, _≤_}
 use native.Mathlib.Omega.{arith}
 use mathlib.Core.Path.{_≡_, refl, sym, ap, _∙_, subst}
-use mathlib.Core.Bool.{Bool, true, false, cond, not, _&&_, _||_}
-use mathlib.Core.List.{List, [], _∷_, _++_}
+use mathlib.Core.Bool.{Bool, true, false, not, _&&_, _||_}
+use mathlib.Core.List.{List, [], _∷_}
 use lib.Dec.{eqb, leb}
-use lib.ListN.{length, getD, take, drop, replicate, length-append, length-take, length-drop, length-replicate}
+use lib.ListN.{length, getD, length-append, length-take, length-drop, length-replicate}
 use borrow.Author.Tests.{leb-true, eqb-true, eqb-false, not-false}
 use Rattle.laws.specs.Tests.{firstOf, every, any}
-use Rattle.laws.proofs.Refusals.{clash, of-choice, Each, each, NoRefusal, no-refusal, answer-in, refusal-in, and-rest, or-rest, or-right}
+use Rattle.laws.proofs.Refusals.{clash, of-choice, Each, each, NoRefusal, no-refusal, answer-in, refusal-in, and-rest, or-right}
 use Rattle.tables.specs.declared.Table.{Table}
 use Rattle.tables.specs.Patch.{added}
-use Rattle.tables.specs.Tables.{Held, noTable, lengths, goodLength, goodInfinity, ready, running}
+use Rattle.tables.specs.Tables.{Held, lengths, goodLength, goodInfinity, ready, running}
 use Rattle.tables.specs.Updates.{lengthIn, infinityIn, placeIn, sizeIn, bitsIn, numbersIn, isPatch, isLast, goodReset, goodPatch, inTurn, inRange, updateAnswer, updated, resetBy, movedOn, patchBy, brokenBy, pickHeld}
 use Rattle.protocol.specs.Outcomes.{unsent}
 

@@ -11,4 +11,5 @@ pub mod Runs
 pub mod Expected
 pub mod History
 pub mod Demand3
+pub mod Periods
 pub mod Kept
