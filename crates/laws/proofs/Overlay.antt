@@ -45,9 +45,6 @@ over-behind from bs area b h k =
     ∙ drop-drop (b - (from + length bs)) (from + length bs) area
     ∙ ap (λ x. drop x area) f
 
-pub over-length : (from : ℕ) (bs area : List ℕ) → from + length bs ≤ length area → length (over from bs area) ≡ length area
-over-length from bs area h = simp (length-append, length-take, length-drop) (omega arith)
-
 -- writing what stands there changes nothing
 pub over-same : (from n : ℕ) (area : List ℕ) → over from (take n (drop from area)) area ≡ area
 over-same from n area =
@@ -64,8 +61,8 @@ over-same from n area =
         go (suc k) (y ∷ ys) = ap (_∷_ y) (go k ys)
 
 -- so does writing what stands at the front of a part
-pub over-front : (from n room : ℕ) (area : List ℕ) → over from (take n (take room (drop from area))) area ≡ area
-over-front from n room area = go (ltb room n) refl
+pub over-same-front : (from n room : ℕ) (area : List ℕ) → over from (take n (take room (drop from area))) area ≡ area
+over-same-front from n room area = go (ltb room n) refl
   where
     go : (b : Bool) → ltb room n ≡ b → over from (take n (take room (drop from area))) area ≡ area
     go true e =

@@ -11,7 +11,7 @@ use borrow.Author.Tests.{leb-true, lt-leb}
 use Rattle.laws.specs.Tests.{firstOf}
 use Rattle.laws.specs.Parts.{over}
 use Rattle.laws.proofs.Refusals.{and-snd, and-intro}
-use Rattle.laws.proofs.Overlay.{over-front}
+use Rattle.laws.proofs.Overlay.{over-same-front}
 use Rattle.wire.specs.Header.{kindOf, ttlOf, hopsOf, payloadOf, routeUpdate}
 use Rattle.tables.specs.Tables.{Held}
 use Rattle.tables.specs.Updates.{updateAnswer, brokenBy}
@@ -69,7 +69,7 @@ module _ (s : Station) (l : ℕ) (m route : List ℕ) where
       (s .room) (heldAt s l route) (ttlOf m) (hopsOf m) (payloadOf m)
       (λ _ h. absurd (h refl))
       (λ _ h. absurd (h refl))
-      (λ n _ _. ap (quiet n (brokenAt s l)) (over-front (l * s .room) (lineAt s l .table .length) (s .room) route))
+      (λ n _ _. ap (quiet n (brokenAt s l)) (over-same-front (l * s .room) (lineAt s l .table .length) (s .room) route))
       ne
       ∙ ap (λ (x : Station). quiet n x route) (sym (ap (λ c. cond c (brokenAt s l) s) b))
 
