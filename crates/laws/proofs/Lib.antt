@@ -3,3 +3,7 @@ pub mod Bits
 pub mod Parts
 pub mod Writing
 pub mod Chunks
+-- Facts on lists and numbers that proofs of several crates cite.
+pub mod Refusals
+pub mod Overlay
+pub mod Rings
