@@ -1,1 +1,4 @@
+pub mod TestLaws
+pub mod NumberLaws
+pub mod FieldLaws
 pub mod Vectors

@@ -10,7 +10,7 @@ use Rattle.laws.specs.Bytes.{little}
 use Rattle.laws.specs.Parts.{over}
 use Rattle.tables.specs.declared.Table.{Table}
 use Rattle.tables.specs.declared.Updated.{Updated}
-use Rattle.tables.specs.Patch.{numbers, added, allFit}
+use Rattle.tables.specs.Patch.{goodBits, numbers, added, allFit}
 use Rattle.tables.specs.Tables.{Held, heldIn, marked, waiting, running, settled, broken, goodLength, goodInfinity, ready}
 
 -- RESET: 00, length (4 bytes), Infinity
@@ -57,7 +57,7 @@ goodPatch p =
     ∷ leb 1 (placeIn p)
     ∷ leb (placeIn p) (sizeIn p)
     ∷ eqb (getD p 3 0) 0
-    ∷ (eqb (bitsIn p) 4 || eqb (bitsIn p) 8)
+    ∷ goodBits (bitsIn p)
     ∷ [])
 
 -- a PATCH in turn: a table to add to, the place awaited, size and bits as the run's first, no data past the table's end, and none left over after the last
