@@ -1,4 +1,6 @@
 pub mod TestLaws
 pub mod NumberLaws
 pub mod FieldLaws
+pub mod TurnLaws
+pub mod UpdateLaws
 pub mod Vectors

@@ -181,3 +181,23 @@ testing-more bits infinity j vs es good fit h k e =
 pub testing-end : (bits infinity j : ℕ) (vs es : List ℕ) (good : Bool) → length vs ≤ j → (good && allFit bits infinity (drop j vs) (drop j es)) ≡ good
 unfolding allFit
 testing-end bits infinity j vs es good h = rw (drop-of-length-le vs h) (and-true good)
+
+pub added-length : (bits : ℕ) (vs es : List ℕ) → length (added bits vs es) ≡ length es
+unfolding added
+added-length bits [] es = refl
+added-length bits (v ∷ vs) [] = refl
+added-length bits (v ∷ vs) (e ∷ es) = ap suc (added-length bits vs es)
+
+-- numbers that fit below an Infinity fit below a larger one
+pub fit-wider : (bits low high : ℕ) (vs es : List ℕ) → low ≤ high → allFit bits low vs es ≡ true → allFit bits high vs es ≡ true
+unfolding allFit
+fit-wider bits low high [] es h a = refl
+fit-wider bits low high (v ∷ vs) [] h a = a
+fit-wider bits low high (v ∷ vs) (e ∷ es) h a =
+    let t = both-true (fits bits low v e) (allFit bits low vs es) a in
+    let f = fitting bits low v e (t .0) in
+    rw (
+      lt-ltb (loss bits v) (e + gain bits v) (f .low),
+      le-leb (e + gain bits v) (high + loss bits v) (omega arith),
+    )
+    (fit-wider bits low high vs es h (t .1))

@@ -6,7 +6,7 @@ use mathlib.Core.Bool.{Bool, true, false, _&&_, _||_, false≢true}
 use mathlib.Core.List.{List, [], _∷_}
 use lib.Dec.{eqb, leb}
 use borrow.Author.Tests.{le-leb, leb-true, eq-eqb, ne-eqb, eqb-true}
-use Rattle.laws.specs.Tests.{any}
+use Rattle.laws.specs.Tests.{any, every}
 
 pub either : (a b : Bool) → a || b ≡ true → (a ≡ true) ⊎ (b ≡ true)
 either true b e = inl refl
@@ -50,3 +50,12 @@ among-any n k (l ∷ ls) (inr e) = by (eqb n k) (among-any n l ls e)
 pub among-none : (n k : ℕ) (ls : List ℕ) → (Among n k ls → ⊥) → any (eqb n) (k ∷ ls) ≡ false
 among-none n k [] h = rw (ne-eqb n k h)
 among-none n k (l ∷ ls) h = rw (ne-eqb n k (λ e. h (inl e))) (among-none n l ls (λ a. h (inr a)))
+
+-- each of these tests holds
+abbrev pub Every : List Bool → Type 0
+Every [] = Unit
+Every (b ∷ bs) = (b ≡ true) × Every bs
+
+pub every-true : (bs : List Bool) → every bs ≡ true → Every bs
+every-true [] h = tt
+every-true (b ∷ bs) h = let t = both-true b (every bs) h in (t .0, every-true bs (t .1))

@@ -2,6 +2,8 @@
 // Nothing here knows of lines or neighbours.
 mod fields;
 mod numbers;
+mod turns;
+pub mod updates;
 
 // The marks of a table that takes a PATCH: RESET and no number yet, inside a run, and a whole run done.
 const WAITING: u8 = 1;
