@@ -1,2 +1,4 @@
--- Laws on lists and numbers that proofs of several crates cite.
+-- Facts on lists and numbers that several crates cite.
+pub mod Bits
 pub mod Over
+pub mod Parts
