@@ -3,4 +3,5 @@ pub mod NumberLaws
 pub mod FieldLaws
 pub mod TurnLaws
 pub mod UpdateLaws
+pub mod AdmissionLaws
 pub mod Vectors
