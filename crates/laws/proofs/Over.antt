@@ -29,6 +29,18 @@ over-own n l = rw zero-add (own n l)
 pub over-front : (bs l : List ℕ) → take (length bs) (over 0 bs l) ≡ bs
 over-front bs l = take-append-seam bs (drop (0 + length bs) l)
 
+-- the same where the list may be shorter than n, and so what was written
+pub over-front-of : (n : ℕ) (bs l : List ℕ) → length bs ≡ length (take n l) → take n (over 0 bs l) ≡ bs
+over-front-of n bs l h = rw zero-add (front n bs l h)
+  where
+  front : (n : ℕ) (bs l : List ℕ) → length bs ≡ length (take n l) → take n (bs ++ drop (length bs) l) ≡ bs
+  front zero [] l h = refl
+  front zero (b ∷ bs) l h = absurd (omega arith)
+  front (suc n) [] [] h = refl
+  front (suc n) [] (x ∷ l) h = absurd (omega arith)
+  front (suc n) (b ∷ bs) [] h = absurd (omega arith)
+  front (suc n) (b ∷ bs) (x ∷ l) h = let g : length bs ≡ length (take n l) = omega arith in ap (λ m. b ∷ m) (front n bs l g)
+
 -- the length stays where what is written is no longer than the list
 pub over-length : (from : ℕ) (bs l : List ℕ) → from + length bs ≤ length l → length (over from bs l) ≡ length l
 over-length from bs l h = simp (length-append, length-take, length-drop) (omega arith)

@@ -4,4 +4,5 @@ pub mod FieldLaws
 pub mod TurnLaws
 pub mod UpdateLaws
 pub mod AdmissionLaws
+pub mod KeepLaws
 pub mod Vectors

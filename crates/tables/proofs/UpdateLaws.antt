@@ -116,11 +116,11 @@ lent-fit t p part end e i r =
 
 -- an update is a RESET or a PATCH by itself, once its TTL and Hops are allowed
 module _ (room : ℕ) (h : Held) (p : List ℕ) where
-  no-reset : getD p 0 0 ≡ 1 → goodReset room p ≡ false
+  pub no-reset : getD p 0 0 ≡ 1 → goodReset room p ≡ false
   unfolding goodReset
   no-reset e = rw e (and-false (eqb (length p) 6))
 
-  no-patch : (getD p 0 0 ≡ 1 → ⊥) → goodPatch p ≡ false
+  pub no-patch : (getD p 0 0 ≡ 1 → ⊥) → goodPatch p ≡ false
   unfolding goodPatch
   no-patch e = rw (ne-eqb (getD p 0 0) 1 e) (and-false (leb 5 (length p)))
 
