@@ -3,4 +3,7 @@ pub mod Differences
 pub mod Parts
 pub mod Whole
 pub mod Run
+pub mod Accepted
 pub mod RoundTrip
+pub mod WriterFacts
+pub mod Octets

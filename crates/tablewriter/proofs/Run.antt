@@ -1,21 +1,19 @@
 -- Reading a RESET, and a run over its parts: each message is answered 0, and after the last the table is settled with every number of the run
 -- added. Assumes nothing.
-use Prim.Native.Nat.{ℕ, zero, suc, _+_, _-_, _*_, _^_, _≤_, _<_}
-use mathlib.Core.Path.{_≡_, refl, sym, ap, _∙_}
-use mathlib.Core.Bool.{Bool, true, false, cond, not, _&&_, _||_, or-true, and-false}
-use mathlib.Core.List.{List, [], _∷_, _++_, map, append-assoc, append-nil}
+use Prim.Native.Nat.{ℕ, suc, _+_, _^_, _≤_, _<_}
+use mathlib.Core.Path.{_≡_, refl, sym, _∙_}
+use mathlib.Core.Bool.{true, false, not, _&&_, _||_, or-true, and-false}
+use mathlib.Core.List.{List, [], _∷_, _++_, append-nil}
 use native.Mathlib.Omega.{arith}
 use native.Mathlib.Numerals.{add-one}
-use lib.Dec.{eqb, leb, ltb}
+use lib.Dec.{eqb}
 use borrow.Author.Tests.{le-leb, eqb-true, eq-eqb, ne-eqb}
-use lib.ListN.{length, getD, take, drop, replicate, length-append}
-use Rattle.laws.specs.Tests.{firstOf, every}
-use Rattle.laws.specs.Bytes.{little, littleBytes}
+use lib.ListN.{length, replicate, length-append}
 use Rattle.laws.proofs.Chunks.{Each, implied, and-both, and-first, and-second, little-back}
 use Rattle.tables.specs.declared.Table.{Table}
-use Rattle.tables.specs.Patch.{numbers, added, allFit}
-use Rattle.tables.specs.Tables.{Held, waiting, running, settled, ready, goodLength, goodInfinity}
-use Rattle.tables.specs.Updates.{goodReset, goodPatch, inTurn, inRange, isPatch, isLast, updateAnswer, updated, resetBy, movedOn, patchBy}
+use Rattle.tables.specs.Patch.{numbers}
+use Rattle.tables.specs.Tables.{Held, waiting, running, ready, goodLength, goodInfinity}
+use Rattle.tables.specs.Updates.{goodReset, goodPatch, inTurn, inRange, isPatch, updateAnswer, updated, resetBy, movedOn, patchBy}
 use Rattle.tables.proofs.PatchFacts.{Width, four, eight, numbers-append, addedAt, fitAt, addedAt-length, added-twice, fit-twice}
 use Rattle.tablewriter.specs.Writer.{update, resetPayload, patchPayload, runFrom, joined}
 use Rattle.tablewriter.specs.RoundTrip.{answerTo, after, answersTo, afterAll, settledTable, ReadAs, runPayloads}
