@@ -1,16 +1,15 @@
 -- Laws of tests, of facts that hold of each element, and of numbers and parts inside lists. Assumes nothing.
-use Prim.Native.Nat.{ℕ, zero, suc, _+_, _*_, _/_, _%_, _^_, _<_}
-use mathlib.Core.Path.{_≡_, refl, _∙_}
+use Prim.Native.Nat.{ℕ, zero, suc, _+_, _/_, _<_}
+use mathlib.Core.Path.{_≡_, refl}
 use mathlib.Core.Bool.{Bool, true, false, not, _&&_, _||_, false≢true}
 use mathlib.Core.List.{List, [], _∷_, _++_}
 use native.Mathlib.Omega.{arith}
-use native.Mathlib.Nat.{div-lt-iff-lt-mul, div-add-mod, pow-suc, add-comm}
 use lib.Dec.{eqb}
 use borrow.Author.Tests.{eqb-true}
-use lib.ListN.{length, getD, take, drop, replicate}
-use lib.Seq.{getD-append-add, take-append-add, drop-append-add}
+use lib.ListN.{length, take, drop, replicate}
+use lib.Seq.{take-append-add, drop-append-add}
 use Rattle.laws.specs.Tests.{any, all}
-use Rattle.laws.specs.Bytes.{little, littleBytes}
+use Rattle.laws.specs.Bytes.{littleBytes}
 
 -- tests joined by `and`
 pub and-both : {a b : Bool} → a ≡ true → b ≡ true → (a && b) ≡ true
@@ -77,24 +76,13 @@ one-of f n (m ∷ ns) a e = go (eqb n m) refl (one-of f n ns (and-second (f m) (
 
 -- what stands past a front of n elements
 module _ {A : Type 0} (p q : List A) (n : ℕ) (long : length p ≡ n) (k : ℕ) where
-  pub getD-past : (d : A) → getD (p ++ q) (n + k) d ≡ getD q k d
-  getD-past d = rw (← long) (getD-append-add p q k d)
-
   pub take-past : take (n + k) (p ++ q) ≡ p ++ take k q
   take-past = rw (← long) (take-append-add p q k)
 
   pub drop-past : drop (n + k) (p ++ q) ≡ drop k q
   drop-past = rw (← long) (drop-append-add p q k)
 
--- a number that k bytes hold is read back from them
-pub little-back : (k n : ℕ) → n < 256 ^ k → little (littleBytes k n) ≡ n
-little-back zero n h = let e : n < 1 = h in omega arith
-little-back (suc k) n h =
-    let e : n < 256 ^ k * 256 = rw pow-suc at h in
-    let below : n / 256 < 256 ^ k = div-lt-iff-lt-mul {k = 256} (omega arith) .1 e in
-    rw (little-back k (n / 256) below) (add-comm (n % 256) (256 * (n / 256)) ∙ div-add-mod n 256)
-
--- and they are bytes
+-- a number written as bytes is bytes
 pub little-bytes : (k n : ℕ) → Each (λ b. b < 256) (littleBytes k n)
 little-bytes zero n = tt
 little-bytes (suc k) n = (omega arith, little-bytes k (n / 256))

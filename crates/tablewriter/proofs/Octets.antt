@@ -6,8 +6,10 @@ use mathlib.Core.List.{List, [], _∷_, _++_}
 use native.Mathlib.Omega.{arith}
 use lib.Dec.{eqb}
 use borrow.Author.Tests.{eqb-true}
-use lib.ListN.{length, drop, length-append, length-drop}
+use lib.ListN.{length, drop}
 use Rattle.laws.specs.Bytes.{littleBytes}
+use Rattle.laws.specs.Parts.{over}
+use Rattle.laws.proofs.Writing.{kept-length}
 use Rattle.laws.proofs.Chunks.{Each, each-append, each-take, each-drop, little-bytes}
 use Rattle.wire.specs.Header.{message, routeUpdate}
 use Rattle.tables.proofs.PatchFacts.{Width, four, eight, Below, packed-bytes}
@@ -108,16 +110,16 @@ written-bytes number bytes had old oldInfinity new infinity size outLength e =
 module _ (number : List ℕ) (had : Bool) (old : List ℕ) (oldInfinity : ℕ) (new : List ℕ) (infinity size : ℕ) (out : List ℕ) where
   pub out-length : length (writerOut number had old oldInfinity new infinity size out) ≡ length out
   unfolding writerOut writerBytes
-  out-length = go (eqb (writerAnswer number had old oldInfinity new infinity size (length out)) 0) refl
+  out-length = go (eqb answer 0) refl
     where
+      answer : ℕ
+      answer = writerAnswer number had old oldInfinity new infinity size (length out)
+
       bytes : List ℕ
       bytes = joined (messagesOf number had old new infinity size)
 
-      go : (t : Bool) → eqb (writerAnswer number had old oldInfinity new infinity size (length out)) 0 ≡ t
-          → length (cond t bytes [] ++ drop (0 + length (cond t bytes [])) out) ≡ length out
+      go : (t : Bool) → eqb answer 0 ≡ t → length (over 0 (cond t bytes []) out) ≡ length out
       go true q =
-          let e : writerAnswer number had old oldInfinity new infinity size (length out) ≡ 0
-          = eqb-true (writerAnswer number had old oldInfinity new infinity size (length out)) 0 q in
-          let room : length bytes ≤ length out = room-passed number had old oldInfinity new infinity size (length out) e in
-          rw (length-append bytes (drop (0 + length bytes) out), length-drop (0 + length bytes) out) (omega arith)
+          let room : length bytes ≤ length out = room-passed number had old oldInfinity new infinity size (length out) (eqb-true answer 0 q) in
+          kept-length 0 bytes out (omega arith)
       go false q = refl

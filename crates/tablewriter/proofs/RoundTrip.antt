@@ -16,7 +16,7 @@ use Rattle.tablewriter.specs.RoundTrip.{RoundTrip, BytesRoundTrip, ReadA
 use Rattle.tablewriter.proofs.Differences.{AllReach, raws-length, raws-added, raws-fit}
 use Rattle.tablewriter.proofs.Parts.{parts-joined}
 use Rattle.tablewriter.proofs.Whole.{Short, all-whole, payloads-short}
-use Rattle.tablewriter.proofs.Run.{Awaits, RunFits, settledTo, resetTo, reset-taken, run-read, read-more}
+use Rattle.tablewriter.proofs.Reading.{Awaits, RunFits, settledTo, resetTo, reset-taken, run-read, read-more}
 use Rattle.tablewriter.proofs.Accepted.{good-length, Accepted, accepted, Based, based, reach, data-numbers}
 
 -- what is held before the run, the table that differences are taken from

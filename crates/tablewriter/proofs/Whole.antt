@@ -1,16 +1,16 @@
 -- Every message of the writer is whole: type, TTL, Hops and payload are read back from its bytes, and its length is its header's and the
 -- payload length that the header says. So messages that stand one after another are told apart. Assumes nothing.
-use Prim.Native.Nat.{ℕ, zero, suc, _+_, _^_, _≤_, _<_}
+use Prim.Native.Nat.{ℕ, zero, suc, _+_, _≤_, _<_}
 use mathlib.Core.Path.{_≡_, refl, sym, ap}
 use mathlib.Core.Bool.{Bool, true, false}
-use mathlib.Core.List.{List, [], _∷_, _++_, map, append-assoc}
+use mathlib.Core.List.{List, [], _∷_, _++_, map}
 use native.Mathlib.Omega.{arith}
 use native.Mathlib.Nat.{le-refl}
-use lib.ListN.{length, getD, take, drop, length-append}
-use lib.Seq.{take-length, take-append-seam, drop-append-seam}
-use Rattle.laws.specs.Bytes.{littleBytes}
-use Rattle.laws.proofs.Chunks.{Each, getD-past, drop-past, little-back}
-use Rattle.wire.specs.Header.{kindOf, ttlOf, hopsOf, sizeOf, payloadOf, routeUpdate, message}
+use lib.ListN.{length, take, drop, length-append, length-drop}
+use lib.Seq.{take-append-le, drop-append-le, take-append-seam, drop-append-seam}
+use Rattle.laws.proofs.Chunks.{Each}
+use Rattle.wire.proofs.HeaderLaws.{message-length, message-kind, message-ttl, message-hops, message-size, message-payload}
+use Rattle.wire.specs.Header.{kindOf, ttlOf, hopsOf, sizeOf, payloadOf, routeUpdate}
 use Rattle.tablewriter.specs.Writer.{baseOf, update, resetPayload, patchPayload, bitsFor, dataOf, partsOf, runFrom, messagesOf, joined}
 use Rattle.tablewriter.specs.RoundTrip.{messagesFrom, messagesIn, runPayloads, payloadsOf}
 use Rattle.tablewriter.proofs.Parts.{part-sizes}
@@ -26,59 +26,37 @@ pub record Whole (payload m : List ℕ) : Type 0 where
 
 -- a payload whose length four bytes hold
 abbrev pub Short : List ℕ → Type 0
-Short payload = length payload < 256 ^ 4
+Short payload = length payload < 4294967296
 
--- bytes that begin with a header
-abbrev begun : List ℕ → ℕ → ℕ → ℕ → ℕ → List ℕ → List ℕ
-begun number kind ttl hops n rest = number ++ (kind ∷ ttl ∷ hops ∷ (littleBytes 4 n ++ rest))
+-- the payload length in a header, where other bytes follow the message
+size-before : (m more : List ℕ) → 23 ≤ length m → sizeOf (m ++ more) ≡ sizeOf m
+size-before m more h =
+    let past : 19 ≤ length m = omega arith in
+    let four : 4 ≤ length (drop 19 m) = rw (length-drop 19 m) (omega arith) in
+    rw (drop-append-le 19 m more past, take-append-le 4 (drop 19 m) more four)
 
 module _ (number : List ℕ) (sixteen : length number ≡ 16) where
-  module _ (kind ttl hops n : ℕ) (rest : List ℕ) where
-    begun-size : n < 256 ^ 4 → sizeOf (begun number kind ttl hops n rest) ≡ n
-    begun-size h = rw (drop-past number (kind ∷ ttl ∷ hops ∷ (littleBytes 4 n ++ rest)) 16 sixteen 3) (little-back 4 n h)
-
-    begun-rest : drop 23 (begun number kind ttl hops n rest) ≡ rest
-    begun-rest = drop-past number (kind ∷ ttl ∷ hops ∷ (littleBytes 4 n ++ rest)) 16 sixteen 7
-
-    begun-field : (k : ℕ) → getD (begun number kind ttl hops n rest) (16 + k) 0 ≡ getD (kind ∷ ttl ∷ hops ∷ (littleBytes 4 n ++ rest)) k 0
-    begun-field k = getD-past number (kind ∷ ttl ∷ hops ∷ (littleBytes 4 n ++ rest)) 16 sixteen k 0
-
-    begun-length : length (begun number kind ttl hops n rest) ≡ 23 + length rest
-    begun-length = rw (length-append number (kind ∷ ttl ∷ hops ∷ (littleBytes 4 n ++ rest)), sixteen) (omega arith)
-
   module _ (payload : List ℕ) (short : Short payload) where
-    laid : update number payload ≡ begun number routeUpdate 1 0 (length payload) payload
-    unfolding message
-    laid = simp append-assoc
-
-    laid-before : (more : List ℕ) → update number payload ++ more ≡ begun number routeUpdate 1 0 (length payload) (payload ++ more)
-    unfolding message
-    laid-before more = simp append-assoc
-
-    whole-size : sizeOf (update number payload) ≡ length payload
-    whole-size = rw laid (begun-size routeUpdate 1 0 (length payload) payload short)
-
-    whole-rest : drop 23 (update number payload) ≡ payload
-    whole-rest = rw laid (begun-rest routeUpdate 1 0 (length payload) payload)
-
     whole-length : length (update number payload) ≡ 23 + length payload
-    whole-length = rw laid (begun-length routeUpdate 1 0 (length payload) payload)
+    whole-length = message-length number routeUpdate 1 0 payload sixteen
 
     pub whole : Whole payload (update number payload)
     whole =
+        let size : sizeOf (update number payload) ≡ length payload = message-size number routeUpdate 1 0 payload sixteen short in
         record {
-          kind = rw laid (begun-field routeUpdate 1 0 (length payload) payload 0);
-          ttl = rw laid (begun-field routeUpdate 1 0 (length payload) payload 1);
-          hops = rw laid (begun-field routeUpdate 1 0 (length payload) payload 2);
-          size = whole-size;
-          content = rw (whole-size, whole-rest) (take-length payload);
-          long = rw whole-size whole-length;
+          kind = message-kind number routeUpdate 1 0 payload sixteen;
+          ttl = message-ttl number routeUpdate 1 0 payload sixteen;
+          hops = message-hops number routeUpdate 1 0 payload sixteen;
+          size = size;
+          content = message-payload number routeUpdate 1 0 payload sixteen short;
+          long = rw size whole-length;
         }
 
-    -- where other bytes follow: how far the message reaches
+    -- how far it reaches, where other bytes follow
     extent : (more : List ℕ) → 23 + sizeOf (update number payload ++ more) ≡ length (update number payload)
     extent more =
-        rw (laid-before more, begun-size routeUpdate 1 0 (length payload) (payload ++ more) short) (sym whole-length)
+        let header : 23 ≤ length (update number payload) = rw whole-length (omega arith) in
+        rw (size-before (update number payload) more header) (sym (whole .long))
 
     some-bytes : (more : List ℕ) → 1 ≤ length (update number payload ++ more)
     some-bytes more = rw (length-append (update number payload) more, whole-length) (omega arith)

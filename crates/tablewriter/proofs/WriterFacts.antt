@@ -14,7 +14,7 @@ use Rattle.tables.specs.Patch.{numberCount, packed}
 use Rattle.tables.proofs.PatchFacts.{count}
 use Rattle.tablewriter.specs.Writer.{near, allNear, bitsFor, raw, raws, baseOf, dataOf, partsOf, runFrom, messagesOf}
 use Rattle.tablewriter.proofs.Differences.{raws-length}
-use Rattle.tablewriter.proofs.Parts.{parts-count}
+use Rattle.tablewriter.proofs.PartFacts.{parts-count}
 use Rattle.tablewriter.proofs.Accepted.{Based, reach, data-numbers}
 
 -- each difference of two tables is in -8..7
