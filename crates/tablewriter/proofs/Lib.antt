@@ -2,5 +2,9 @@ pub mod Vectors
 pub mod Differences
 pub mod Parts
 pub mod Whole
-pub mod Run
+pub mod Reading
+pub mod Accepted
 pub mod RoundTrip
+pub mod PartFacts
+pub mod WriterFacts
+pub mod Octets
