@@ -13,8 +13,8 @@ use Rattle.laws.specs.Parts.{over}
 use Rattle.laws.proofs.Over.{over-own, over-front-of, over-length}
 use Rattle.tables.specs.declared.Table.{Table}
 use Rattle.tables.specs.Patch.{goodBits, gain, loss, sumOf, fits, numbers, added, allFit}
-use Rattle.tables.specs.Tables.{Held, heldIn, marked, broken, running, settled, ready, goodLength, goodInfinity, insideRun, betweenRuns, withinLimits, tableInOrder, inBounds, entriesInBounds}
-use Rattle.tables.specs.Updates.{lengthIn, infinityIn, placeIn, sizeIn, bitsIn, numbersIn, isLast, isPatch, resetTests, turnTests, goodReset, goodPatch, inTurn, inRange, resetBy, patchBy, movedOn, updateAnswer, updated, brokenBy, pickHeld, partWith}
+use Rattle.tables.specs.Tables.{Held, heldIn, atRest, marked, broken, running, settled, ready, goodLength, goodInfinity, insideRun, betweenRuns, withinLimits, tableInOrder, inBounds, entriesInBounds}
+use Rattle.tables.specs.Updates.{lengthIn, infinityIn, placeIn, sizeIn, bitsIn, numbersIn, isLast, isPatch, resetTests, turnTests, goodReset, goodPatch, inTurn, inRange, resetBy, patchBy, onward, movedOn, updateAnswer, updated, brokenBy, pickHeld, partWith}
 use Rattle.tables.proofs.TestLaws.{both-true, every-true}
 use Rattle.tables.proofs.NumberLaws.{added-length, fitting}
 use Rattle.tables.proofs.TurnLaws.{PatchFields, patch-fields, turn-within}
@@ -183,21 +183,17 @@ module _ (room : ℕ) (t : Table) (part : List ℕ) (ttl hops : ℕ) (p : List �
 
 -- ---- what stands in the part after an update is what the update made
 
-moved-length : (t : Table) (p : List ℕ) → movedOn t p .length ≡ t .length
+-- what neither end of a PATCH changes in a table stays
+moved-keeps : (f : Table → ℕ) (t : Table) (p : List ℕ)
+    → f (atRest settled (t .length) (t .infinity)) ≡ f t
+    → f (onward t p) ≡ f t
+    → f (movedOn t p) ≡ f t
 unfolding movedOn
-moved-length t p = by (isLast p) refl
+moved-keeps f t p a b = by (isLast p)
   where
-  by : (z : Bool) → isLast p ≡ z → movedOn t p .length ≡ t .length
-  by true e = rw e
-  by false e = rw e
-
-moved-infinity : (t : Table) (p : List ℕ) → movedOn t p .infinity ≡ t .infinity
-unfolding movedOn
-moved-infinity t p = by (isLast p) refl
-  where
-  by : (z : Bool) → isLast p ≡ z → movedOn t p .infinity ≡ t .infinity
-  by true e = rw e
-  by false e = rw e
+  by : (z : Bool) → f (cond z (atRest settled (t .length) (t .infinity)) (onward t p)) ≡ f t
+  by true = a
+  by false = b
 
 -- a PATCH leaves as many entries as there were
 pub patched-length : (h : Held) (p : List ℕ) → inTurn h p ≡ true → length (patchBy h p .entries) ≡ length (h .entries)
@@ -226,7 +222,7 @@ module _ (t : Table) (part : List ℕ) (ttl hops : ℕ) (p : List ℕ) where
   unfolding patchBy
   after-patched u =
       rw
-      (moved-length t p,
+      (moved-keeps (λ u. u .length) t p refl refl,
       over-front-of (t .length) (patchBy (heldIn t part) p .entries) part (patched-length (heldIn t part) p u))
 
   pub held-after : heldIn (after .table) (partWith after part) ≡ after
@@ -292,7 +288,7 @@ module _ (room : ℕ) (h : Held) (ttl hops : ℕ) (p : List ℕ) where
       let s = all-append (inBounds i) (take (h .table .at) (h .entries)) (added (bitsIn p) (numbersIn p) (drop (h .table .at) (h .entries)))
         (all-take (inBounds i) (h .table .at) (h .entries) a)
         (added-bounds (bitsIn p) i (numbersIn p) (drop (h .table .at) (h .entries)) r (all-drop (inBounds i) (h .table .at) (h .entries) a)) in
-      rw (moved-infinity (h .table) p, s, or-true)
+      rw (moved-keeps (λ u. u .infinity) (h .table) p refl refl, s, or-true)
 
   pub keeps-bounds : entriesInBounds h ≡ true → entriesInBounds (updated room h ttl hops p) ≡ true
   keeps-bounds b =

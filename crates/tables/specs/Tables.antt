@@ -37,6 +37,10 @@ heldIn t part = record { table = t; entries = take (t .length) part }
 abbrev pub noTable : Table
 noTable = record { mark = none; length = 0; infinity = 0; place = 0; size = 0; bits = 0; at = 0 }
 
+-- a table between runs: place 1 and the first entry are next
+abbrev pub atRest : ℕ → ℕ → ℕ → Table
+atRest k n i = record { mark = k; length = n; infinity = i; place = 1; size = 0; bits = 0; at = 0 }
+
 -- only the mark is another
 abbrev pub marked : ℕ → Table → Table
 marked k t = record { mark = k; length = t .length; infinity = t .infinity; place = t .place; size = t .size; bits = t .bits; at = t .at }
