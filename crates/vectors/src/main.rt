@@ -2,8 +2,10 @@
 mod places;
 mod print;
 mod texts;
+mod updates;
 
 fn main() {
     places::all();
     texts::all();
+    updates::all();
 }
