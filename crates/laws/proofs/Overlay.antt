@@ -5,6 +5,7 @@ use native.Mathlib.Omega.{arith}
 use native.Mathlib.Nat.{mul-le-mul-right}
 use mathlib.Core.Path.{_≡_, refl, sym, ap, _∙_}
 use mathlib.Core.Bool.{Bool, true, false}
+use mathlib.Core.Logic.{_⊎_, inl, inr, ⊎-elim}
 use mathlib.Core.List.{List, [], _∷_, _++_, append-assoc}
 use lib.Dec.{ltb}
 use lib.ListN.{length, take, drop, length-append, length-take, length-drop, take-append-drop}
@@ -71,20 +72,20 @@ over-same-front from n room area = go (ltb room n) refl
         ap (λ x. over from x area) (take-all n (take room (drop from area)) long) ∙ over-same from room area
     go false e = ap (λ x. over from x area) (take-take n room (drop from area) (ltb-false room n e)) ∙ over-same from n area
 
--- eight parts of `room` places: what is written at the front of one leaves the others
+-- parts of `room` places, one after another
+part-ends : (a b room : ℕ) → a < b → a * room + room ≤ b * room
+part-ends a b room h = let p : suc a * room ≤ b * room = mul-le-mul-right room h in omega arith
+
+-- what is written at the front of one of eight parts leaves the others
 pub over-apart : (L l room : ℕ) (bs area : List ℕ) → (L ≡ l → ⊥) → length bs ≤ room → l ≤ 7 → length area / 8 ≡ room
     → take room (drop (L * room) (over (l * room) bs area)) ≡ take room (drop (L * room) area)
-over-apart L l room bs area ne hb hl ha = go (ltb L l) refl
+over-apart L l room bs area ne hb hl ha =
+    let inside : l * room + room ≤ 8 * room = part-ends l 8 room (omega arith) in
+    ⊎-elim
+    (λ k. let before : L * room + room ≤ l * room = part-ends L l room k in over-ahead (l * room) bs area (L * room) room (omega arith) before)
+    (λ k. let after : l * room + room ≤ L * room = part-ends l L room k in ap (take room) (over-behind (l * room) bs area (L * room) (omega arith) (omega arith)))
+    (sides (ltb L l) refl)
   where
-    top : l * room ≤ 7 * room
-    top = mul-le-mul-right room hl
-
-    go : (b : Bool) → ltb L l ≡ b → take room (drop (L * room) (over (l * room) bs area)) ≡ take room (drop (L * room) area)
-    go true e =
-        let p : suc L * room ≤ l * room = mul-le-mul-right room (ltb-true L l e) in
-        over-ahead (l * room) bs area (L * room) room (omega (arith, top)) (omega arith)
-    go false e =
-        let k : l ≤ L = ltb-false L l e in
-        let m : suc l ≤ L = omega arith in
-        let p : suc l * room ≤ L * room = mul-le-mul-right room m in
-        ap (take room) (over-behind (l * room) bs area (L * room) (omega (arith, top)) (omega arith))
+    sides : (b : Bool) → ltb L l ≡ b → (L < l) ⊎ (l < L)
+    sides true e = inl (ltb-true L l e)
+    sides false e = let k : l ≤ L = ltb-false L l e in inr (omega arith)

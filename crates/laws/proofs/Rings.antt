@@ -15,9 +15,9 @@ use Rattle.laws.proofs.Refusals.{and-fst, and-snd, and-intro, of-choice
 
 -- functions that agree where a test holds map a list that passes it alike
 module _ {A B : Type 0} where
-  pub map-agree : (t : A → Bool) (f g : A → B) (xs : List A) → ((x : A) → t x ≡ true → f x ≡ g x) → all t xs ≡ true → map f xs ≡ map g xs
-  map-agree t f g [] h e = refl
-  map-agree t f g (x ∷ xs) h e = ap₂ _∷_ (h x (and-fst (t x) (all t xs) e)) (map-agree t f g xs h (and-snd (t x) (all t xs) e))
+  pub map-where : (test : A → Bool) (f g : A → B) → ((x : A) → test x ≡ true → f x ≡ g x) → (xs : List A) → all test xs ≡ true → map f xs ≡ map g xs
+  map-where test f g same [] e = refl
+  map-where test f g same (x ∷ xs) e = ap₂ _∷_ (same x (and-fst (test x) (all test xs) e)) (map-where test f g same xs (and-snd (test x) (all test xs) e))
 
   pub map-take : (f : A → B) (n : ℕ) (xs : List A) → map f (take n xs) ≡ take n (map f xs)
   map-take f zero xs = refl
@@ -101,8 +101,7 @@ module _ {B : Type 0} (k p n : ℕ) (hp : p < suc k) (hn : n ≤ suc k) (new old
       ∙ ap (placesBefore (suc k) (onward (suc k) p)) m
       ∙ ap (λ x. x ∷ placesBefore (suc k) x (min k n)) (back-onward (suc k) some p hp))
       ∙ ap₂ _∷_ e
-      (map-agree (λ x. not (eqb x p)) new old (placesBefore (suc k) p (min k n))
-      (λ x t. f x (eqb-false x p (not-true (eqb x p) t)))
+      (map-where (λ x. not (eqb x p)) new old (λ x t. f x (eqb-false x p (not-true (eqb x p) t))) (placesBefore (suc k) p (min k n))
       (places-apart (suc k) some (min k n) p p 0 hp p0 (omega arith))
       ∙ ap (map old) (sym (places-take (suc k) some k n p) ∙ ap (take k) (sym (kept-all (suc k) some p n hp hn)))
       ∙ map-take old k (keptPlaces (suc k) p n))

@@ -1,15 +1,14 @@
 -- What the updates of an opening come to: the closed forms of specs/History, and the table that the rules make of the same updates.
 -- Assumes nothing.
-use Prim.Native.Nat.{ℕ, zero, suc, _+_, _-_, _^_, _≤_, _<_}
+use Prim.Native.Nat.{ℕ, zero, suc, _+_, _-_, _^_, _≤_, _<_, zero-le}
 use native.Mathlib.Omega.{arith}
 use mathlib.Core.Path.{_≡_, refl, sym, ap, ap₂, _∙_, subst}
 use mathlib.Core.Bool.{Bool, true, false, cond, _&&_, and-false}
 use mathlib.Core.List.{List, [], _∷_, _++_, map}
-use lib.Dec.{eqb, ltb, leb}
-use lib.ListN.{length, getD, take, drop, length-drop, length-replicate, getD-replicate, List·getD-append}
-use lib.Seq.{getD-take, getD-drop, getD-append-add, length-take-le}
-use lib.IntN.{pos, negℤ, _+ℤ_, +ℤ-assoc, +ℤ-idr, pos-+ℤ-pos, +ℤ-negℤ-cancel}
-use borrow.Author.Tests.{ltb-true, ltb-false, leb-true, ne-eqb}
+use lib.Dec.{eqb, ltb, leb, leb·suc-suc}
+use lib.ListN.{length, getD, take, drop, length-replicate, getD-replicate}
+use lib.IntN.{ℤ, pos, negℤ, _+ℤ_, +ℤ-assoc, +ℤ-idl, +ℤ-idr, +ℤ-invr, pos-+ℤ-pos}
+use borrow.Author.Tests.{ltb-true, lt-ltb, le-ltb, ne-eqb}
 use Rattle.laws.specs.Tests.{any, all}
 use Rattle.laws.proofs.Refusals.{clash, and-fst, and-snd}
 use Rattle.wire.specs.Header.{ttlOf, hopsOf, payloadOf}
@@ -23,91 +22,83 @@ use Rattle.protocol.specs.History.{Update, noted, updatesOf, accepted, i
 use Rattle.protocol.specs.Demand3.{Agrees, AllAgree}
 use Rattle.protocol.proofs.Updates.{Patches, by-update, patched-length}
 
--- an entry moved by a raw number is the entry plus the signed number, where it does not fall below 0
-minus : (e d : ℕ) → d ≤ e → pos (e - d) ≡ pos e +ℤ negℤ (pos d)
-minus e d h =
-    let n : e - d + d ≡ e = omega arith in
-    sym (+ℤ-negℤ-cancel (pos (e - d)) (pos d)) ∙ ap (λ x. x +ℤ negℤ (pos d)) (pos-+ℤ-pos (e - d) d ∙ ap pos n)
-
-moved-by : (bits v e : ℕ) → loss bits v < e + gain bits v → pos (sumOf bits v e) ≡ pos e +ℤ signed bits v
-moved-by bits v e = go (ltb v (2 ^ (bits - 1)))
+-- a raw number is its gain less its loss, and adding it to an entry is the sum of the two where that does not fall below 0
+signed-parts : (bits v : ℕ) → signed bits v ≡ pos (gain bits v) +ℤ negℤ (pos (loss bits v))
+signed-parts bits v = parts (ltb v (2 ^ (bits - 1))) (2 ^ bits - v)
   where
-    go : (b : Bool) → cond b 0 (2 ^ bits - v) < e + cond b v 0
-        → pos (e + cond b v 0 - cond b 0 (2 ^ bits - v)) ≡ pos e +ℤ cond b (pos v) (negℤ (pos (2 ^ bits - v)))
-    go true k = let n : e + v - 0 ≡ e + v = omega arith in ap pos n ∙ sym (pos-+ℤ-pos e v)
-    go false k = let n : e + 0 ≡ e = omega arith in ap (λ x. pos (x - (2 ^ bits - v))) n ∙ minus e (2 ^ bits - v) (omega arith)
+    parts : (below : Bool) (d : ℕ) → cond below (pos v) (negℤ (pos d)) ≡ pos (cond below v 0) +ℤ negℤ (pos (cond below 0 d))
+    parts true d = sym (+ℤ-idr (pos v))
+    parts false d = sym (+ℤ-idl (negℤ (pos d)))
 
-added-at : (bits inf : ℕ) (vs es : List ℕ) (i : ℕ) → allFit bits inf vs es ≡ true → i < length es
-    → pos (getD (added bits vs es) i 0) ≡ pos (getD es i 0) +ℤ getD (map (signed bits) vs) i (pos 0)
+shifted : (e g d : ℕ) → d ≤ e + g → pos (e + g - d) ≡ pos e +ℤ (pos g +ℤ negℤ (pos d))
+shifted e g d h =
+    let back : e + g - d + d ≡ e + g = omega arith in
+    sym (+ℤ-idr (pos (e + g - d)))
+    ∙ ap (λ z. pos (e + g - d) +ℤ z) (sym (+ℤ-invr (pos d)))
+    ∙ sym (+ℤ-assoc (pos (e + g - d)) (pos d) (negℤ (pos d)))
+    ∙ ap (λ z. z +ℤ negℤ (pos d)) (pos-+ℤ-pos (e + g - d) d ∙ ap pos back ∙ sym (pos-+ℤ-pos e g))
+    ∙ +ℤ-assoc (pos e) (pos g) (negℤ (pos d))
+
+sum-signed : (bits inf v e : ℕ) → fits bits inf v e ≡ true → pos (sumOf bits v e) ≡ pos e +ℤ signed bits v
+sum-signed bits inf v e f =
+    let low : loss bits v < e + gain bits v = ltb-true (loss bits v) (e + gain bits v) (and-fst (ltb (loss bits v) (e + gain bits v)) (leb (e + gain bits v) (inf + loss bits v)) f) in
+    shifted e (gain bits v) (loss bits v) (omega arith) ∙ ap (λ z. pos e +ℤ z) (sym (signed-parts bits v))
+
+-- the number among vs for the entry j, where the first is for the entry `from`
+abbrev numberFor : ℕ → List ℕ → ℕ → ℕ → ℤ
+numberFor bits vs from j = cond (ltb j from) (pos 0) (getD (map (signed bits) vs) (j - from) (pos 0))
+
+-- numbers added from the entry `from` on: each entry after is the entry before plus its number
+added-each : (bits inf : ℕ) (vs es : List ℕ) (j : ℕ) → allFit bits inf vs es ≡ true → j < length es
+    → pos (getD (added bits vs es) j 0) ≡ pos (getD es j 0) +ℤ getD (map (signed bits) vs) j (pos 0)
 unfolding added allFit
-added-at bits inf [] es i f h = sym (+ℤ-idr (pos (getD es i 0)))
-added-at bits inf (v ∷ vs) [] i f h = absurd (clash f refl)
-added-at bits inf (v ∷ vs) (e ∷ es) zero f h =
-    moved-by bits v e
-    (ltb-true (loss bits v) (e + gain bits v)
-    (and-fst (ltb (loss bits v) (e + gain bits v)) (leb (e + gain bits v) (inf + loss bits v)) (and-fst (fits bits inf v e) (allFit bits inf vs es) f)))
-added-at bits inf (v ∷ vs) (e ∷ es) (suc i) f h = added-at bits inf vs es i (and-snd (fits bits inf v e) (allFit bits inf vs es) f) (omega arith)
+added-each bits inf [] es j f l = sym (+ℤ-idr (pos (getD es j 0)))
+added-each bits inf (v ∷ vs) [] j f l = absurd (omega arith)
+added-each bits inf (v ∷ vs) (e ∷ es) zero f l = sum-signed bits inf v e (and-fst (fits bits inf v e) (allFit bits inf vs es) f)
+added-each bits inf (v ∷ vs) (e ∷ es) (suc j) f l = added-each bits inf vs es j (and-snd (fits bits inf v e) (allFit bits inf vs es) f) (omega arith)
 
--- an entry after a PATCH is the entry before, plus the number that the PATCH gives to it
-patched-at : (h : Held) (p : List ℕ) (j : ℕ) → inRange h p ≡ true → h .table .at ≤ length (h .entries) → j < length (h .entries)
+added-from : (from bits inf : ℕ) (vs es : List ℕ) (j : ℕ) → allFit bits inf vs (drop from es) ≡ true → j < length es
+    → pos (getD (take from es ++ added bits vs (drop from es)) j 0) ≡ pos (getD es j 0) +ℤ numberFor bits vs from j
+added-from zero bits inf vs es j f l =
+    let e : j - 0 ≡ j = omega arith in
+    rw (le-ltb j 0 zero-le, e) (added-each bits inf vs es j f l)
+added-from (suc from) bits inf vs [] j f l = absurd (omega arith)
+added-from (suc from) bits inf vs (x ∷ xs) zero f l = rw (lt-ltb 0 (suc from) (omega arith)) (sym (+ℤ-idr (pos x)))
+added-from (suc from) bits inf vs (x ∷ xs) (suc j) f l =
+    let e : suc j - suc from ≡ j - from = omega arith in
+    rw (leb·suc-suc (suc j) from, e) (added-from from bits inf vs xs j f (omega arith))
+
+patched-at : (h : Held) (p : List ℕ) (j : ℕ) → inRange h p ≡ true → j < length (h .entries)
     → pos (getD (patchBy h p .entries) j 0) ≡ pos (getD (h .entries) j 0) +ℤ gives p (h .table .at) j
 unfolding patchBy inRange
-patched-at h p j f a l = go (ltb j at) refl
-  where
-    at : ℕ
-    at = h .table .at
-
-    es : List ℕ
-    es = h .entries
-
-    new : List ℕ
-    new = added (bitsIn p) (numbersIn p) (drop at es)
-
-    long : length (take at es) ≡ at
-    long = length-take-le at es a
-
-    go : (b : Bool) → ltb j at ≡ b
-        → pos (getD (take at es ++ new) j 0) ≡ pos (getD es j 0) +ℤ cond b (pos 0) (getD (map (signed (bitsIn p)) (numbersIn p)) (j - at) (pos 0))
-    go true e =
-        let k : j < at = ltb-true j at e in
-        let k′ : j < length (take at es) = omega (arith, long) in
-        ap pos (List·getD-append (take at es) new 0 j k′ ∙ getD-take at es j 0 k) ∙ sym (+ℤ-idr (pos (getD es j 0)))
-    go false e =
-        let k : at ≤ j = ltb-false j at e in
-        let n : length (take at es) + (j - at) ≡ j = omega (arith, long) in
-        let n′ : at + (j - at) ≡ j = omega arith in
-        let in-rest : j - at < length (drop at es) = simp length-drop (omega arith) in
-        ap (λ x. pos (getD (take at es ++ new) x 0)) (sym n)
-        ∙ ap pos (getD-append-add (take at es) new (j - at) 0)
-        ∙ added-at (bitsIn p) (h .table .infinity) (numbersIn p) (drop at es) (j - at) f in-rest
-        ∙ ap (λ x. pos x +ℤ getD (map (signed (bitsIn p)) (numbersIn p)) (j - at) (pos 0)) (getD-drop at es (j - at) 0 ∙ ap (λ x. getD es x 0) n′)
+patched-at h p j f l = added-from (h .table .at) (bitsIn p) (h .table .infinity) (numbersIn p) (h .entries) j f l
 
 -- a table with its entries is what these updates come to
 pub record Accounts (h : Held) (us : List Update) : Type 0 where
   pub patchable : ready (h .table .mark) ≡ (any isReset us && all accepted (sinceReset us))
   pub speaking : eqb (h .table .mark) settled ≡ speaks us
-  pub place : ready (h .table .mark) ≡ true → h .table .at ≡ covered us
-  pub sums : (j : ℕ) → j < length (h .entries) → pos (getD (h .entries) j 0) ≡ pos (h .table .infinity) +ℤ sumAt us j
+  pub reached : ready (h .table .mark) ≡ true → h .table .at ≡ covered us
+  pub totals : (j : ℕ) → j < length (h .entries) → pos (getD (h .entries) j 0) ≡ pos (h .table .infinity) +ℤ sumAt us j
 
 abbrev pub noHeld : Held
 noHeld = record { table = noTable; entries = [] }
 
 nothing-yet : Accounts noHeld []
-nothing-yet = record { patchable = refl; speaking = refl; place = λ _. refl; sums = λ j h. absurd (omega arith) }
+nothing-yet = record { patchable = refl; speaking = refl; reached = λ _. refl; totals = λ j h. absurd (omega arith) }
 
 abbrev update : List ℕ → ℕ → Update
 update p n = record { payload = p; answer = n }
 
 module _ (h : Held) (us : List Update) (q : Accounts h us) (p : List ℕ) where
-  -- refused: the mark alone
+  -- a refusal changes the mark and no sum
   after-refusal : (n : ℕ) → eqb n 0 ≡ false → Accounts (brokenBy h) (update p n ∷ us)
   unfolding brokenBy
   after-refusal n a =
       record {
         patchable = rw (a, a) (sym (and-false (any isReset us)));
         speaking = rw (a, a) (sym (and-false (any isReset us)));
-        place = λ r. absurd (clash r refl);
-        sums = λ j l. rw a (q .sums j l);
+        reached = λ r. absurd (clash r refl);
+        totals = λ j l. rw a (q .totals j l);
       }
 
   after-reset : isPatch p ≡ false → Accounts (resetBy p) (update p 0 ∷ us)
@@ -116,8 +107,8 @@ module _ (h : Held) (us : List Update) (q : Accounts h us) (p : List ℕ) where
       record {
         patchable = rw e;
         speaking = rw e;
-        place = λ _. rw e;
-        sums = λ j l. rw (e, getD-replicate (lengthIn p) j (infinityIn p) 0 (rw length-replicate at l)) (sym (+ℤ-idr (pos (infinityIn p))));
+        reached = λ _. rw e;
+        totals = λ j l. rw (e, getD-replicate (lengthIn p) j (infinityIn p) 0 (rw length-replicate at l)) (sym (+ℤ-idr (pos (infinityIn p))));
       }
 
   module _ (z : Patches h p) where
@@ -134,10 +125,9 @@ module _ (h : Held) (us : List Update) (q : Accounts h us) (p : List ℕ) where
     sums-patch : (j : ℕ) → j < length (patchBy h p .entries)
         → pos (getD (patchBy h p .entries) j 0) ≡ pos (h .table .infinity) +ℤ (sumAt us j +ℤ gives p (covered us) j)
     sums-patch j l =
-        let k : j < length (h .entries) = rw patched-length at l in
-        let r : h .table .at + length (numbersIn p) ≤ length (h .entries) = leb-true (h .table .at + length (numbersIn p)) (length (h .entries)) (z .turn .1 .1 .1 .0) in
-        patched-at h p j (z .range) (omega arith) k
-        ∙ ap₂ (λ x y. x +ℤ gives p y j) (q .sums j k) (q .place (z .turn .0))
+        let k : j < length (h .entries) = subst (λ (n : ℕ). j < n) (patched-length h p) l in
+        patched-at h p j (z .range) k
+        ∙ ap₂ (λ x y. x +ℤ gives p y j) (q .totals j k) (q .reached (z .turn .0))
         ∙ +ℤ-assoc (pos (h .table .infinity)) (sumAt us j) (gives p (covered us) j)
 
     after-patch : Accounts (patchBy h p) (update p 0 ∷ us)
@@ -149,15 +139,15 @@ module _ (h : Held) (us : List Update) (q : Accounts h us) (p : List ℕ) where
             record {
               patchable = simp (e, z .variant, started, unbroken);
               speaking = simp (e, z .variant, started, unbroken);
-              place = λ _. simp (e, z .variant);
-              sums = λ j l. simp (e, z .variant) (sums-patch j l);
+              reached = λ _. simp (e, z .variant);
+              totals = λ j l. simp (e, z .variant) (sums-patch j l);
             }
         go false e =
             record {
               patchable = simp (e, z .variant, started, unbroken);
               speaking = simp (e, z .variant, started, unbroken) (sym (and-false (any finishes (sinceReset us))));
-              place = λ _. simp (e, z .variant) (ap (λ x. x + length (numbersIn p)) (q .place (z .turn .0)));
-              sums = λ j l. simp (e, z .variant) (sums-patch j l);
+              reached = λ _. simp (e, z .variant) (ap (λ x. x + length (numbersIn p)) (q .reached (z .turn .0)));
+              totals = λ j l. simp (e, z .variant) (sums-patch j l);
             }
 
   after-update : (room ttl hops : ℕ) → Accounts (updated room h ttl hops p) (update p (updateAnswer room h ttl hops p) ∷ us)

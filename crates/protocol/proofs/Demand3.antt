@@ -65,8 +65,8 @@ kept-lent : (a : Area) (r : List ℕ) → keptArea a r (lent a r) ≡ r
 kept-lent Same r = refl
 kept-lent (Other x) r = refl
 
-along : {a b : Bool} {P : Type 0} → a ≡ b → (b ≡ true) ↔ P → (a ≡ true) ↔ P
-along e f = ((λ p. f .0 (sym e ∙ p)), (λ p. e ∙ f .1 p))
+read-as : {a b : Bool} {P : Type 0} → a ≡ b → (b ≡ true) ↔ P → (a ≡ true) ↔ P
+read-as {P = P} e f = subst (λ (x : Bool). (x ≡ true) ↔ P) (sym e) f
 
 not-update : (L l : ℕ) (m : List ℕ) → eqb (kindOf m) routeUpdate ≡ false → isUpdateOf L l m ≡ false
 not-update L l m k = ap (λ b. eqb l L && b) k ∙ and-false (eqb l L)
@@ -137,7 +137,7 @@ module _ (L room : ℕ) (seven : L ≤ 7) (e : Expected) (s : Station) (area : L
         let v : isUpdateOf L l m ≡ false = not-update L l m (other-type m queryType routeUpdate k refl) in
         of-refused Goods (firstOf (queryRules usualLimit s m)) s area (queryTaken usualLimit s l m area)
         (λ _. aside (queryTaken usualLimit s l m area) refl v (record { room = refl; count = refl; live = refl; table = refl; part = refl })
-        (λ _ _. along (eachLine-at (λ k. goesOn usualLimit l k (lineAt s k .live) (heldAt s k area) m) L seven ∙ goes-same) (goes-iff room e (q .sound) L l m)))
+        (λ _ _. read-as (eachLine-at (λ k. goesOn usualLimit l k (lineAt s k .live) (heldAt s k area) m) L seven ∙ goes-same) (goes-iff room e (q .sound) L l m)))
         (λ n. refused-aside (firstOf (queryRules usualLimit s m)) (none-unsent (queryRules usualLimit s m) refl) v n)
 
     unknown-good : eqb (kindOf m) routeUpdate ≡ false → Goods (quiet 7 s area)
@@ -263,7 +263,7 @@ module _ (L room : ℕ) (seven : L ≤ 7) (e : Expected) (s : Station) (area : L
   unfolding remember
   asked-good number text out Same f z = (
     rw (feed-ask L room false e) (left-alone q (record { room = refl; count = refl; live = refl; table = refl; part = refl })),
-    (λ _. along (eachLine-at (λ k. passes (lineAt s k .live) (heldAt s k area) text usualLimit) L seven ∙ own-same text) (own-goes-iff room e (q .sound) text)),
+    (λ _. read-as (eachLine-at (λ k. passes (lineAt s k .live) (heldAt s k area) text usualLimit) L seven ∙ own-same text) (own-goes-iff room e (q .sound) text)),
   )
   asked-good number text out (Other x) f z = absurd (f (asked-in s number text out (length x) z .room ∙ q .sameRoom))
 
@@ -344,7 +344,7 @@ module _ (L room : ℕ) (e : Expected) (us : List Update) (s : Station) (area : 
             entries = λ _. same;
             sums = λ j l.
                 ap (λ es. pos (getD es j 0)) same
-                ∙ t .sums j l
+                ∙ t .totals j l
                 ∙ ap (λ (x : Held). pos (x .table .infinity) +ℤ sumAt us j) h;
             speaking = ap (λ (x : Held). eqb (x .table .mark) settled) (sym h) ∙ t .speaking;
           }

@@ -12,7 +12,7 @@ use borrow.Author.Tests.{ltb-true, not-true}
 use Rattle.laws.specs.Tests.{any}
 use Rattle.laws.specs.Ring.{keptPlaces}
 use Rattle.laws.proofs.Refusals.{and-fst, and-snd, any-take}
-use Rattle.laws.proofs.Rings.{map-agree, map-map, map-getD, kept-below, ring-push}
+use Rattle.laws.proofs.Rings.{map-where, map-map, map-getD, kept-below, ring-push}
 use Rattle.protocol.specs.declared.Station.{Station}
 use Rattle.protocol.specs.Memory.{capacity, Number, sameNumber, Query, queryAt, remembered, Found, Absent, At, later, pickFound, find, isFound, seen, remember, noTwice, left}
 use Rattle.protocol.specs.Lines.{withPong, storedPongs}
@@ -41,9 +41,10 @@ remembered-newest s n who z hc hn =
 pub remembered-left : RemembersLeft
 unfolding remembered
 remembered-left s l z =
-    map-agree (λ x. ltb x capacity) (queryAt (closedState s l)) (λ x. leftBy l (queryAt s x)) (keptPlaces capacity (s .next) (s .count))
+    map-where (λ x. ltb x capacity) (queryAt (closedState s l)) (λ x. leftBy l (queryAt s x))
     (λ x t i. let k : x < capacity = ltb-true x capacity t in
     record { number = queryAt s x .number; asker = map-getD (left l) (s .asker) x 0 0 (omega (arith, z .asker)) i })
+    (keptPlaces capacity (s .next) (s .count))
     (kept-below capacity (omega arith) (s .next) (s .count))
     ∙ sym (map-map (queryAt s) (leftBy l) (keptPlaces capacity (s .next) (s .count)))
 

@@ -6,7 +6,7 @@ use mathlib.Core.Path.{_≡_, refl, sym, ap, _∙_, subst}
 use mathlib.Core.Bool.{Bool, true, false, not, _&&_, _||_}
 use mathlib.Core.List.{List, [], _∷_}
 use lib.Dec.{eqb, leb}
-use lib.ListN.{length, getD, length-append, length-take, length-drop, length-replicate}
+use lib.ListN.{length, getD, take, drop, length-append, length-replicate, take-append-drop}
 use borrow.Author.Tests.{leb-true, eqb-true, eqb-false, not-false}
 use Rattle.laws.specs.Tests.{firstOf, every, any}
 use Rattle.laws.proofs.Refusals.{clash, of-choice, Each, each, NoRefusal, no-refusal, answer-in, refusal-in, and-rest, or-right}
@@ -123,7 +123,12 @@ added-length bits (v ∷ vs) (e ∷ es) = ap suc (added-length bits vs es)
 
 pub patched-length : (h : Held) (p : List ℕ) → length (patchBy h p .entries) ≡ length (h .entries)
 unfolding patchBy
-patched-length h p = simp (length-append, added-length, length-take, length-drop) (omega arith)
+patched-length h p =
+    let es : List ℕ = h .entries in
+    length-append (take (h .table .at) es) (added (bitsIn p) (numbersIn p) (drop (h .table .at) es))
+    ∙ ap (λ n. length (take (h .table .at) es) + n) (added-length (bitsIn p) (numbersIn p) (drop (h .table .at) es))
+    ∙ sym (length-append (take (h .table .at) es) (drop (h .table .at) es))
+    ∙ ap length (take-append-drop (h .table .at) es)
 
 pub moved-length : (t : Table) (p : List ℕ) → movedOn t p .length ≡ t .length
 unfolding movedOn
