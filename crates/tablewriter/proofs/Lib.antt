@@ -1,1 +1,10 @@
+-- The writer's laws, and cases by computation.
 pub mod Vectors
+pub mod DataLaws
+pub mod RunLaws
+pub mod PlanLaws
+pub mod MessageLaws
+pub mod TurnLaws
+pub mod AnswerLaws
+pub mod AllLaws
+pub mod CallLaws
