@@ -1,3 +1,4 @@
+-- The writer's laws, and cases by computation.
 pub mod Vectors
 pub mod Differences
 pub mod Parts
@@ -8,3 +9,11 @@ pub mod RoundTrip
 pub mod PartFacts
 pub mod WriterFacts
 pub mod Octets
+pub mod DataLaws
+pub mod RunLaws
+pub mod PlanLaws
+pub mod MessageLaws
+pub mod TurnLaws
+pub mod AnswerLaws
+pub mod AllLaws
+pub mod CallLaws

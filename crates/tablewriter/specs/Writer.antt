@@ -80,9 +80,13 @@ unfoldable pub joined : List (List ℕ) → List ℕ
 joined [] = []
 joined (m ∷ ms) = m ++ joined ms
 
+-- an entry is in 1..Infinity
+abbrev pub inRange : ℕ → ℕ → Bool
+inRange infinity e = leb 1 e && leb e infinity
+
 -- a table that may be written: a length and an Infinity that a RESET may carry, and each entry in 1..Infinity
 unfoldable pub goodTable : List ℕ → ℕ → Bool
-goodTable es infinity = goodLength (length es) && (goodInfinity infinity && all (λ e. leb 1 e && leb e infinity) es)
+goodTable es infinity = goodLength (length es) && (goodInfinity infinity && all (inRange infinity) es)
 
 -- what the writer answers: 14, then 2
 unfoldable pub writerAnswer : List ℕ → Bool → List ℕ → ℕ → List ℕ → ℕ → ℕ → ℕ → ℕ
