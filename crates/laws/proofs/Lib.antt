@@ -1,3 +1,5 @@
 -- Facts on lists and numbers that several crates cite.
 pub mod Bits
 pub mod Parts
+pub mod RingScan
+pub mod InPlace

@@ -1,0 +1,3 @@
+-- Laws by which the loops of this crate go.
+pub mod SearchLaws
+pub mod QueryLaws
