@@ -5,7 +5,7 @@ use mathlib.Core.List.{List, [], _∷_, map}
 use Prim.Native.Nat.{ℕ, _≤_, _<_}
 use lib.Dec.{leb, ltb}
 use lib.ListN.{length, getD}
-use borrow.Author.Tests.{leb-true, ltb-true}
+use borrow.Author.Tests.{leb-true, ltb-true, le-leb, lt-ltb}
 use Rattle.laws.specs.Ring.{ringFits, placesBefore, keptPlaces}
 use Rattle.memory.specs.Queries.{queryIn, queriesBefore, queriesIn}
 
@@ -23,6 +23,9 @@ module _ (capacity next count : ℕ) (fits : ringFits capacity next count ≡ tr
 
   pub fits-next : next < capacity
   fits-next = ltb-true next capacity (both-right (leb count capacity) _ fits)
+
+pub within-fits : (capacity next count : ℕ) → next < capacity → count ≤ capacity → ringFits capacity next count ≡ true
+within-fits capacity next count h m = rw (le-leb count capacity m, lt-ltb next capacity h)
 
 module _ (lo hi asker : List ℕ) (next count : ℕ) where
   pub kept-all : ringFits (length lo) next count ≡ true → queriesIn lo hi asker next count ≡ queriesBefore lo hi asker next count
