@@ -3,3 +3,4 @@ pub mod Bits
 pub mod Parts
 pub mod RingScan
 pub mod InPlace
+pub mod Truth

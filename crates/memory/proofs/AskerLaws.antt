@@ -1,49 +1,34 @@
 -- The askers that fit, by their numbers, and the test of order put together.
-use mathlib.Core.Path.{_≡_, refl, sym, ap, _∙_}
-use mathlib.Core.Bool.{Bool, true, false, _&&_, _||_}
-use mathlib.Core.List.{List, [], _∷_, map}
-use Prim.Native.Nat.{ℕ, zero, suc, _≤_, _<_}
+use mathlib.Core.Path.{_≡_, refl, sym, ap}
+use mathlib.Core.Bool.{Bool, true, false, _&&_, and-true, or-false}
+use mathlib.Core.List.{List}
+use Prim.Native.Nat.{ℕ, zero, suc}
 use native.Mathlib.Omega.{arith}
-use lib.Dec.{eqb, leb, ltb}
-use lib.ListN.{length, getD, List·getD-map}
+use lib.Dec.{leb, ltb}
+use lib.ListN.{length, getD}
 use borrow.Author.Tests.{le-leb, lt-ltb, le-ltb, ne-eqb}
-use Rattle.laws.specs.Tests.{every, all}
+use Rattle.laws.specs.Tests.{all}
 use Rattle.laws.specs.Ring.{ringFits}
-use Rattle.protocol.specs.Memory.{Query, noTwice, remembered}
-use Rattle.protocol.specs.Order.{askerFits}
-use Rattle.protocol.specs.Lines.{nowhere}
-use Rattle.protocol.specs.declared.Line.{Line}
+use Rattle.laws.proofs.Truth.{all-same}
+use Rattle.protocol.specs.Memory.{noTwice}
 use Rattle.memory.specs.Queries.{queriesBefore, queriesIn, askerFitsIn, memoryInOrder}
 use Rattle.memory.specs.Order.{fitting, sound}
 use Rattle.memory.proofs.QueryLaws.{fits-count, fits-next, kept-all}
 
-or-false : (t : Bool) → t ≡ (t || false)
-or-false true = refl
-or-false false = refl
-
 -- the marks say which askers fit
 pub fitting-at : (live : List Bool) (a : ℕ) → getD (fitting live) a false ≡ askerFitsIn live a
-fitting-at live zero = or-false (getD live 0 false)
-fitting-at live (suc zero) = or-false (getD live 1 false)
-fitting-at live (suc (suc zero)) = or-false (getD live 2 false)
-fitting-at live (suc (suc (suc zero))) = or-false (getD live 3 false)
-fitting-at live (suc (suc (suc (suc zero)))) = or-false (getD live 4 false)
-fitting-at live (suc (suc (suc (suc (suc zero))))) = or-false (getD live 5 false)
-fitting-at live (suc (suc (suc (suc (suc (suc zero)))))) = or-false (getD live 6 false)
-fitting-at live (suc (suc (suc (suc (suc (suc (suc zero))))))) = or-false (getD live 7 false)
+fitting-at live zero = sym (or-false (getD live 0 false))
+fitting-at live (suc zero) = sym (or-false (getD live 1 false))
+fitting-at live (suc (suc zero)) = sym (or-false (getD live 2 false))
+fitting-at live (suc (suc (suc zero))) = sym (or-false (getD live 3 false))
+fitting-at live (suc (suc (suc (suc zero)))) = sym (or-false (getD live 4 false))
+fitting-at live (suc (suc (suc (suc (suc zero))))) = sym (or-false (getD live 5 false))
+fitting-at live (suc (suc (suc (suc (suc (suc zero)))))) = sym (or-false (getD live 6 false))
+fitting-at live (suc (suc (suc (suc (suc (suc (suc zero))))))) = sym (or-false (getD live 7 false))
 fitting-at live (suc (suc (suc (suc (suc (suc (suc (suc zero)))))))) = refl
 fitting-at live (suc (suc (suc (suc (suc (suc (suc (suc (suc zero))))))))) = refl
 fitting-at live (suc (suc (suc (suc (suc (suc (suc (suc (suc (suc a)))))))))) =
     rw (le-ltb (suc (suc (suc (suc (suc (suc (suc (suc (suc (suc a)))))))))) 8 (omega arith), ne-eqb (suc (suc (suc (suc (suc (suc (suc (suc (suc (suc a)))))))))) 8 (λ z. omega arith), ne-eqb (suc (suc (suc (suc (suc (suc (suc (suc (suc (suc a)))))))))) 9 (λ z. omega arith))
-
-module _ (f g : Query → Bool) (same : (q : Query) → f q ≡ g q) where
-  all-same : (qs : List Query) → all f qs ≡ all g qs
-  all-same [] = refl
-  all-same (q ∷ qs) = rw (same q, all-same qs)
-
-and-true : (x : Bool) → (x && true) ≡ x
-and-true true = refl
-and-true false = refl
 
 first-two : (x y z : Bool) → (x && y) ≡ false → (x && (y && z)) ≡ false
 first-two true true z e = cc

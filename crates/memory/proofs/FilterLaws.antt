@@ -1,15 +1,16 @@
 -- The Bloom filter: two marks for each number that was passed.
-use mathlib.Core.Path.{_≡_, refl, sym, ap, _∙_}
-use mathlib.Core.Bool.{Bool, true, false, _&&_, _||_}
+use mathlib.Core.Path.{_≡_, refl, sym, _∙_}
+use mathlib.Core.Bool.{Bool, true, false, _&&_}
 use mathlib.Core.List.{List, [], _∷_}
-use Prim.Native.Nat.{ℕ, zero, suc, _/_, _%_, _<_}
+use Prim.Native.Nat.{ℕ, zero, suc, _/_, _%_}
 use native.Mathlib.Omega.{arith}
 use lib.Dec.{eqb}
 use lib.ListN.{length, getD, set, replicate, length-set, length-replicate}
 use lib.Seq.{getD-set-same}
 use borrow.Author.Tests.{eqb-true}
 use Rattle.laws.specs.Tests.{any, all}
-use Rattle.protocol.specs.Memory.{Query, sameNumber}
+use Rattle.laws.proofs.Truth.{both-left, both-right, both-true, all-more}
+use Rattle.protocol.specs.Memory.{Query}
 use Rattle.memory.specs.Order.{sameAs}
 
 -- the two places of a number whose first half is a
@@ -35,22 +36,6 @@ stays (x ∷ l) zero zero h = refl
 stays (x ∷ l) zero (suc j) h = h
 stays (x ∷ l) (suc k) zero h = h
 stays (x ∷ l) (suc k) (suc j) h = stays l k j h
-
-both-left : (x y : Bool) → (x && y) ≡ true → x ≡ true
-both-left true y e = refl
-both-left false y e = e
-
-both-right : (x y : Bool) → (x && y) ≡ true → y ≡ true
-both-right true y e = e
-both-right false y e = cc
-
-both-true : (x y : Bool) → x ≡ true → y ≡ true → (x && y) ≡ true
-both-true x y e f = rw (e, f)
-
-all-more : (f g : Query → Bool) → ((q : Query) → f q ≡ true → g q ≡ true) → (qs : List Query) → all f qs ≡ true → all g qs ≡ true
-all-more f g h [] e = refl
-all-more f g h (q ∷ qs) e =
-    both-true (g q) (all g qs) (h q (both-left (f q) _ e)) (all-more f g h qs (both-right (f q) _ e))
 
 marked-stays : (seen : List Bool) (k : ℕ) (q : Query) → marked seen q ≡ true → marked (set seen k true) q ≡ true
 marked-stays seen k q e =

@@ -1,4 +1,4 @@
--- Laws by which the loops of this crate go.
+-- Laws by which the loops of this crate go, what they say of a station, and small rings by evaluation.
 pub mod QueryLaws
 pub mod SearchLaws
 pub mod PlaceLaws
@@ -6,3 +6,5 @@ pub mod OrderLaws
 pub mod FilterLaws
 pub mod PassedLaws
 pub mod AskerLaws
+pub mod StationLaws
+mod Vectors

@@ -1,14 +1,13 @@
 -- The test of order, from the oldest query on: each query is tested against those that were passed.
-use mathlib.Core.Path.{_≡_, refl, sym, ap, _∙_}
-use mathlib.Core.Bool.{Bool, true, false, cond, not, _&&_, _||_}
-use mathlib.Core.List.{List, [], _∷_, map}
-use Prim.Native.Nat.{ℕ, zero, suc, _+_, _-_, _≤_, _<_}
+use mathlib.Core.Path.{_≡_, refl}
+use mathlib.Core.Bool.{Bool, true, false, not, _&&_, _||_, and-false}
+use mathlib.Core.List.{List, [], _∷_}
+use Prim.Native.Nat.{ℕ, zero, suc, _+_, _≤_, _<_}
 use native.Mathlib.Omega.{arith}
 use lib.ListN.{length, getD}
 use Rattle.laws.specs.Tests.{any, all}
-use Rattle.laws.specs.Ring.{back}
-use Rattle.protocol.specs.Memory.{Query, Number, Found, Absent, At, later, pickFound, find, sameNumber, noTwice}
-use Rattle.memory.specs.Queries.{queryIn, queriesBefore, looked}
+use Rattle.protocol.specs.Memory.{Query, Found, Absent, At, later, pickFound, find, noTwice}
+use Rattle.memory.specs.Queries.{queriesBefore, looked}
 use Rattle.memory.specs.Order.{placeBefore, sameAs, sound}
 use Rattle.memory.proofs.PlaceLaws.{place-none, place-back}
 
@@ -22,10 +21,6 @@ found-any (x ∷ xs) q = by (sameAs q x) (find xs (q .number)) (found-any xs q)
     by true f e = refl
     by false Absent e = e
     by false (At n k) e = e
-
-and-false : (x : Bool) → (x && false) ≡ false
-and-false true = refl
-and-false false = refl
 
 rest-false : (a n f l : Bool) → (n && l) ≡ false → ((a && n) && (f && l)) ≡ false
 rest-false false n f l e = refl

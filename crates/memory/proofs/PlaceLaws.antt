@@ -1,11 +1,11 @@
 -- The place k places before another, going round: without a remainder, and step by step.
-use mathlib.Core.Path.{_≡_, refl, sym, ap, _∙_}
-use mathlib.Core.List.{List, [], _∷_, map}
-use Prim.Native.Nat.{ℕ, zero, suc, _+_, _-_, _%_, _≤_, _<_}
+use mathlib.Core.Path.{_≡_, ap}
+use mathlib.Core.List.{List, _∷_, map}
+use Prim.Native.Nat.{ℕ, suc, _+_, _-_, _≤_, _<_}
 use native.Mathlib.Nat.{mod-eq-of-lt, add-mod-right, mod-add-mod, sub-zero}
 use native.Mathlib.Omega.{arith}
 use lib.ListN.{length}
-use Rattle.laws.specs.Ring.{back, onward, placesBefore}
+use Rattle.laws.specs.Ring.{back, onward}
 use Rattle.laws.proofs.RingScan.{places-more}
 use Rattle.memory.specs.Queries.{queryIn, queriesBefore}
 use Rattle.memory.specs.Order.{placeBefore}

@@ -1,21 +1,14 @@
 -- The remembered queries where the ring fits its slices, and where it does not.
-use mathlib.Core.Path.{_≡_, refl, sym, ap, _∙_}
-use mathlib.Core.Bool.{Bool, true, false, cond, _&&_}
-use mathlib.Core.List.{List, [], _∷_, map}
+use mathlib.Core.Path.{_≡_}
+use mathlib.Core.Bool.{true, false}
+use mathlib.Core.List.{List, []}
 use Prim.Native.Nat.{ℕ, _≤_, _<_}
-use lib.Dec.{leb, ltb}
-use lib.ListN.{length, getD}
+use lib.Dec.{leb}
+use lib.ListN.{length}
 use borrow.Author.Tests.{leb-true, ltb-true, le-leb, lt-ltb}
-use Rattle.laws.specs.Ring.{ringFits, placesBefore, keptPlaces}
-use Rattle.memory.specs.Queries.{queryIn, queriesBefore, queriesIn}
-
-both-left : (x y : Bool) → (x && y) ≡ true → x ≡ true
-both-left true y e = refl
-both-left false y e = e
-
-both-right : (x y : Bool) → (x && y) ≡ true → y ≡ true
-both-right true y e = e
-both-right false y e = cc
+use Rattle.laws.specs.Ring.{ringFits, keptPlaces}
+use Rattle.laws.proofs.Truth.{both-left, both-right}
+use Rattle.memory.specs.Queries.{queriesBefore, queriesIn}
 
 module _ (capacity next count : ℕ) (fits : ringFits capacity next count ≡ true) where
   pub fits-count : count ≤ capacity

@@ -1,15 +1,14 @@
 -- A look-up, turn by turn: what the queries that are left hold, after i were passed.
-use mathlib.Core.Path.{_≡_, refl, sym, ap, _∙_}
-use mathlib.Core.Bool.{Bool, true, false, _&&_}
-use mathlib.Core.List.{List, [], _∷_, map}
-use Prim.Native.Nat.{ℕ, zero, suc, _+_, _-_, _≤_, _<_}
+use mathlib.Core.Path.{_≡_, refl, _∙_}
+use mathlib.Core.Bool.{false}
+use mathlib.Core.List.{List, _∷_}
+use Prim.Native.Nat.{ℕ, suc, _+_, _-_, _≤_, _<_}
 use native.Mathlib.Omega.{arith}
-use lib.Dec.{eqb}
 use lib.ListN.{length, getD}
 use borrow.Author.Tests.{eq-eqb, ne-eqb}
 use Rattle.laws.specs.Ring.{back}
 use Rattle.laws.proofs.RingScan.{places-step, places-none}
-use Rattle.protocol.specs.Memory.{Query, Number, Found, Absent, At, later, find, sameNumber}
+use Rattle.protocol.specs.Memory.{Found, Absent, At, later, find, sameNumber}
 use Rattle.memory.specs.Queries.{queryIn, queriesBefore}
 
 -- what is found behind i queries

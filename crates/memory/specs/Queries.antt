@@ -6,7 +6,7 @@ use lib.Dec.{eqb, leb, ltb}
 use lib.ListN.{length, getD}
 use Rattle.laws.specs.Tests.{every, all}
 use Rattle.laws.specs.Ring.{placesBefore, keptPlaces}
-use Rattle.protocol.specs.Memory.{Query, Number, Found, Absent, At, here, gone, noTwice}
+use Rattle.protocol.specs.Memory.{Query, Found, Absent, At, here, gone, noTwice}
 use Rattle.protocol.specs.Lines.{lineCount}
 use Rattle.memory.specs.declared.search.Looked.{Looked}
 

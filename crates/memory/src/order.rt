@@ -7,7 +7,9 @@ ghost use Rattle.laws.specs.Ring.{onward};
 ghost use Rattle.laws.specs.Tests.{any};
 ghost use Rattle.memory.specs.Queries.{queryIn, queriesBefore, memoryInOrder};
 ghost use Rattle.memory.specs.Order.{placeBefore, fitting, sameAs, sound};
-use crate::places::{byte_at, ring_fits, word_at};
+use crate::places::byte_at;
+use crate::places::ring_fits;
+use crate::places::word_at;
 use crate::search::find;
 
 // The place that is `count` places before `next`, going round.
@@ -41,7 +43,16 @@ fn fitting(live: [bool; 8]) -> [bool; 10]
     ensures { λ r. ⌜ r ≡ fitting live ⌝ }
 {
     [
-        live[0], live[1], live[2], live[3], live[4], live[5], live[6], live[7], true, true,
+        live[0],
+        live[1],
+        live[2],
+        live[3],
+        live[4],
+        live[5],
+        live[6],
+        live[7],
+        true,
+        true,
     ]
 }
 
@@ -53,14 +64,7 @@ fn asker_fits(marks: &[bool], asker: u8) -> bool
 }
 
 // Does the number at place p stand among the i queries before it? They are looked through only where it may.
-fn met<'a>(
-    maybe: bool,
-    lo: &'a [u64],
-    hi: &'a [u64],
-    asker: &'a [u8],
-    p: usize,
-    i: usize,
-) -> bool
+fn met<'a>(maybe: bool, lo: &'a [u64], hi: &'a [u64], asker: &'a [u8], p: usize, i: usize) -> bool
     requires { ⌜ (p < length (now lo)) × (i ≤ length (now lo)) ⌝ }
     requires { ⌜ (maybe ≡ false → any (sameAs (queryIn (now lo) (now hi) (now asker) p)) (queriesBefore (now lo) (now hi) (now asker) p i) ≡ false) ⌝ }
     ensures { λ r. ⌜ r ≡ any (sameAs (queryIn (now (lo .entry)) (now (hi .entry)) (now (asker .entry)) p)) (queriesBefore (now (lo .entry)) (now (hi .entry)) (now (asker .entry)) p i) ⌝ }

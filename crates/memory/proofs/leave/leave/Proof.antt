@@ -1,13 +1,11 @@
 use lib.ListN.{length-set}
 use Prim.Native.Nat.{ℕ}
-use lib.ListN.{set}
-use mathlib.Core.List.{List, map}
+use mathlib.Core.List.{List}
 use Rattle.laws.proofs.InPlace.{mapped, mapped-at, mapped-more, mapped-end}
 use Rattle.protocol.specs.Memory.{left}
-use lib.ListN.{length, getD, take, drop}
-use mathlib.Core.Path.{_≡_, refl, sym, ap, _∙_}
-use native.Mathlib.Omega.{arith}
-use Prim.Native.Nat.{_-_, _≤_, _+_}
+use lib.ListN.{length, getD}
+use mathlib.Core.Path.{_≡_, refl, ap, _∙_}
+use Prim.Native.Nat.{_-_, _≤_}
 use borrow.Author.Needs.{needs}
 use Rattle.memory.proofs.leave.leave.Statement.{statement}
 use Rattle.memory.proofs.leave.leave.Tie as tie

@@ -1,5 +1,4 @@
 use borrow.Author.Tests.{eq-eqb, ne-eqb}
-use borrow.Author.Needs.{needs}
 use Rattle.memory.proofs.leave.left_by.Statement.{statement}
 use Rattle.memory.proofs.leave.left_by.Tie as tie
 

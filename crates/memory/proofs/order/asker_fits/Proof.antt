@@ -4,18 +4,13 @@ use mathlib.Core.Bool.{false}
 use borrow.Author.Needs.{needs}
 use Rattle.memory.proofs.order.asker_fits.Statement.{statement}
 use Rattle.memory.proofs.order.asker_fits.Tie as tie
-use Rattle.memory.proofs.order.asker_fits.Reads as reads
-use Rattle.memory.proofs.order.asker_fits.Lts as lts
 
--- src/order.rt:52:26
 shared-slice-read-result : tie.Need-shared-slice-read-result
 shared-slice-read-result c = search needs
 
--- src/order.rt:48:1
 returns : tie.Need-returns
 returns c = search needs
 
--- src/order.rt:48:1
 returns-2 : tie.Need-returns-2
 returns-2 c = sym (List·getD-eq-default (c .before .args .marks .now) false (c .if1 .left))
 

@@ -1,48 +1,35 @@
-use lib.ListN.{getD}
-use Prim.Native.Nat.{ℕ}
 use Rattle.memory.proofs.OrderLaws.{found-any}
 use Rattle.memory.proofs.QueryLaws.{within-fits, kept-all}
-use Rattle.memory.specs.Queries.{queryIn, queriesBefore, queriesIn, looked}
+use Rattle.memory.specs.Queries.{queryIn, queriesBefore}
 use Rattle.memory.specs.declared.search.Looked.{Looked}
-use Rattle.protocol.specs.Memory.{find, Query}
-use mathlib.Core.Path.{_≡_, refl, sym, ap, _∙_}
+use mathlib.Core.Path.{sym, ap, _∙_}
 use borrow.Author.Needs.{needs}
 use Rattle.memory.proofs.order.met.Statement.{statement}
 use Rattle.memory.proofs.order.met.Tie as tie
-use Rattle.memory.proofs.order.met.Reads as reads
-use Rattle.memory.proofs.order.met.Lts as lts
-use Rattle.memory.proofs.places.word_at.Reads as word-at-reads
-use Rattle.memory.proofs.search.find.Reads as find-reads
 
--- src/order.rt:69:43
 mul-find : tie.Need-mul-find
 mul-find c = search needs
 
--- src/order.rt:69:43
 shared-slice-read-find : tie.Need-shared-slice-read-find
 shared-slice-read-find c = search needs
 
--- src/order.rt:69:50
 word-at-requires : tie.Need-word-at-requires
 word-at-requires c κs = search needs
 
--- src/order.rt:69:13
 find-requires : tie.Need-find-requires
 find-requires c κs = search needs
 
--- src/order.rt:56:1
 returns : tie.Need-returns
 returns c =
-  let a = c .before .before .before .before .before .before .before .args in
-  let b = c .before .before .before .before .before .before .before .pre .0 in
-  let lo = a .lo .now in
-  let hi = a .hi .now in
-  let asker = a .asker .now in
-  ap (λ (r : Looked). r .found) (c .find .ensures)
-  ∙ rw (c .before .word-at .ensures, kept-all lo hi asker (a .p) (a .i) (within-fits _ _ _ (b .0) (b .1)))
-  (found-any (queriesBefore lo hi asker (a .p) (a .i)) (queryIn lo hi asker (a .p)))
+    let a = c .before .before .before .before .before .before .before .args in
+    let b = c .before .before .before .before .before .before .before .pre .0 in
+    let lo = a .lo .now in
+    let hi = a .hi .now in
+    let asker = a .asker .now in
+    ap (λ (r : Looked). r .found) (c .find .ensures)
+    ∙ rw (c .before .word-at .ensures, kept-all lo hi asker (a .p) (a .i) (within-fits _ _ _ (b .0) (b .1)))
+    (found-any (queriesBefore lo hi asker (a .p) (a .i)) (queryIn lo hi asker (a .p)))
 
--- src/order.rt:56:1
 returns-2 : tie.Need-returns-2
 returns-2 c = sym (c .before .before .before .before .pre .1 (c .if1 .left))
 

@@ -1,5 +1,4 @@
 use borrow.Author.Tests.{le-leb, lt-leb}
-use borrow.Author.Needs.{needs}
 use Rattle.memory.proofs.places.ring_fits.Statement.{statement}
 use Rattle.memory.proofs.places.ring_fits.Tie as tie
 

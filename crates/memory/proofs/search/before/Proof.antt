@@ -1,7 +1,6 @@
 use Rattle.laws.proofs.RingScan.{back-zero, back-pos}
 use Rattle.laws.specs.Ring.{back}
-use mathlib.Core.Path.{_≡_, sym, ap, _∙_}
-use native.Mathlib.Omega.{arith}
+use mathlib.Core.Path.{sym, ap, _∙_}
 use borrow.Author.Needs.{needs}
 use Rattle.memory.proofs.search.before.Statement.{statement}
 use Rattle.memory.proofs.search.before.Tie as tie

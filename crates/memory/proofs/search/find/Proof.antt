@@ -1,7 +1,6 @@
 use Rattle.memory.proofs.QueryLaws.{kept-all, kept-none, fits-next}
-use Rattle.memory.specs.Queries.{looked}
-use Rattle.protocol.specs.Memory.{find, Found, Query}
-use mathlib.Core.Path.{_≡_, sym, ap, _∙_}
+use Rattle.protocol.specs.Memory.{find}
+use mathlib.Core.Path.{sym, _∙_}
 use borrow.Author.Needs.{needs}
 use Rattle.memory.proofs.search.find.Statement.{statement}
 use Rattle.memory.proofs.search.find.Tie as tie

@@ -1,12 +1,11 @@
 use mathlib.Core.Logic.{⊎-elim}
 use Rattle.memory.proofs.SearchLaws.{leftOf, behind-none, left-here, left-on, left-on-too, left-end}
-use Rattle.memory.specs.Queries.{queriesBefore, looked}
+use Rattle.memory.specs.Queries.{queriesBefore}
 use Rattle.protocol.specs.Memory.{find}
-use lib.ListN.{length, getD}
-use mathlib.Core.Path.{_≡_, sym, ap, _∙_}
-use native.Mathlib.Omega.{arith}
+use lib.ListN.{length}
+use mathlib.Core.Path.{_≡_, sym, _∙_}
 use native.Mathlib.Nat.{sub-zero}
-use Prim.Native.Nat.{_-_, _≤_, _<_, _+_}
+use Prim.Native.Nat.{_-_, _≤_, _<_}
 use borrow.Author.Needs.{needs}
 use Rattle.memory.proofs.search.newest.Statement.{statement}
 use Rattle.memory.proofs.search.newest.Tie as tie
