@@ -8,3 +8,6 @@ pub mod Chunks
 pub mod Refusals
 pub mod Overlay
 pub mod Rings
+pub mod RingScan
+pub mod InPlace
+pub mod Truth
