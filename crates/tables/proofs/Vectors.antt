@@ -1,7 +1,7 @@
 -- Document 01's cases P1 to P4 and Q1 to Q3 at the level of a table, and the errors easily made, by computation. The room is 4 entries.
 use Prim.Native.Nat.{ℕ}
 use mathlib.Core.Path.{_≡_, refl}
-use mathlib.Core.Bool.{Bool, true, false}
+use mathlib.Core.Bool.{true, false}
 use mathlib.Core.List.{List, [], _∷_}
 use Rattle.keywords.specs.Keywords.{isSeparator, lower, keywordsOf, pieces, filled}
 use Rattle.keywords.specs.Hash.{xor32, hashOf, word}

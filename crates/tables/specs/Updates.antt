@@ -11,7 +11,7 @@ use Rattle.laws.specs.Parts.{over}
 use Rattle.tables.specs.declared.Table.{Table}
 use Rattle.tables.specs.declared.Updated.{Updated}
 use Rattle.tables.specs.Patch.{goodBits, numbers, added, allFit}
-use Rattle.tables.specs.Tables.{Held, heldIn, atRest, marked, waiting, running, settled, broken, goodLength, goodInfinity, ready}
+use Rattle.tables.specs.Tables.{Held, atRest, marked, waiting, running, settled, broken, goodLength, goodInfinity, ready}
 
 -- RESET: 00, length (4 bytes), Infinity
 abbrev pub lengthIn : List ℕ → ℕ

@@ -1,7 +1,7 @@
 // A PATCH against a table: whether it is in turn, whether its numbers lead outside 1..Infinity, and where it moves the run.
 ghost use mathlib.Core.Path.{_≡_};
-ghost use mathlib.Core.Bool.{Bool, true, false};
-ghost use Prim.Native.Nat.{ℕ, _+_, _≤_, _<_, _^_};
+ghost use mathlib.Core.Bool.{true, false};
+ghost use Prim.Native.Nat.{_+_, _≤_, _<_, _^_};
 ghost use lib.ListN.{length};
 ghost use Rattle.tables.specs.Tables.{heldIn, atRest};
 ghost use Rattle.tables.specs.Updates.{numbersIn, goodPatch, inTurn, inRange, patchAnswer, movedOn};

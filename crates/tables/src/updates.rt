@@ -1,7 +1,7 @@
 // Updates of one neighbour's table: RESET and PATCH, on that neighbour's part of the route area alone.
 // Everything is tested before a byte is written; a refusal changes the mark and nothing else.
 ghost use mathlib.Core.Path.{_≡_};
-ghost use Prim.Native.Nat.{ℕ, _≤_};
+ghost use Prim.Native.Nat.{_≤_};
 ghost use lib.ListN.{length, replicate};
 ghost use Rattle.laws.specs.Parts.{over};
 ghost use Rattle.tables.specs.Tables.{heldIn};

@@ -1,14 +1,10 @@
+use native.Mathlib.Omega.{arith}
+use borrow.Author.Tests.{eq-eqb, ne-eqb}
+use borrow.Author.Needs.{needs}
 use Rattle.tables.specs.Updates.{movedOn}
 use Rattle.tables.proofs.TurnLaws.{patch-fields, count-in}
-use borrow.Author.Tests.{eq-eqb, ne-eqb}
-use native.Mathlib.Omega.{arith}
-use borrow.Author.Needs.{needs}
 use Rattle.tables.proofs.turns.moved_on.Statement.{statement}
 use Rattle.tables.proofs.turns.moved_on.Tie as tie
-use Rattle.tables.proofs.turns.moved_on.Reads as reads
-use Rattle.tables.proofs.turns.moved_on.Lts as lts
-use Rattle.tables.proofs.numbers.number_count.Reads as number-count-reads
-use Rattle.tables.proofs.turns.at_rest.Reads as at-rest-reads
 
 shared-slice-read-place : tie.Need-shared-slice-read-place
 shared-slice-read-place c = let f = patch-fields (c .before .before .args .payload .now) (c .before .before .pre .0) in omega arith
@@ -36,7 +32,7 @@ cast-n : tie.Need-cast-n
 cast-n c = omega (arith, count-in (c .before .before .before .before .before .before .args .payload .now))
 
 add-t8 : tie.Need-add-t8
-add-t8 c = 
+add-t8 c =
     let f = patch-fields (c .before .before .before .before .before .before .args .payload .now) (c .before .before .before .before .before .before .pre .0) in
     omega (arith, c .before .shared-slice-known4 .given 2)
 
@@ -45,7 +41,7 @@ add-t15 c = omega (arith, count-in (c .before .before .before .before .before .b
 
 returns-2 : tie.Need-returns-2
 unfolding movedOn
-returns-2 c = 
+returns-2 c =
     rw (ne-eqb _ _ (c .before .before .before .if1 .left), c .before .number-count .ensures, count-in (c .before .before .before .before .before .before .before .args .payload .now))
 
 pub moved-on-spec : {M : Type 1} → statement M

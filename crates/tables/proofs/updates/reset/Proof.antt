@@ -1,18 +1,11 @@
-use Rattle.tables.proofs.UpdateLaws.{reset-fields, reset-refused, reset-taken}
+use mathlib.Core.Path.{sym, _∙_}
+use native.Mathlib.Omega.{arith}
 use lib.ListN.{length}
 use borrow.Author.Tests.{not-true, not-false}
-use native.Mathlib.Omega.{arith}
-use mathlib.Core.Path.{sym, _∙_}
 use borrow.Author.Needs.{needs}
+use Rattle.tables.proofs.UpdateLaws.{reset-fields, reset-refused, reset-taken}
 use Rattle.tables.proofs.updates.reset.Statement.{statement}
 use Rattle.tables.proofs.updates.reset.Tie as tie
-use Rattle.tables.proofs.updates.reset.Reads as reads
-use Rattle.tables.proofs.updates.reset.Lts as lts
-use Rattle.tables.proofs.fields.good_reset.Reads as good-reset-reads
-use Rattle.tables.proofs.fields.length_in.Reads as length-in-reads
-use Rattle.tables.proofs.turns.at_rest.Reads as at-rest-reads
-use Rattle.tables.proofs.updates.fill.Reads as fill-reads
-use Rattle.tables.proofs.updates.refused.Reads as refused-reads
 
 good-reset-requires : tie.Need-good-reset-requires
 good-reset-requires c κs = search needs
@@ -21,7 +14,7 @@ refused-requires : tie.Need-refused-requires
 refused-requires c κs = search needs
 
 returns : tie.Need-returns
-returns c = 
+returns c =
     let x = c .before .before .before .before .before .args in
     let d = reset-refused (x .table) (x .payload .now) (x .part .now) (sym (c .before .before .good-reset .ensures) ∙ not-true _ (c .before .if1 .taken)) in
     (c .refused .ensures ∙ d .result, d .entries)
@@ -45,10 +38,10 @@ same-length : tie.Need-same-length
 same-length c = search needs
 
 returns-2 : tie.Need-returns-2
-returns-2 c = 
+returns-2 c =
     let x = c .before .before .before .before .before .before .before .before .before .before .before .args in
     let d = reset-taken (x .table) (x .payload .now) (x .part .now) (sym (c .before .before .before .before .before .before .before .before .good-reset .ensures) ∙ not-false _ (c .before .before .before .before .before .before .before .if1 .left)) (c .before .before .before .before .before .before .length-in .result) (c .at-rest .result) (c .before .before .before .fill .last .0)
-      (c .before .before .before .before .before .before .length-in .ensures) (c .at-rest .ensures) (c .before .before .before .fill .ensures) in
+    (c .before .before .before .before .before .before .length-in .ensures) (c .at-rest .ensures) (c .before .before .before .fill .ensures) in
     (d .result, d .entries)
 
 pub reset-spec : {M : Type 1} → statement M
