@@ -6,6 +6,7 @@ use lib.Dec.{eqb, leb, ltb}
 use lib.ListN.{length, take}
 use Rattle.laws.specs.Tests.{any, every}
 use Rattle.tables.specs.declared.Table.{Table}
+use Rattle.tables.specs.Patch.{goodBits}
 
 -- document 01's marks: none, waiting, running, settled, broken
 abbrev pub none : ℕ
@@ -57,7 +58,7 @@ ready k = eqb k waiting || (eqb k running || eqb k settled)
 
 -- the run position: inside a run the next place, the run's size and bits and the next entry; else place 1 and entry 0 are next
 abbrev pub insideRun : Table → Bool
-insideRun t = every (leb 2 (t .place) ∷ leb (t .place) (t .size) ∷ (eqb (t .bits) 4 || eqb (t .bits) 8) ∷ leb (t .at) (t .length) ∷ [])
+insideRun t = every (leb 2 (t .place) ∷ leb (t .place) (t .size) ∷ goodBits (t .bits) ∷ leb (t .at) (t .length) ∷ [])
 
 abbrev pub betweenRuns : Table → Bool
 betweenRuns t = eqb (t .place) 1 && eqb (t .at) 0

@@ -1,0 +1,162 @@
+-- Laws of an update as a whole: what it does where it is refused, and where it is taken.
+use Prim.Native.Nat.{ℕ, _+_, _-_, _≤_, _<_, min}
+use mathlib.Core.Path.{_≡_, refl, sym, ap, ap₂, _∙_}
+use mathlib.Core.Bool.{Bool, true, false, cond, not, _&&_, _||_, and-false, or-false}
+use mathlib.Core.List.{List, [], _∷_, _++_}
+use native.Mathlib.Omega.{arith}
+use lib.Dec.{eqb, leb}
+use lib.ListN.{length, getD, take, drop, replicate, length-take, length-drop}
+use borrow.Author.Tests.{leb-true, eqb-true, eq-eqb, ne-eqb, eqb-false}
+use borrow.Rule.Slice.PartMut.{putMid}
+use Rattle.laws.specs.Tests.{firstOf}
+use Rattle.laws.specs.Parts.{over}
+use Rattle.laws.proofs.Over.{rest-whole, over-own, over-lent}
+use Rattle.tables.specs.declared.Table.{Table}
+use Rattle.tables.specs.declared.Updated.{Updated}
+use Rattle.tables.specs.Patch.{goodBits, numbers, added, allFit}
+use Rattle.tables.specs.Tables.{Held, heldIn, waiting}
+use Rattle.tables.specs.Updates.{lengthIn, infinityIn, placeIn, bitsIn, numbersIn, isPatch, resetTests, goodReset, goodPatch, inTurn, inRange, resetAnswer, resetHeld, resetBy, patchAnswer, patchedHeld, patchBy, movedOn, updateAnswer, updated, brokenBy, refusedBy, pickHeld, answered, partWith}
+use Rattle.tables.proofs.TestLaws.{both-true, every-true}
+use Rattle.tables.proofs.NumberLaws.{added-length, fit-wider}
+use Rattle.tables.proofs.TurnLaws.{turn-within, lent-entries, lent-range}
+
+-- an answer and a part, as the contract of an update has them
+pub record Done (part : List ℕ) (n : ℕ) (h : Held) (r : Updated) (left : List ℕ) : Type 0 where
+  pub result : r ≡ answered n h
+  pub entries : left ≡ partWith h part
+
+-- a refusal leaves the part as it is
+pub done-refused : (t : Table) (part : List ℕ) (n : ℕ) → Done part n (brokenBy (heldIn t part)) (refusedBy n t) part
+unfolding brokenBy
+done-refused t part n = record { result = refl; entries = sym (over-own (t .length) part) }
+
+-- RESET
+pub record ResetFields (room : ℕ) (p : List ℕ) : Type 0 where
+  pub six : length p ≡ 6
+  pub within : lengthIn p ≤ room
+
+pub reset-fields : (room : ℕ) (p : List ℕ) → goodReset room p ≡ true → ResetFields room p
+unfolding goodReset
+reset-fields room p h =
+    let e = every-true (resetTests room p) h in
+    record { six = eqb-true (length p) 6 (e .0); within = leb-true (lengthIn p) room (e .1 .1 .1 .0) }
+
+module _ (t : Table) (p part : List ℕ) where
+  pub reset-refused : goodReset (length part) p ≡ false
+      → Done part (resetAnswer (length part) p) (resetHeld (length part) (heldIn t part) p) (refusedBy 14 t) part
+  unfolding resetHeld
+  reset-refused e = rw e (done-refused t part 14)
+
+  pub reset-taken : goodReset (length part) p ≡ true → (n : ℕ) (ys : List ℕ)
+      → n ≡ lengthIn p
+      → ys ≡ over 0 (replicate n (infinityIn p)) part
+      → Done part (resetAnswer (length part) p) (resetHeld (length part) (heldIn t part) p)
+      (record { answer = 0; table = record { mark = waiting; length = n; infinity = infinityIn p; place = 1; size = 0; bits = 0; at = 0 } })
+      ys
+  unfolding resetHeld resetBy
+  reset-taken e n ys m y = rw e (record { result = rw m refl; entries = rw (y, m) refl })
+
+-- PATCH: what an answer of 0 says
+pub record Taken (h : Held) (p : List ℕ) : Type 0 where
+  pub fields : goodPatch p ≡ true
+  pub turn : inTurn h p ≡ true
+  pub range : inRange h p ≡ true
+
+pub taken : (h : Held) (p : List ℕ) → patchAnswer h p ≡ 0 → Taken h p
+taken h p e =
+    let t = by (goodPatch p) (inTurn h p) (inRange h p) e in
+    record { fields = t .0; turn = t .1; range = t .2 }
+  where
+    by : (a b c : Bool) → firstOf ((not a, 14) ∷ (not b, 15) ∷ (not c, 16) ∷ []) ≡ 0 → (a ≡ true) × (b ≡ true) × (c ≡ true)
+    by true true true e = (refl, refl, refl)
+    by true true false e = absurd (omega arith)
+    by true false c e = absurd (omega arith)
+    by false b c e = absurd (omega arith)
+
+module _ (t : Table) (p part : List ℕ) (n : ℕ) (e : n ≡ patchAnswer (heldIn t part) p) where
+  pub patch-refused : (n ≡ 0 → ⊥)
+      → Done part (patchAnswer (heldIn t part) p) (patchedHeld (heldIn t part) p) (refusedBy n t) part
+  unfolding patchedHeld
+  patch-refused z = rw (← e, ne-eqb n 0 z) (done-refused t part n)
+
+  pub patch-taken : n ≡ 0 → (end : ℕ) (ys : List ℕ) (next : Table)
+      → end ≡ min (t .length) (length part)
+      → ys ≡ added (bitsIn p) (numbers (bitsIn p) (take (length p - 5) (drop 5 p))) (take (end - t .at) (drop (t .at) part))
+      → next ≡ movedOn t p
+      → Done part (patchAnswer (heldIn t part) p) (patchedHeld (heldIn t part) p)
+      (record { answer = 0; table = next })
+      (putMid (t .at) (end - t .at) part ys)
+  unfolding patchedHeld patchBy
+  patch-taken z end ys next m a b =
+      let k : end ≡ length (take (t .length) part) = m ∙ sym (length-take (t .length) part) in
+      let w = turn-within t p part (taken (heldIn t part) p (sym e ∙ z) .turn) in
+      let y : ys ≡ added (bitsIn p) (numbersIn p) (drop (t .at) (take (t .length) part)) = rw (lent-entries t p part end m, rest-whole 5 p) at a in
+      rw (← e, z)
+      (record {
+        result = rw b refl;
+        entries =
+            rw (k, y)
+            (over-lent (t .at) (t .length) part
+            (added (bitsIn p) (numbersIn p) (drop (t .at) (take (t .length) part)))
+            (omega arith)
+            (added-length (bitsIn p) (numbersIn p) (drop (t .at) (take (t .length) part)) ∙ length-drop (t .at) (take (t .length) part)));
+      })
+
+-- the numbers that the code adds fit a byte
+pub lent-fit : (t : Table) (p part : List ℕ) (end : ℕ) → end ≡ min (t .length) (length part) → t .infinity ≤ 255
+    → inRange (heldIn t part) p ≡ true
+    → allFit (bitsIn p) 255 (numbers (bitsIn p) (take (length p - 5) (drop 5 p))) (take (end - t .at) (drop (t .at) part)) ≡ true
+lent-fit t p part end e i r =
+    fit-wider (bitsIn p) (t .infinity) 255
+    (numbers (bitsIn p) (take (length p - 5) (drop 5 p)))
+    (take (end - t .at) (drop (t .at) part))
+    i
+    (lent-range t p part end e ∙ r)
+
+-- an update is a RESET or a PATCH by itself, once its TTL and Hops are allowed
+module _ (room : ℕ) (h : Held) (p : List ℕ) where
+  no-reset : getD p 0 0 ≡ 1 → goodReset room p ≡ false
+  unfolding goodReset
+  no-reset e = rw e (and-false (eqb (length p) 6))
+
+  no-patch : (getD p 0 0 ≡ 1 → ⊥) → goodPatch p ≡ false
+  unfolding goodPatch
+  no-patch e = rw (ne-eqb (getD p 0 0) 1 e) (and-false (leb 5 (length p)))
+
+  pub patch-answer-alone : getD p 0 0 ≡ 1 → updateAnswer room h 1 0 p ≡ patchAnswer h p
+  unfolding updateAnswer
+  patch-answer-alone e = rw (no-reset e, e)
+
+  pub patch-alone : getD p 0 0 ≡ 1 → updated room h 1 0 p ≡ patchedHeld h p
+  unfolding updated patchedHeld
+  patch-alone e = rw (patch-answer-alone e, e)
+
+  pub reset-answer-alone : (getD p 0 0 ≡ 1 → ⊥) → updateAnswer room h 1 0 p ≡ resetAnswer room p
+  unfolding updateAnswer
+  reset-answer-alone e = rw (no-patch e, or-false, ne-eqb (getD p 0 0) 1 e)
+
+  pub reset-alone : (getD p 0 0 ≡ 1 → ⊥) → updated room h 1 0 p ≡ resetHeld room h p
+  unfolding updated resetHeld
+  reset-alone e = rw (reset-answer-alone e, ne-eqb (getD p 0 0) 1 e)
+
+  pub bad-ttl : (ttl hops : ℕ) → (ttl ≡ 1 → ⊥) → updateAnswer room h ttl hops p ≡ 14
+  unfolding updateAnswer
+  bad-ttl ttl hops e = rw (ne-eqb ttl 1 e)
+
+  pub bad-hops : (ttl hops : ℕ) → (hops ≡ 0 → ⊥) → updateAnswer room h ttl hops p ≡ 14
+  unfolding updateAnswer
+  bad-hops ttl hops e = rw (ne-eqb hops 0 e, and-false (eqb ttl 1))
+
+pub update-refused : (t : Table) (p part : List ℕ) (ttl hops : ℕ) → updateAnswer (length part) (heldIn t part) ttl hops p ≡ 14
+    → Done part (updateAnswer (length part) (heldIn t part) ttl hops p) (updated (length part) (heldIn t part) ttl hops p) (refusedBy 14 t) part
+unfolding updated
+update-refused t p part ttl hops e = rw e (done-refused t part 14)
+
+pub no-payload : (room : ℕ) (h : Held) (p : List ℕ) (ttl hops : ℕ) → length p ≡ 0 → updateAnswer room h ttl hops p ≡ 14
+unfolding updateAnswer goodReset goodPatch
+no-payload room h [] ttl hops e = by (eqb ttl 1 && eqb hops 0)
+  where
+    by : (a : Bool) → firstOf ((not a, 14) ∷ (true, 14) ∷ (false, 15) ∷ (false, 16) ∷ []) ≡ 14
+    by true = refl
+    by false = refl
+no-payload room h (b ∷ p) ttl hops e = absurd (omega arith)

@@ -1,0 +1,18 @@
+use borrow.Author.Tests.{lt-ltb, le-ltb, le-leb, lt-leb, eq-eqb, ne-eqb}
+use borrow.Author.Needs.{needs}
+use Rattle.tables.proofs.fields.same_run.Statement.{statement}
+use Rattle.tables.proofs.fields.same_run.Tie as tie
+use Rattle.tables.proofs.fields.same_run.Reads as reads
+use Rattle.tables.proofs.fields.same_run.Lts as lts
+
+returns : tie.Need-returns
+returns c = search (needs, lt-ltb, le-ltb, le-leb, lt-leb, eq-eqb, ne-eqb)
+
+returns-2 : tie.Need-returns-2
+returns-2 c = search (needs, lt-ltb, le-ltb, le-leb, lt-leb, eq-eqb, ne-eqb)
+
+returns-3 : tie.Need-returns-3
+returns-3 c = search (needs, lt-ltb, le-ltb, le-leb, lt-leb, eq-eqb, ne-eqb)
+
+pub same-run-spec : {M : Type 1} → statement M
+same-run-spec = tie.close (tie.spec returns returns-2 returns-3)
