@@ -5,13 +5,9 @@ use mathlib.Core.List.{List, [], _∷_, _++_, append-assoc}
 use native.Mathlib.Nat.{zero-add, sub-zero, zero-sub, suc-sub-suc}
 use native.Mathlib.Omega.{arith}
 use lib.ListN.{length, getD, take, drop, replicate, length-append, length-take, length-drop, length-replicate, take-append-drop}
-use lib.Seq.{take-nil, drop-nil, take-all, take-take, drop-drop, take-append-seam, drop-append-seam, length-take-le}
+use lib.Seq.{take-nil, drop-nil, take-take, drop-drop, take-append-seam, drop-append-seam, length-take-le}
 use borrow.Rule.Slice.PartMut.{putMid}
 use Rattle.laws.specs.Parts.{over}
-
--- `&l[k..]` is what is left of l from place k on
-pub rest-whole : (k : ℕ) (l : List ℕ) → take (length l - k) (drop k l) ≡ drop k l
-rest-whole k l = take-all (length l - k) (drop k l) (simp length-drop (omega arith))
 
 -- `&l[k..end]` where end is as far as the first n go
 pub rest-front : (l : List ℕ) (k n : ℕ) → take (length (take n l) - k) (drop k l) ≡ drop k (take n l)
@@ -33,6 +29,18 @@ over-own n l = rw zero-add (own n l)
 pub over-front : (bs l : List ℕ) → take (length bs) (over 0 bs l) ≡ bs
 over-front bs l = take-append-seam bs (drop (0 + length bs) l)
 
+-- the same where the list may be shorter than n, and so what was written
+pub over-front-of : (n : ℕ) (bs l : List ℕ) → length bs ≡ length (take n l) → take n (over 0 bs l) ≡ bs
+over-front-of n bs l h = rw zero-add (front n bs l h)
+  where
+  front : (n : ℕ) (bs l : List ℕ) → length bs ≡ length (take n l) → take n (bs ++ drop (length bs) l) ≡ bs
+  front zero [] l h = refl
+  front zero (b ∷ bs) l h = absurd (omega arith)
+  front (suc n) [] [] h = refl
+  front (suc n) [] (x ∷ l) h = absurd (omega arith)
+  front (suc n) (b ∷ bs) [] h = absurd (omega arith)
+  front (suc n) (b ∷ bs) (x ∷ l) h = let g : length bs ≡ length (take n l) = omega arith in ap (λ m. b ∷ m) (front n bs l g)
+
 -- the length stays where what is written is no longer than the list
 pub over-length : (from : ℕ) (bs l : List ℕ) → from + length bs ≤ length l → length (over from bs l) ≡ length l
 over-length from bs l h = simp (length-append, length-take, length-drop) (omega arith)
@@ -50,3 +58,7 @@ over-lent k n l ys h e =
     ap (λ z. take k l ++ (ys ++ z)) (drop-drop (length (take n l) - k) k l ∙ ap (λ j. drop j l) w)
     ∙ sym (append-assoc (take k l) ys (drop (0 + length (take k l ++ ys)) l))
     ∙ ap (λ z. over 0 (z ++ ys) l) (sym (take-take k n l m))
+
+-- `&l[k..]` is shorter than l, where k is not 0
+pub tail-shorter : (k : ℕ) (l : List ℕ) → 0 < k → k ≤ length l → length (take (length l - k) (drop k l)) < length l
+tail-shorter k l h e = simp (length-take, length-drop) (omega arith)

@@ -7,7 +7,8 @@ use native.Mathlib.Omega.{arith}
 use lib.Dec.{eqb, leb}
 use lib.ListN.{length, getD, take, drop, length-take, length-drop}
 use borrow.Author.Tests.{leb-true, eq-eqb}
-use Rattle.laws.proofs.Over.{rest-whole, rest-front}
+use Rattle.laws.proofs.Over.{rest-front}
+use Rattle.laws.proofs.Parts.{part-tail}
 use Rattle.tables.specs.declared.Table.{Table}
 use Rattle.tables.specs.Patch.{goodBits, numbers, numberCount, added, allFit}
 use Rattle.tables.specs.Tables.{heldIn, ready, running}
@@ -67,10 +68,10 @@ module _ (t : Table) (p part : List ℕ) (end : ℕ) (e : end ≡ min (t .length
   pub lent-range : allFit (bitsIn p) (t .infinity) (numbers (bitsIn p) (take (length p - 5) (drop 5 p))) (take (end - t .at) (drop (t .at) part))
       ≡ inRange (heldIn t part) p
   unfolding inRange
-  lent-range = rw (lent-entries, rest-whole 5 p)
+  lent-range = rw (lent-entries, part-tail 5 p)
 
   pub lent-room : inTurn (heldIn t part) p ≡ true
       → numberCount (bitsIn p) (length (take (length p - 5) (drop 5 p))) ≤ length (take (end - t .at) (drop (t .at) part))
   lent-room h =
-      rw (lent-entries, rest-whole 5 p)
+      rw (lent-entries, part-tail 5 p)
       (simp length-drop (rw (← count-in p) (omega (arith, turn-within t p part h))))

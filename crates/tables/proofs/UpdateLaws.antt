@@ -10,7 +10,8 @@ use borrow.Author.Tests.{leb-true, eqb-true, eq-eqb, ne-eqb, eqb-false}
 use borrow.Rule.Slice.PartMut.{putMid}
 use Rattle.laws.specs.Tests.{firstOf}
 use Rattle.laws.specs.Parts.{over}
-use Rattle.laws.proofs.Over.{rest-whole, over-own, over-lent}
+use Rattle.laws.proofs.Over.{over-own, over-lent}
+use Rattle.laws.proofs.Parts.{part-tail}
 use Rattle.tables.specs.declared.Table.{Table}
 use Rattle.tables.specs.declared.Updated.{Updated}
 use Rattle.tables.specs.Patch.{goodBits, numbers, added, allFit}
@@ -90,7 +91,7 @@ module _ (t : Table) (p part : List ℕ) (n : ℕ) (e : n ≡ patchAnswer (heldI
   patch-taken z end ys next m a b =
       let k : end ≡ length (take (t .length) part) = m ∙ sym (length-take (t .length) part) in
       let w = turn-within t p part (taken (heldIn t part) p (sym e ∙ z) .turn) in
-      let y : ys ≡ added (bitsIn p) (numbersIn p) (drop (t .at) (take (t .length) part)) = rw (lent-entries t p part end m, rest-whole 5 p) at a in
+      let y : ys ≡ added (bitsIn p) (numbersIn p) (drop (t .at) (take (t .length) part)) = rw (lent-entries t p part end m, part-tail 5 p) at a in
       rw (← e, z)
       (record {
         result = rw b refl;
@@ -115,11 +116,11 @@ lent-fit t p part end e i r =
 
 -- an update is a RESET or a PATCH by itself, once its TTL and Hops are allowed
 module _ (room : ℕ) (h : Held) (p : List ℕ) where
-  no-reset : getD p 0 0 ≡ 1 → goodReset room p ≡ false
+  pub no-reset : getD p 0 0 ≡ 1 → goodReset room p ≡ false
   unfolding goodReset
   no-reset e = rw e (and-false (eqb (length p) 6))
 
-  no-patch : (getD p 0 0 ≡ 1 → ⊥) → goodPatch p ≡ false
+  pub no-patch : (getD p 0 0 ≡ 1 → ⊥) → goodPatch p ≡ false
   unfolding goodPatch
   no-patch e = rw (ne-eqb (getD p 0 0) 1 e) (and-false (leb 5 (length p)))
 

@@ -4,7 +4,7 @@ use mathlib.Core.Bool.{Bool, true, false, cond, not, _&&_, _||_}
 use mathlib.Core.List.{List, [], _∷_}
 use lib.Dec.{eqb, leb, ltb}
 use lib.ListN.{length, take}
-use Rattle.laws.specs.Tests.{any, every}
+use Rattle.laws.specs.Tests.{any, every, all}
 use Rattle.tables.specs.declared.Table.{Table}
 use Rattle.tables.specs.Patch.{goodBits}
 
@@ -76,3 +76,11 @@ withinLimits room t =
 -- document 01, "In order", for a table: a mark among the five, and within the limits where the mark is waiting, running or settled
 unfoldable pub tableInOrder : ℕ → Table → Bool
 tableInOrder room t = leb (t .mark) broken && (not (ready (t .mark)) || withinLimits room t)
+
+-- an entry in 1..Infinity
+abbrev pub inBounds : ℕ → ℕ → Bool
+inBounds infinity e = leb 1 e && leb e infinity
+
+-- entries in 1..Infinity, where the mark is waiting, running or settled
+unfoldable pub entriesInBounds : Held → Bool
+entriesInBounds h = not (ready (h .table .mark)) || all (inBounds (h .table .infinity)) (h .entries)

@@ -1,7 +1,9 @@
 // Floor 2: one neighbour's route table: updates read on its part of the route area, and whether it withholds a query.
 // Nothing here knows of lines or neighbours.
+pub mod admission;
 mod fields;
 mod numbers;
+pub mod order;
 mod turns;
 pub mod updates;
 

@@ -1,0 +1,34 @@
+use Rattle.tables.specs.Tables.{tableInOrder}
+use borrow.Author.Tests.{lt-ltb, le-ltb, le-leb, lt-leb, eq-eqb, ne-eqb, not-true, not-false}
+use native.Mathlib.Omega.{arith}
+use mathlib.Core.Bool.{and-true}
+use mathlib.Core.Path.{sym, _∙_}
+use borrow.Author.Needs.{needs}
+use Rattle.tables.proofs.order.in_order.Statement.{statement}
+use Rattle.tables.proofs.order.in_order.Tie as tie
+use Rattle.tables.proofs.order.in_order.Reads as reads
+use Rattle.tables.proofs.order.in_order.Lts as lts
+use Rattle.tables.proofs.fields.takes_patch.Reads as takes-patch-reads
+use Rattle.tables.proofs.order.within_limits.Reads as within-limits-reads
+
+returns : tie.Need-returns
+unfolding tableInOrder
+returns c = rw (lt-leb _ _ (c .if1 .taken))
+
+takes-patch-requires : tie.Need-takes-patch-requires
+takes-patch-requires c κs = search needs
+
+within-limits-requires : tie.Need-within-limits-requires
+within-limits-requires c κs = search needs
+
+returns-2 : tie.Need-returns-2
+unfolding tableInOrder
+returns-2 c = rw (le-leb _ _ (c .before .before .before .if1 .left), sym (c .before .before .takes-patch .ensures) ∙ c .before .if2 .taken) (c .within-limits .ensures)
+
+returns-3 : tie.Need-returns-3
+unfolding tableInOrder
+returns-3 c = rw (le-leb _ _ (c .before .before .if1 .left), sym (c .before .takes-patch .ensures) ∙ c .if2 .left)
+
+pub in-order-spec : {M : Type 1} → statement M
+in-order-spec =
+    tie.close (tie.spec returns takes-patch-requires within-limits-requires returns-2 returns-3)
