@@ -1,11 +1,11 @@
 -- Laws of a list written over another, and of a part that is lent and comes back.
 use Prim.Native.Nat.{ℕ, zero, suc, _+_, _-_, _≤_, _<_}
-use mathlib.Core.Path.{_≡_, refl, sym, ap, ap₂, _∙_}
+use mathlib.Core.Path.{_≡_, refl, sym, ap, _∙_}
 use mathlib.Core.List.{List, [], _∷_, _++_, append-assoc}
 use native.Mathlib.Nat.{zero-add, sub-zero, zero-sub, suc-sub-suc}
 use native.Mathlib.Omega.{arith}
-use lib.ListN.{length, getD, take, drop, replicate, length-append, length-take, length-drop, length-replicate, take-append-drop}
-use lib.Seq.{take-nil, drop-nil, take-take, drop-drop, take-append-seam, drop-append-seam, length-take-le}
+use lib.ListN.{length, take, drop, replicate, length-append, length-take, length-drop, length-replicate}
+use lib.Seq.{take-nil, drop-nil, take-take, drop-drop, take-append-seam}
 use borrow.Rule.Slice.PartMut.{putMid}
 use Rattle.laws.specs.Parts.{over}
 
@@ -33,13 +33,13 @@ over-front bs l = take-append-seam bs (drop (0 + length bs) l)
 pub over-front-of : (n : ℕ) (bs l : List ℕ) → length bs ≡ length (take n l) → take n (over 0 bs l) ≡ bs
 over-front-of n bs l h = rw zero-add (front n bs l h)
   where
-  front : (n : ℕ) (bs l : List ℕ) → length bs ≡ length (take n l) → take n (bs ++ drop (length bs) l) ≡ bs
-  front zero [] l h = refl
-  front zero (b ∷ bs) l h = absurd (omega arith)
-  front (suc n) [] [] h = refl
-  front (suc n) [] (x ∷ l) h = absurd (omega arith)
-  front (suc n) (b ∷ bs) [] h = absurd (omega arith)
-  front (suc n) (b ∷ bs) (x ∷ l) h = let g : length bs ≡ length (take n l) = omega arith in ap (λ m. b ∷ m) (front n bs l g)
+    front : (n : ℕ) (bs l : List ℕ) → length bs ≡ length (take n l) → take n (bs ++ drop (length bs) l) ≡ bs
+    front zero [] l h = refl
+    front zero (b ∷ bs) l h = absurd (omega arith)
+    front (suc n) [] [] h = refl
+    front (suc n) [] (x ∷ l) h = absurd (omega arith)
+    front (suc n) (b ∷ bs) [] h = absurd (omega arith)
+    front (suc n) (b ∷ bs) (x ∷ l) h = let g : length bs ≡ length (take n l) = omega arith in ap (λ m. b ∷ m) (front n bs l g)
 
 -- the length stays where what is written is no longer than the list
 pub over-length : (from : ℕ) (bs l : List ℕ) → from + length bs ≤ length l → length (over from bs l) ≡ length l

@@ -1,20 +1,19 @@
 -- What every update keeps, and what each answer says: over the definitions that the contracts cite.
-use Prim.Native.Nat.{ℕ, zero, suc, _+_, _-_, _≤_, _<_, min}
-use mathlib.Core.Path.{_≡_, refl, sym, ap, ap₂, _∙_}
+use Prim.Native.Nat.{ℕ, zero, suc, _+_}
+use mathlib.Core.Path.{_≡_, refl, sym, _∙_}
 use mathlib.Core.Logic.{_⊎_, inl, inr, ⊎-elim}
-use mathlib.Core.Bool.{Bool, true, false, cond, not, _&&_, _||_, false≢true, or-false, or-true}
+use mathlib.Core.Bool.{Bool, true, false, cond, not, _&&_, _||_, or-false, or-true}
 use mathlib.Core.List.{List, [], _∷_, _++_}
 use native.Mathlib.Omega.{arith}
-use lib.Dec.{eqb, leb, ltb}
-use lib.ListN.{length, getD, take, drop, replicate, length-take, length-drop, length-append, length-replicate, take-append-drop}
-use borrow.Author.Tests.{leb-true, eqb-true, eq-eqb, ne-eqb, eqb-false, le-leb, not-false}
-use Rattle.laws.specs.Tests.{firstOf, every, all}
-use Rattle.laws.specs.Parts.{over}
-use Rattle.laws.proofs.Over.{over-own, over-front-of, over-length}
+use lib.Dec.{eqb, leb}
+use lib.ListN.{length, getD, take, drop, replicate, length-take, length-drop, length-append, length-replicate}
+use borrow.Author.Tests.{leb-true, eqb-true, ne-eqb, eqb-false, le-leb, not-false}
+use Rattle.laws.specs.Tests.{firstOf, all}
+use Rattle.laws.proofs.Over.{over-own, over-front-of}
 use Rattle.tables.specs.declared.Table.{Table}
-use Rattle.tables.specs.Patch.{goodBits, gain, loss, sumOf, fits, numbers, added, allFit}
-use Rattle.tables.specs.Tables.{Held, heldIn, marked, broken, running, settled, ready, goodLength, goodInfinity, insideRun, betweenRuns, withinLimits, tableInOrder, inBounds, entriesInBounds}
-use Rattle.tables.specs.Updates.{lengthIn, infinityIn, placeIn, sizeIn, bitsIn, numbersIn, isLast, isPatch, resetTests, turnTests, goodReset, goodPatch, inTurn, inRange, resetBy, patchBy, movedOn, updateAnswer, updated, brokenBy, pickHeld, partWith}
+use Rattle.tables.specs.Patch.{sumOf, fits, added, allFit}
+use Rattle.tables.specs.Tables.{Held, heldIn, atRest, marked, broken, running, settled, ready, goodLength, goodInfinity, insideRun, betweenRuns, withinLimits, tableInOrder, inBounds, entriesInBounds}
+use Rattle.tables.specs.Updates.{lengthIn, infinityIn, placeIn, sizeIn, bitsIn, numbersIn, isLast, isPatch, resetTests, turnTests, goodReset, goodPatch, inTurn, inRange, resetBy, patchBy, onward, movedOn, updateAnswer, updated, brokenBy, pickHeld, partWith}
 use Rattle.tables.proofs.TestLaws.{both-true, every-true}
 use Rattle.tables.proofs.NumberLaws.{added-length, fitting}
 use Rattle.tables.proofs.TurnLaws.{PatchFields, patch-fields, turn-within}
@@ -108,16 +107,16 @@ module _ (room : ℕ) (h : Held) (ttl hops : ℕ) (p : List ℕ) where
   pub ways : Refused room h ttl hops p ⊎ (Reset room h ttl hops p ⊎ Patched room h ttl hops p)
   ways = by (eqb n 0) refl
     where
-    by : (z : Bool) → eqb n 0 ≡ z → Refused room h ttl hops p ⊎ (Reset room h ttl hops p ⊎ Patched room h ttl hops p)
-    by true e = inr (taken-way (eqb-true n 0 e) (isPatch p) refl)
-    by false e = inl (refused-way e)
+      by : (z : Bool) → eqb n 0 ≡ z → Refused room h ttl hops p ⊎ (Reset room h ttl hops p ⊎ Patched room h ttl hops p)
+      by true e = inr (taken-way (eqb-true n 0 e) (isPatch p) refl)
+      by false e = inl (refused-way e)
 
 -- ---- a refused update changes the mark alone, and no entry
 
 pub refusal-keeps : (t : Table) (part : List ℕ) (ttl hops : ℕ) (p : List ℕ)
     → (updateAnswer (length part) (heldIn t part) ttl hops p ≡ 0 → ⊥)
     → (updated (length part) (heldIn t part) ttl hops p .table ≡ marked broken t)
-      × (partWith (updated (length part) (heldIn t part) ttl hops p) part ≡ part)
+    × (partWith (updated (length part) (heldIn t part) ttl hops p) part ≡ part)
 unfolding updated brokenBy
 refusal-keeps t part ttl hops p h =
     rw (ne-eqb (updateAnswer (length part) (heldIn t part) ttl hops p) 0 h) (refl, over-own (t .length) part)
@@ -134,13 +133,13 @@ unfolding tableInOrder
 limits room t o r =
     let w : withinLimits room t ≡ true = rw r at (both-true (leb (t .mark) broken) (not (ready (t .mark)) || withinLimits room t) o .1) in
     let e =
-      every-true
-      (goodLength (t .length)
-      ∷ leb (t .length) room
-      ∷ goodInfinity (t .infinity)
-      ∷ cond (eqb (t .mark) running) (insideRun t) (betweenRuns t)
-      ∷ [])
-      w in
+    every-true
+    (goodLength (t .length)
+    ∷ leb (t .length) room
+    ∷ goodInfinity (t .infinity)
+    ∷ cond (eqb (t .mark) running) (insideRun t) (betweenRuns t)
+    ∷ [])
+    w in
     record { length = e .0; fits = e .1 .0; infinity = e .1 .1 .0 }
 
 module _ (room : ℕ) (t : Table) (part : List ℕ) (ttl hops : ℕ) (p : List ℕ) (o : tableInOrder room t ≡ true) where
@@ -160,19 +159,20 @@ module _ (room : ℕ) (t : Table) (part : List ℕ) (ttl hops : ℕ) (p : List �
       let l = limits room t o (every-true (turnTests (heldIn t part) p) u .0) in
       by (isLast p) refl l (patch-fields p g)
     where
-    by : (z : Bool) → isLast p ≡ z → Limits room t → PatchFields p → tableInOrder room (movedOn t p) ≡ true
-    by true e l f = rw (e, l .length, l .fits, l .infinity)
-    by false e l f =
-        let d = eqb-false (placeIn p) (sizeIn p) e in
-        rw
-        (e,
-        l .length,
-        l .fits,
-        l .infinity,
-        le-leb 2 (placeIn p + 1) (omega arith),
-        le-leb (placeIn p + 1) (sizeIn p) (omega arith),
-        f .width,
-        le-leb (t .at + length (numbersIn p)) (t .length) (omega (arith, turn-within t p part u, length-take (t .length) part)))
+      by : (z : Bool) → isLast p ≡ z → Limits room t → PatchFields p → tableInOrder room (movedOn t p) ≡ true
+      by true e l f = rw (e, l .length, l .fits, l .infinity)
+      by false e l f =
+          let d = eqb-false (placeIn p) (sizeIn p) e in
+          rw (
+            e,
+            l .length,
+            l .fits,
+            l .infinity,
+            le-leb 2 (placeIn p + 1) (omega arith),
+            le-leb (placeIn p + 1) (sizeIn p) (omega arith),
+            f .width,
+            le-leb (t .at + length (numbersIn p)) (t .length) (omega (arith, turn-within t p part u, length-take (t .length) part)),
+          )
 
   pub keeps-order : tableInOrder room (updated room (heldIn t part) ttl hops p .table) ≡ true
   keeps-order =
@@ -183,21 +183,17 @@ module _ (room : ℕ) (t : Table) (part : List ℕ) (ttl hops : ℕ) (p : List �
 
 -- ---- what stands in the part after an update is what the update made
 
-moved-length : (t : Table) (p : List ℕ) → movedOn t p .length ≡ t .length
+-- what neither end of a PATCH changes in a table stays
+moved-keeps : (f : Table → ℕ) (t : Table) (p : List ℕ)
+    → f (atRest settled (t .length) (t .infinity)) ≡ f t
+    → f (onward t p) ≡ f t
+    → f (movedOn t p) ≡ f t
 unfolding movedOn
-moved-length t p = by (isLast p) refl
+moved-keeps f t p a b = by (isLast p)
   where
-  by : (z : Bool) → isLast p ≡ z → movedOn t p .length ≡ t .length
-  by true e = rw e
-  by false e = rw e
-
-moved-infinity : (t : Table) (p : List ℕ) → movedOn t p .infinity ≡ t .infinity
-unfolding movedOn
-moved-infinity t p = by (isLast p) refl
-  where
-  by : (z : Bool) → isLast p ≡ z → movedOn t p .infinity ≡ t .infinity
-  by true e = rw e
-  by false e = rw e
+    by : (z : Bool) → f (cond z (atRest settled (t .length) (t .infinity)) (onward t p)) ≡ f t
+    by true = a
+    by false = b
 
 -- a PATCH leaves as many entries as there were
 pub patched-length : (h : Held) (p : List ℕ) → inTurn h p ≡ true → length (patchBy h p .entries) ≡ length (h .entries)
@@ -225,9 +221,10 @@ module _ (t : Table) (part : List ℕ) (ttl hops : ℕ) (p : List ℕ) where
   after-patched : inTurn (heldIn t part) p ≡ true → heldIn (patchBy (heldIn t part) p .table) (partWith (patchBy (heldIn t part) p) part) ≡ patchBy (heldIn t part) p
   unfolding patchBy
   after-patched u =
-      rw
-      (moved-length t p,
-      over-front-of (t .length) (patchBy (heldIn t part) p .entries) part (patched-length (heldIn t part) p u))
+      rw (
+        moved-keeps (λ u. u .length) t p refl refl,
+        over-front-of (t .length) (patchBy (heldIn t part) p .entries) part (patched-length (heldIn t part) p u),
+      )
 
   pub held-after : heldIn (after .table) (partWith after part) ≡ after
   held-after =
@@ -266,9 +263,10 @@ added-bounds bits infinity (v ∷ vs) [] a b = refl
 added-bounds bits infinity (v ∷ vs) (e ∷ es) a b =
     let t = both-true (fits bits infinity v e) (allFit bits infinity vs es) a in
     let f = fitting bits infinity v e (t .0) in
-    rw
-    (le-leb 1 (sumOf bits v e) (omega arith),
-    le-leb (sumOf bits v e) infinity (omega arith))
+    rw (
+      le-leb 1 (sumOf bits v e) (omega arith),
+      le-leb (sumOf bits v e) infinity (omega arith),
+    )
     (added-bounds bits infinity vs es (t .1) (both-true (inBounds infinity e) (all (inBounds infinity) es) b .1))
 
 module _ (room : ℕ) (h : Held) (ttl hops : ℕ) (p : List ℕ) where
@@ -290,9 +288,9 @@ module _ (room : ℕ) (h : Held) (ttl hops : ℕ) (p : List ℕ) where
       let i = h .table .infinity in
       let a : all (inBounds i) (h .entries) ≡ true = rw (every-true (turnTests h p) u .0) at b in
       let s = all-append (inBounds i) (take (h .table .at) (h .entries)) (added (bitsIn p) (numbersIn p) (drop (h .table .at) (h .entries)))
-        (all-take (inBounds i) (h .table .at) (h .entries) a)
-        (added-bounds (bitsIn p) i (numbersIn p) (drop (h .table .at) (h .entries)) r (all-drop (inBounds i) (h .table .at) (h .entries) a)) in
-      rw (moved-infinity (h .table) p, s, or-true)
+      (all-take (inBounds i) (h .table .at) (h .entries) a)
+      (added-bounds (bitsIn p) i (numbersIn p) (drop (h .table .at) (h .entries)) r (all-drop (inBounds i) (h .table .at) (h .entries) a)) in
+      rw (moved-keeps (λ u. u .infinity) (h .table) p refl refl, s, or-true)
 
   pub keeps-bounds : entriesInBounds h ≡ true → entriesInBounds (updated room h ttl hops p) ≡ true
   keeps-bounds b =
@@ -301,7 +299,7 @@ module _ (room : ℕ) (h : Held) (ttl hops : ℕ) (p : List ℕ) where
       (⊎-elim (λ w. rw (w .left) (bounds-reset (w .fields))) (λ w. rw (w .left) (bounds-patched b (w .turn) (w .range))))
       (ways room h ttl hops p)
 
--- ---- exactly when each answer is given
+  -- ---- exactly when each answer is given
 
   abbrev sent : Bool
   sent = eqb ttl 1 && eqb hops 0
@@ -341,7 +339,7 @@ module _ (room : ℕ) (h : Held) (ttl hops : ℕ) (p : List ℕ) where
   unfolding updateAnswer
   reset-never e = rw e (by sent (goodReset room p || goodPatch p))
     where
-    by : (a b : Bool) → (answerOf a b false false ≡ 0) ⊎ (answerOf a b false false ≡ 14)
-    by true true = inl refl
-    by true false = inr refl
-    by false b = inr refl
+      by : (a b : Bool) → (answerOf a b false false ≡ 0) ⊎ (answerOf a b false false ≡ 14)
+      by true true = inl refl
+      by true false = inr refl
+      by false b = inr refl

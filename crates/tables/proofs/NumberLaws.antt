@@ -1,17 +1,17 @@
 -- Laws of the numbers of a PATCH, over the bits of a number.
 use Prim.Native.Nat.{ℕ, zero, suc, _+_, _-_, _*_, _/_, _%_, _^_, _≤_, _<_}
-use mathlib.Core.Path.{_≡_, refl, sym, ap, ap₂, _∙_}
+use mathlib.Core.Path.{_≡_, refl, sym, ap, _∙_}
 use mathlib.Core.Logic.{⊎-elim}
-use mathlib.Core.Bool.{Bool, true, false, cond, _&&_, _||_, false≢true, and-assoc, and-true}
+use mathlib.Core.Bool.{Bool, true, false, cond, _&&_, false≢true, and-assoc, and-true}
 use mathlib.Core.List.{List, [], _∷_, _++_}
 use native.Mathlib.Omega.{arith}
+use native.Mathlib.Numerals.{add-one}
 use lib.Dec.{eqb, leb, ltb}
 use lib.ListN.{length, getD, take, drop, set, length-set, take-append-drop, drop-of-length-le}
 use lib.Seq.{drop-cons, take-suc-set, drop-set-lt, append-snoc}
-use native.Mathlib.Numerals.{add-one}
-use borrow.Author.Tests.{eqb-true, ne-eqb, lt-ltb, le-ltb, le-leb, lt-leb, ltb-true, leb-true}
-use Rattle.tables.proofs.TestLaws.{either, both-true}
+use borrow.Author.Tests.{eqb-true, ne-eqb, lt-ltb, le-ltb, le-leb, ltb-true, leb-true}
 use Rattle.tables.specs.Patch.{goodBits, numbers, numberCount, half, gain, loss, fits, sumOf, allFit, added}
+use Rattle.tables.proofs.TestLaws.{either, both-true}
 
 -- what is known of a width: its whole range is twice its half, which is at most 128
 pub record Width (bits : ℕ) : Type 0 where

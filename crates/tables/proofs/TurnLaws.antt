@@ -1,16 +1,16 @@
 -- Laws of a PATCH against a table: what its tests say, and the parts of payload and table that the code lends.
-use Prim.Native.Nat.{ℕ, _+_, _-_, _≤_, _<_, _^_, min}
-use mathlib.Core.Path.{_≡_, refl, sym, ap, ap₂, _∙_}
-use mathlib.Core.Bool.{Bool, true, false, cond, not, _&&_, _||_, and-true}
-use mathlib.Core.List.{List, [], _∷_, _++_}
+use Prim.Native.Nat.{ℕ, _+_, _-_, _≤_, min}
+use mathlib.Core.Path.{_≡_, sym, ap, _∙_}
+use mathlib.Core.Bool.{Bool, true, not, _&&_, _||_, and-true}
+use mathlib.Core.List.{List}
 use native.Mathlib.Omega.{arith}
 use lib.Dec.{eqb, leb}
-use lib.ListN.{length, getD, take, drop, length-take, length-drop}
+use lib.ListN.{length, take, drop, length-take, length-drop}
 use borrow.Author.Tests.{leb-true, eq-eqb}
 use Rattle.laws.proofs.Over.{rest-front}
 use Rattle.laws.proofs.Parts.{part-tail}
 use Rattle.tables.specs.declared.Table.{Table}
-use Rattle.tables.specs.Patch.{goodBits, numbers, numberCount, added, allFit}
+use Rattle.tables.specs.Patch.{goodBits, numbers, numberCount, allFit}
 use Rattle.tables.specs.Tables.{heldIn, ready, running}
 use Rattle.tables.specs.Updates.{placeIn, sizeIn, bitsIn, numbersIn, isLast, patchTests, turnTests, goodPatch, inTurn, inRange}
 use Rattle.tables.proofs.TestLaws.{every-true}
@@ -38,6 +38,16 @@ patch-fields p h =
 pub turn-within : (t : Table) (p part : List ℕ) → inTurn (heldIn t part) p ≡ true → t .at + length (numbersIn p) ≤ length (take (t .length) part)
 unfolding inTurn
 turn-within t p part h = leb-true _ _ (every-true (turnTests (heldIn t part) p) h .1 .1 .1 .0)
+
+-- what a PATCH has that is as it must be and in turn
+pub record Awaited (t : Table) (p part : List ℕ) : Type 0 where
+  pub fields : PatchFields p
+  pub within : t .at + length (numbersIn p) ≤ length (take (t .length) part)
+  pub end : length (take (t .length) part) ≡ min (t .length) (length part)
+
+pub awaited : (t : Table) (p part : List ℕ) → goodPatch p ≡ true → inTurn (heldIn t part) p ≡ true → Awaited t p part
+awaited t p part g u =
+    record { fields = patch-fields p g; within = turn-within t p part u; end = length-take (t .length) part }
 
 -- how many numbers a PATCH brings
 pub count-in : (p : List ℕ) → length (numbersIn p) ≡ numberCount (bitsIn p) (length p - 5)

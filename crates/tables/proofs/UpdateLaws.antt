@@ -1,12 +1,12 @@
 -- Laws of an update as a whole: what it does where it is refused, and where it is taken.
-use Prim.Native.Nat.{ℕ, _+_, _-_, _≤_, _<_, min}
-use mathlib.Core.Path.{_≡_, refl, sym, ap, ap₂, _∙_}
-use mathlib.Core.Bool.{Bool, true, false, cond, not, _&&_, _||_, and-false, or-false}
-use mathlib.Core.List.{List, [], _∷_, _++_}
+use Prim.Native.Nat.{ℕ, _-_, _≤_, min}
+use mathlib.Core.Path.{_≡_, refl, sym, _∙_}
+use mathlib.Core.Bool.{Bool, true, false, not, _&&_, and-false, or-false}
+use mathlib.Core.List.{List, [], _∷_}
 use native.Mathlib.Omega.{arith}
 use lib.Dec.{eqb, leb}
 use lib.ListN.{length, getD, take, drop, replicate, length-take, length-drop}
-use borrow.Author.Tests.{leb-true, eqb-true, eq-eqb, ne-eqb, eqb-false}
+use borrow.Author.Tests.{leb-true, eqb-true, ne-eqb}
 use borrow.Rule.Slice.PartMut.{putMid}
 use Rattle.laws.specs.Tests.{firstOf}
 use Rattle.laws.specs.Parts.{over}
@@ -14,10 +14,10 @@ use Rattle.laws.proofs.Over.{over-own, over-lent}
 use Rattle.laws.proofs.Parts.{part-tail}
 use Rattle.tables.specs.declared.Table.{Table}
 use Rattle.tables.specs.declared.Updated.{Updated}
-use Rattle.tables.specs.Patch.{goodBits, numbers, added, allFit}
-use Rattle.tables.specs.Tables.{Held, heldIn, waiting}
-use Rattle.tables.specs.Updates.{lengthIn, infinityIn, placeIn, bitsIn, numbersIn, isPatch, resetTests, goodReset, goodPatch, inTurn, inRange, resetAnswer, resetHeld, resetBy, patchAnswer, patchedHeld, patchBy, movedOn, updateAnswer, updated, brokenBy, refusedBy, pickHeld, answered, partWith}
-use Rattle.tables.proofs.TestLaws.{both-true, every-true}
+use Rattle.tables.specs.Patch.{numbers, added, allFit}
+use Rattle.tables.specs.Tables.{Held, heldIn, atRest, waiting}
+use Rattle.tables.specs.Updates.{lengthIn, infinityIn, bitsIn, numbersIn, resetTests, goodReset, goodPatch, inTurn, inRange, resetAnswer, resetHeld, resetBy, patchAnswer, patchedHeld, patchBy, movedOn, updateAnswer, updated, brokenBy, refusedBy, answered, partWith}
+use Rattle.tables.proofs.TestLaws.{every-true}
 use Rattle.tables.proofs.NumberLaws.{added-length, fit-wider}
 use Rattle.tables.proofs.TurnLaws.{turn-within, lent-entries, lent-range}
 
@@ -48,14 +48,13 @@ module _ (t : Table) (p part : List ℕ) where
   unfolding resetHeld
   reset-refused e = rw e (done-refused t part 14)
 
-  pub reset-taken : goodReset (length part) p ≡ true → (n : ℕ) (ys : List ℕ)
+  pub reset-taken : goodReset (length part) p ≡ true → (n : ℕ) (next : Table) (ys : List ℕ)
       → n ≡ lengthIn p
+      → next ≡ atRest waiting n (infinityIn p)
       → ys ≡ over 0 (replicate n (infinityIn p)) part
-      → Done part (resetAnswer (length part) p) (resetHeld (length part) (heldIn t part) p)
-      (record { answer = 0; table = record { mark = waiting; length = n; infinity = infinityIn p; place = 1; size = 0; bits = 0; at = 0 } })
-      ys
+      → Done part (resetAnswer (length part) p) (resetHeld (length part) (heldIn t part) p) (record { answer = 0; table = next }) ys
   unfolding resetHeld resetBy
-  reset-taken e n ys m y = rw e (record { result = rw m refl; entries = rw (y, m) refl })
+  reset-taken e n next ys m x y = rw e (record { result = rw (x, m) refl; entries = rw (y, m) refl })
 
 -- PATCH: what an answer of 0 says
 pub record Taken (h : Held) (p : List ℕ) : Type 0 where

@@ -1,8 +1,8 @@
 -- A route table with its entries, its marks, and when it is in order.
-use Prim.Native.Nat.{ℕ, _+_}
-use mathlib.Core.Bool.{Bool, true, false, cond, not, _&&_, _||_}
+use Prim.Native.Nat.{ℕ}
+use mathlib.Core.Bool.{Bool, cond, not, _&&_, _||_}
 use mathlib.Core.List.{List, [], _∷_}
-use lib.Dec.{eqb, leb, ltb}
+use lib.Dec.{eqb, leb}
 use lib.ListN.{length, take}
 use Rattle.laws.specs.Tests.{any, every, all}
 use Rattle.tables.specs.declared.Table.{Table}
@@ -36,6 +36,10 @@ heldIn t part = record { table = t; entries = take (t .length) part }
 -- no table
 abbrev pub noTable : Table
 noTable = record { mark = none; length = 0; infinity = 0; place = 0; size = 0; bits = 0; at = 0 }
+
+-- a table between runs: place 1 and the first entry are next
+abbrev pub atRest : ℕ → ℕ → ℕ → Table
+atRest k n i = record { mark = k; length = n; infinity = i; place = 1; size = 0; bits = 0; at = 0 }
 
 -- only the mark is another
 abbrev pub marked : ℕ → Table → Table

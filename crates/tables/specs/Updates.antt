@@ -11,7 +11,7 @@ use Rattle.laws.specs.Parts.{over}
 use Rattle.tables.specs.declared.Table.{Table}
 use Rattle.tables.specs.declared.Updated.{Updated}
 use Rattle.tables.specs.Patch.{goodBits, numbers, added, allFit}
-use Rattle.tables.specs.Tables.{Held, heldIn, marked, waiting, running, settled, broken, goodLength, goodInfinity, ready}
+use Rattle.tables.specs.Tables.{Held, atRest, marked, waiting, running, settled, broken, goodLength, goodInfinity, ready}
 
 -- RESET: 00, length (4 bytes), Infinity
 abbrev pub lengthIn : List ℕ → ℕ
@@ -103,18 +103,12 @@ updateAnswer room h ttl hops p =
 
 -- an accepted RESET: every entry Infinity, mark waiting, place 1 and the first entry next
 unfoldable pub resetBy : List ℕ → Held
-resetBy p =
-    record {
-      table = record { mark = waiting; length = lengthIn p; infinity = infinityIn p; place = 1; size = 0; bits = 0; at = 0 };
-      entries = replicate (lengthIn p) (infinityIn p);
-    }
+resetBy p = record { table = atRest waiting (lengthIn p) (infinityIn p); entries = replicate (lengthIn p) (infinityIn p) }
 
 -- an accepted PATCH moves the run on; its last message settles the table, and place 1 and the first entry are next
-unfoldable pub movedOn : Table → List ℕ → Table
-movedOn t p =
-    cond (isLast p)
-    (record { mark = settled; length = t .length; infinity = t .infinity; place = 1; size = 0; bits = 0; at = 0 })
-    (record {
+abbrev pub onward : Table → List ℕ → Table
+onward t p =
+    record {
       mark = running;
       length = t .length;
       infinity = t .infinity;
@@ -122,7 +116,10 @@ movedOn t p =
       size = sizeIn p;
       bits = bitsIn p;
       at = t .at + length (numbersIn p);
-    })
+    }
+
+unfoldable pub movedOn : Table → List ℕ → Table
+movedOn t p = cond (isLast p) (atRest settled (t .length) (t .infinity)) (onward t p)
 
 unfoldable pub patchBy : Held → List ℕ → Held
 patchBy h p =

@@ -1,7 +1,7 @@
 // The numbers of a PATCH, of 4 or 8 bits each: read one by one, tried against entries, and added to them.
 ghost use mathlib.Core.Path.{_≡_};
-ghost use mathlib.Core.Bool.{Bool, true, false, _&&_};
-ghost use Prim.Native.Nat.{ℕ, _+_, _-_, _≤_, _<_, _^_};
+ghost use mathlib.Core.Bool.{true, false, _&&_};
+ghost use Prim.Native.Nat.{_+_, _-_, _≤_, _<_, _^_};
 ghost use lib.ListN.{length, getD};
 ghost use Rattle.tables.specs.Patch.{goodBits, numbers, numberCount, half, gain, loss, fits, sumOf, allFit, added};
 

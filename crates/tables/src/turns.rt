@@ -1,9 +1,9 @@
 // A PATCH against a table: whether it is in turn, whether its numbers lead outside 1..Infinity, and where it moves the run.
 ghost use mathlib.Core.Path.{_≡_};
-ghost use mathlib.Core.Bool.{Bool, true, false};
-ghost use Prim.Native.Nat.{ℕ, _+_, _≤_, _<_, _^_};
+ghost use mathlib.Core.Bool.{true, false};
+ghost use Prim.Native.Nat.{_+_, _≤_, _<_, _^_};
 ghost use lib.ListN.{length};
-ghost use Rattle.tables.specs.Tables.{heldIn};
+ghost use Rattle.tables.specs.Tables.{heldIn, atRest};
 ghost use Rattle.tables.specs.Updates.{numbersIn, goodPatch, inTurn, inRange, patchAnswer, movedOn};
 use crate::RUNNING;
 use crate::SETTLED;
@@ -66,6 +66,21 @@ pub(crate) fn patch_answer(table: Table, payload: &[u8], part: &[u8]) -> u8
     0
 }
 
+// A table between runs: place 1 and the first entry are next.
+pub(crate) fn at_rest(mark: u8, length: u32, infinity: u8) -> Table
+    ensures { λ r. ⌜ r ≡ atRest mark length infinity ⌝ }
+{
+    Table {
+        mark,
+        length,
+        infinity,
+        place: 1,
+        size: 0,
+        bits: 0,
+        at: 0,
+    }
+}
+
 // The table once the PATCH is added: inside its run, or settled by the run's last message.
 pub(crate) fn moved_on(table: Table, payload: &[u8]) -> Table
     requires { ⌜ goodPatch (now payload) ≡ true ⌝ }
@@ -75,15 +90,7 @@ pub(crate) fn moved_on(table: Table, payload: &[u8]) -> Table
     let place = payload[1];
     let size = payload[2];
     if place == size {
-        return Table {
-            mark: SETTLED,
-            length: table.length,
-            infinity: table.infinity,
-            place: 1,
-            size: 0,
-            bits: 0,
-            at: 0,
-        };
+        return at_rest(SETTLED, table.length, table.infinity);
     }
     let bits = payload[4];
     let n = number_count(bits, payload.len() - 5) as u32;

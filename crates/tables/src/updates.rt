@@ -1,7 +1,7 @@
 // Updates of one neighbour's table: RESET and PATCH, on that neighbour's part of the route area alone.
 // Everything is tested before a byte is written; a refusal changes the mark and nothing else.
 ghost use mathlib.Core.Path.{_≡_};
-ghost use Prim.Native.Nat.{ℕ, _≤_};
+ghost use Prim.Native.Nat.{_≤_};
 ghost use lib.ListN.{length, replicate};
 ghost use Rattle.laws.specs.Parts.{over};
 ghost use Rattle.tables.specs.Tables.{heldIn};
@@ -14,6 +14,7 @@ use crate::fields::entry_count;
 use crate::fields::good_reset;
 use crate::fields::length_in;
 use crate::numbers::add_all;
+use crate::turns::at_rest;
 use crate::turns::moved_on;
 use crate::turns::patch_answer;
 
@@ -59,15 +60,7 @@ pub fn reset(table: Table, payload: &[u8], part: &mut [u8]) -> Updated
     let length = length_in(payload);
     let infinity = payload[5];
     fill(part, length as usize, infinity);
-    let waiting = Table {
-        mark: WAITING,
-        length,
-        infinity,
-        place: 1,
-        size: 0,
-        bits: 0,
-        at: 0,
-    };
+    let waiting = at_rest(WAITING, length, infinity);
     Updated {
         answer: 0,
         table: waiting,

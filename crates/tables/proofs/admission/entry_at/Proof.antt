@@ -1,16 +1,10 @@
+use mathlib.Core.Path.{sym}
+use native.Mathlib.Omega.{arith}
 use lib.Seq.{getD-take}
 use lib.ListN.{take, length-take, List·getD-eq-default}
-use borrow.Author.Tests.{lt-ltb, le-ltb, le-leb, lt-leb, eq-eqb, ne-eqb, not-true, not-false}
-use native.Mathlib.Omega.{arith}
-use mathlib.Core.Bool.{and-true}
-use mathlib.Core.Path.{sym, _∙_}
 use borrow.Author.Needs.{needs}
 use Rattle.tables.proofs.admission.entry_at.Statement.{statement}
 use Rattle.tables.proofs.admission.entry_at.Tie as tie
-use Rattle.tables.proofs.admission.entry_at.Reads as reads
-use Rattle.tables.proofs.admission.entry_at.Lts as lts
-use Rattle.keywords.proofs.hash.scaled_place.Reads as scaled-place-reads
-use Rattle.tables.proofs.fields.entry_count.Reads as entry-count-reads
 
 scaled-place-requires : tie.Need-scaled-place-requires
 scaled-place-requires c κs = search needs

@@ -1,13 +1,7 @@
-use borrow.Author.Tests.{lt-ltb, le-ltb, le-leb, lt-leb, eq-eqb, ne-eqb, not-true, not-false}
-use native.Mathlib.Omega.{arith}
-use mathlib.Core.Bool.{and-true}
-use mathlib.Core.Path.{sym, _∙_}
+use borrow.Author.Tests.{eq-eqb, ne-eqb}
 use borrow.Author.Needs.{needs}
 use Rattle.tables.proofs.admission.is_far.Statement.{statement}
 use Rattle.tables.proofs.admission.is_far.Tie as tie
-use Rattle.tables.proofs.admission.is_far.Reads as reads
-use Rattle.tables.proofs.admission.is_far.Lts as lts
-use Rattle.tables.proofs.admission.entry_at.Reads as entry-at-reads
 
 entry-at-requires : tie.Need-entry-at-requires
 entry-at-requires c κs = search needs

@@ -1,20 +1,13 @@
-use Rattle.laws.proofs.Over.{tail-shorter}
-use Rattle.tables.proofs.AdmissionLaws.{anyFar, not-settled, when-settled, far-done, far-step}
-use Rattle.keywords.proofs.CutLaws.{cut-bounds}
 use mathlib.Core.Bool.{true, false}
-use mathlib.Core.Path.{refl}
-use lib.ListN.{length}
-use mathlib.Core.Path.{_≡_}
+use mathlib.Core.Path.{refl, _≡_, _∙_}
 use native.Mathlib.Omega.{arith}
-use mathlib.Core.Path.{sym, _∙_}
+use lib.ListN.{length}
 use borrow.Author.Needs.{needs}
+use Rattle.laws.proofs.Over.{tail-shorter}
+use Rattle.keywords.proofs.CutLaws.{cut-bounds}
+use Rattle.tables.proofs.AdmissionLaws.{anyFar, not-settled, when-settled, far-done, far-step}
 use Rattle.tables.proofs.admission.withheld.Statement.{statement}
 use Rattle.tables.proofs.admission.withheld.Tie as tie
-use Rattle.tables.proofs.admission.withheld.Reads as reads
-use Rattle.tables.proofs.admission.withheld.Lts as lts
-use Rattle.keywords.proofs.cut.first_keyword.Reads as first-keyword-reads
-use Rattle.keywords.proofs.hash.hash.Reads as hash-reads
-use Rattle.tables.proofs.admission.is_far.Reads as is-far-reads
 
 abbrev Inv-loop : tie.InvT-loop
 Inv-loop table part ttl text rest₀ rest = anyFar table part ttl text ≡ anyFar table part ttl rest

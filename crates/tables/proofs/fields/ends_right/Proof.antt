@@ -1,12 +1,9 @@
-use Rattle.tables.proofs.TestLaws.{same-eqb}
-use native.Mathlib.Omega.{arith}
 use Prim.Native.Nat.{_+_, _-_}
-use borrow.Author.Tests.{lt-ltb, le-ltb, le-leb, lt-leb, eq-eqb, ne-eqb}
-use borrow.Author.Needs.{needs}
+use native.Mathlib.Omega.{arith}
+use borrow.Author.Tests.{le-leb, lt-leb}
+use Rattle.tables.proofs.TestLaws.{same-eqb}
 use Rattle.tables.proofs.fields.ends_right.Statement.{statement}
 use Rattle.tables.proofs.fields.ends_right.Tie as tie
-use Rattle.tables.proofs.fields.ends_right.Reads as reads
-use Rattle.tables.proofs.fields.ends_right.Lts as lts
 
 returns : tie.Need-returns
 returns c = rw (lt-leb (c .before .args .at + c .before .args .n) (c .before .args .end) (omega arith))

@@ -1,12 +1,9 @@
-use Rattle.tables.proofs.TestLaws.{among-any, among-none}
-use Rattle.tables.specs.Tables.{goodLength}
 use mathlib.Core.List.{[], _∷_}
 use mathlib.Core.Path.{sym}
-use borrow.Author.Needs.{needs}
+use Rattle.tables.specs.Tables.{goodLength}
+use Rattle.tables.proofs.TestLaws.{among-any, among-none}
 use Rattle.tables.proofs.fields.good_length.Statement.{statement}
 use Rattle.tables.proofs.fields.good_length.Tie as tie
-use Rattle.tables.proofs.fields.good_length.Reads as reads
-use Rattle.tables.proofs.fields.good_length.Lts as lts
 
 returns : tie.Need-returns
 unfolding goodLength

@@ -1,15 +1,11 @@
-use Rattle.tables.specs.Updates.{bitsIn}
-use Rattle.tables.specs.Patch.{goodBits}
 use mathlib.Core.Path.{sym, _∙_}
 use mathlib.Core.Bool.{and-true}
-use Rattle.tables.specs.Updates.{goodPatch}
 use borrow.Author.Tests.{lt-ltb, le-ltb, le-leb, lt-leb, eq-eqb, ne-eqb}
 use borrow.Author.Needs.{needs}
+use Rattle.tables.specs.Updates.{bitsIn, goodPatch}
+use Rattle.tables.specs.Patch.{goodBits}
 use Rattle.tables.proofs.fields.good_patch.Statement.{statement}
 use Rattle.tables.proofs.fields.good_patch.Tie as tie
-use Rattle.tables.proofs.fields.good_patch.Reads as reads
-use Rattle.tables.proofs.fields.good_patch.Lts as lts
-use Rattle.tables.proofs.fields.good_bits.Reads as good-bits-reads
 
 returns : tie.Need-returns
 unfolding goodPatch

@@ -1,19 +1,12 @@
-use Rattle.tables.specs.Updates.{lengthIn, infinityIn}
-use Rattle.tables.specs.Tables.{goodInfinity}
-use borrow.Author.Tests.{not-true, not-false}
-use native.Mathlib.Omega.{arith}
 use mathlib.Core.Path.{sym, _∙_}
 use mathlib.Core.Bool.{and-true}
-use Rattle.tables.specs.Updates.{goodReset}
-use borrow.Author.Tests.{lt-ltb, le-ltb, le-leb, lt-leb, eq-eqb, ne-eqb}
+use native.Mathlib.Omega.{arith}
+use borrow.Author.Tests.{not-true, not-false, lt-ltb, le-ltb, le-leb, lt-leb, eq-eqb, ne-eqb}
 use borrow.Author.Needs.{needs}
+use Rattle.tables.specs.Updates.{lengthIn, infinityIn, goodReset}
+use Rattle.tables.specs.Tables.{goodInfinity}
 use Rattle.tables.proofs.fields.good_reset.Statement.{statement}
 use Rattle.tables.proofs.fields.good_reset.Tie as tie
-use Rattle.tables.proofs.fields.good_reset.Reads as reads
-use Rattle.tables.proofs.fields.good_reset.Lts as lts
-use Rattle.tables.proofs.fields.good_infinity.Reads as good-infinity-reads
-use Rattle.tables.proofs.fields.good_length.Reads as good-length-reads
-use Rattle.tables.proofs.fields.length_in.Reads as length-in-reads
 
 returns : tie.Need-returns
 unfolding goodReset

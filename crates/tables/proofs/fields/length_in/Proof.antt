@@ -1,11 +1,8 @@
-use Rattle.tables.proofs.FieldLaws.{length-in}
 use native.Mathlib.Omega.{arith}
 use borrow.Author.Needs.{needs}
+use Rattle.tables.proofs.FieldLaws.{length-in}
 use Rattle.tables.proofs.fields.length_in.Statement.{statement}
 use Rattle.tables.proofs.fields.length_in.Tie as tie
-use Rattle.tables.proofs.fields.length_in.Reads as reads
-use Rattle.tables.proofs.fields.length_in.Lts as lts
-use Rattle.tables.proofs.fields.wide.Reads as wide-reads
 
 shared-slice-read-wide : tie.Need-shared-slice-read-wide
 shared-slice-read-wide c = search needs

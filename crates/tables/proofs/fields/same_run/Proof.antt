@@ -2,8 +2,6 @@ use borrow.Author.Tests.{lt-ltb, le-ltb, le-leb, lt-leb, eq-eqb, ne-eqb}
 use borrow.Author.Needs.{needs}
 use Rattle.tables.proofs.fields.same_run.Statement.{statement}
 use Rattle.tables.proofs.fields.same_run.Tie as tie
-use Rattle.tables.proofs.fields.same_run.Reads as reads
-use Rattle.tables.proofs.fields.same_run.Lts as lts
 
 returns : tie.Need-returns
 returns c = search (needs, lt-ltb, le-ltb, le-leb, lt-leb, eq-eqb, ne-eqb)

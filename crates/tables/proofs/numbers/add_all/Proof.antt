@@ -1,15 +1,9 @@
 use Prim.Native.Nat.{_-_}
-use Rattle.tables.specs.Patch.{numbers}
 use native.Mathlib.Omega.{arith}
+use Rattle.tables.specs.Patch.{numbers}
 use Rattle.tables.proofs.NumberLaws.{Adding, adding-first, adding-fits, adding-more, adding-end, numbers-length}
-use borrow.Author.Needs.{needs}
 use Rattle.tables.proofs.numbers.add_all.Statement.{statement}
 use Rattle.tables.proofs.numbers.add_all.Tie as tie
-use Rattle.tables.proofs.numbers.add_all.Reads as reads
-use Rattle.tables.proofs.numbers.add_all.Lts as lts
-use Rattle.tables.proofs.numbers.number_added.Reads as number-added-reads
-use Rattle.tables.proofs.numbers.number_at.Reads as number-at-reads
-use Rattle.tables.proofs.numbers.number_count.Reads as number-count-reads
 
 abbrev Inv-loop : tie.InvT-loop
 Inv-loop bytes entries₀ bits count j₀ entries j = Adding bits (numbers bits bytes) entries₀ entries j

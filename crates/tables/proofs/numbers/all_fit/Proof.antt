@@ -1,19 +1,13 @@
 use Prim.Native.Nat.{_-_, _≤_}
 use mathlib.Core.Path.{_≡_, refl, sym, _∙_}
 use mathlib.Core.Bool.{_&&_}
-use lib.ListN.{length, drop}
-use Rattle.tables.specs.Patch.{numbers, allFit}
 use native.Mathlib.Omega.{arith}
-use Rattle.tables.proofs.NumberLaws.{testing-more, testing-end, numbers-length}
+use lib.ListN.{length, drop}
 use borrow.Author.Needs.{needs}
+use Rattle.tables.specs.Patch.{numbers, allFit}
+use Rattle.tables.proofs.NumberLaws.{testing-more, testing-end, numbers-length}
 use Rattle.tables.proofs.numbers.all_fit.Statement.{statement}
 use Rattle.tables.proofs.numbers.all_fit.Tie as tie
-use Rattle.tables.proofs.numbers.all_fit.Reads as reads
-use Rattle.tables.proofs.numbers.all_fit.Lts as lts
-use Rattle.tables.proofs.numbers.both.Reads as both-reads
-use Rattle.tables.proofs.numbers.number_at.Reads as number-at-reads
-use Rattle.tables.proofs.numbers.number_count.Reads as number-count-reads
-use Rattle.tables.proofs.numbers.number_fits.Reads as number-fits-reads
 
 abbrev Inv-loop : tie.InvT-loop
 Inv-loop bytes entries bits infinity count good₀ j₀ good j = (j ≤ length (numbers bits bytes)) × (allFit bits infinity (numbers bits bytes) entries ≡ (good && allFit bits infinity (drop j (numbers bits bytes)) (drop j entries)))

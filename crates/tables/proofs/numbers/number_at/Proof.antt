@@ -1,22 +1,17 @@
 use Prim.Native.Nat.{suc, _*_, _/_, _<_}
 use mathlib.Core.Path.{_≡_, sym}
+use native.Mathlib.Omega.{arith}
 use lib.ListN.{length}
 use borrow.Author.Tests.{eq-eqb, ne-eqb}
-use native.Mathlib.Omega.{arith}
 use Rattle.tables.proofs.NumberLaws.{high-at, low-at, numbers-whole, eight}
-use borrow.Author.Needs.{needs}
 use Rattle.tables.proofs.numbers.number_at.Statement.{statement}
 use Rattle.tables.proofs.numbers.number_at.Tie as tie
-use Rattle.tables.proofs.numbers.number_at.Reads as reads
-use Rattle.tables.proofs.numbers.number_at.Lts as lts
 
--- src/numbers.rt:26:17
 shared-slice-read-b : tie.Need-shared-slice-read-b
 shared-slice-read-b c =
     let h : c .before .before .args .j < length (c .before .before .args .bytes .now) * 2 = rw (eq-eqb _ _ (c .before .if1 .taken)) at (c .before .before .pre .1) in
     omega arith
 
--- src/numbers.rt:28:13
 returns : tie.Need-returns
 returns c =
     let x = c .before .before .before .args in
@@ -25,20 +20,17 @@ returns c =
       rw (c .before .before .if1 .taken) (omega (arith, c .before .shared-slice-known .given (x .j / 2))),
     )
 
--- src/numbers.rt:30:9
 returns-2 : tie.Need-returns-2
 returns-2 c =
     let x = c .before .before .before .args in
     let j : x .j ≡ suc (x .j / 2 * 2) = omega arith in
     (rw (c .before .before .if1 .taken) (sym (rw (sym j) at (low-at (x .bytes .now) (x .j / 2)))), rw (c .before .before .if1 .taken) (omega arith))
 
--- src/numbers.rt:32:5
 shared-slice-read-result : tie.Need-shared-slice-read-result
 shared-slice-read-result c =
     let h : c .before .before .args .j < length (c .before .before .args .bytes .now) * 1 = rw (ne-eqb _ _ (c .before .if1 .left)) at (c .before .before .pre .1) in
     omega arith
 
--- src/numbers.rt:20:1
 returns-3 : tie.Need-returns-3
 returns-3 c =
     let x = c .before .before .args in (

@@ -3,18 +3,13 @@ use borrow.Author.Tests.{eq-eqb, ne-eqb}
 use borrow.Author.Needs.{needs}
 use Rattle.tables.proofs.numbers.number_count.Statement.{statement}
 use Rattle.tables.proofs.numbers.number_count.Tie as tie
-use Rattle.tables.proofs.numbers.number_count.Reads as reads
-use Rattle.tables.proofs.numbers.number_count.Lts as lts
 
--- src/numbers.rt:14:16
 mul-result : tie.Need-mul-result
 mul-result c = search needs
 
--- src/numbers.rt:14:9
 returns : tie.Need-returns
 returns c = rw (eq-eqb _ _ (c .if1 .taken))
 
--- src/numbers.rt:9:1
 returns-2 : tie.Need-returns-2
 returns-2 c = rw (ne-eqb _ _ (c .if1 .left)) (omega arith)
 

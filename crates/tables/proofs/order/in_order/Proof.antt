@@ -1,15 +1,9 @@
-use Rattle.tables.specs.Tables.{tableInOrder}
-use borrow.Author.Tests.{lt-ltb, le-ltb, le-leb, lt-leb, eq-eqb, ne-eqb, not-true, not-false}
-use native.Mathlib.Omega.{arith}
-use mathlib.Core.Bool.{and-true}
 use mathlib.Core.Path.{sym, _∙_}
+use borrow.Author.Tests.{le-leb, lt-leb}
 use borrow.Author.Needs.{needs}
+use Rattle.tables.specs.Tables.{tableInOrder}
 use Rattle.tables.proofs.order.in_order.Statement.{statement}
 use Rattle.tables.proofs.order.in_order.Tie as tie
-use Rattle.tables.proofs.order.in_order.Reads as reads
-use Rattle.tables.proofs.order.in_order.Lts as lts
-use Rattle.tables.proofs.fields.takes_patch.Reads as takes-patch-reads
-use Rattle.tables.proofs.order.within_limits.Reads as within-limits-reads
 
 returns : tie.Need-returns
 unfolding tableInOrder

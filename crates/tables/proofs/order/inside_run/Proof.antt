@@ -1,14 +1,10 @@
-use lib.Dec.{leb}
-use borrow.Author.Tests.{lt-ltb, le-ltb, le-leb, lt-leb, eq-eqb, ne-eqb, not-true, not-false}
-use native.Mathlib.Omega.{arith}
 use mathlib.Core.Bool.{and-true}
 use mathlib.Core.Path.{sym, _∙_}
+use lib.Dec.{leb}
+use borrow.Author.Tests.{le-leb, lt-leb, not-true, not-false}
 use borrow.Author.Needs.{needs}
 use Rattle.tables.proofs.order.inside_run.Statement.{statement}
 use Rattle.tables.proofs.order.inside_run.Tie as tie
-use Rattle.tables.proofs.order.inside_run.Reads as reads
-use Rattle.tables.proofs.order.inside_run.Lts as lts
-use Rattle.tables.proofs.fields.good_bits.Reads as good-bits-reads
 
 returns : tie.Need-returns
 returns c = rw (lt-leb _ _ (c .if1 .taken))

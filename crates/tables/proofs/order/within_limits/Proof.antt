@@ -1,17 +1,10 @@
-use Rattle.tables.specs.Tables.{insideRun, betweenRuns}
-use borrow.Author.Tests.{lt-ltb, le-ltb, le-leb, lt-leb, eq-eqb, ne-eqb, not-true, not-false}
-use native.Mathlib.Omega.{arith}
 use mathlib.Core.Bool.{and-true}
 use mathlib.Core.Path.{sym, _∙_}
+use borrow.Author.Tests.{le-leb, lt-leb, eq-eqb, ne-eqb, not-true, not-false}
 use borrow.Author.Needs.{needs}
+use Rattle.tables.specs.Tables.{insideRun, betweenRuns}
 use Rattle.tables.proofs.order.within_limits.Statement.{statement}
 use Rattle.tables.proofs.order.within_limits.Tie as tie
-use Rattle.tables.proofs.order.within_limits.Reads as reads
-use Rattle.tables.proofs.order.within_limits.Lts as lts
-use Rattle.tables.proofs.fields.good_infinity.Reads as good-infinity-reads
-use Rattle.tables.proofs.fields.good_length.Reads as good-length-reads
-use Rattle.tables.proofs.order.between_runs.Reads as between-runs-reads
-use Rattle.tables.proofs.order.inside_run.Reads as inside-run-reads
 
 good-length-requires : tie.Need-good-length-requires
 good-length-requires c κs = search needs

@@ -1,18 +1,10 @@
+use mathlib.Core.Path.{sym, _∙_}
+use borrow.Author.Tests.{eq-eqb, ne-eqb, not-true, not-false}
+use borrow.Author.Needs.{needs}
 use Rattle.tables.specs.Updates.{inTurn}
 use Rattle.tables.proofs.TurnLaws.{turn-last}
-use borrow.Author.Tests.{eq-eqb, ne-eqb, not-true, not-false}
-use native.Mathlib.Omega.{arith}
-use mathlib.Core.Path.{_≡_, sym, ap, _∙_}
-use borrow.Author.Needs.{needs}
 use Rattle.tables.proofs.turns.in_turn.Statement.{statement}
 use Rattle.tables.proofs.turns.in_turn.Tie as tie
-use Rattle.tables.proofs.turns.in_turn.Reads as reads
-use Rattle.tables.proofs.turns.in_turn.Lts as lts
-use Rattle.tables.proofs.fields.ends_right.Reads as ends-right-reads
-use Rattle.tables.proofs.fields.entry_count.Reads as entry-count-reads
-use Rattle.tables.proofs.fields.same_run.Reads as same-run-reads
-use Rattle.tables.proofs.fields.takes_patch.Reads as takes-patch-reads
-use Rattle.tables.proofs.numbers.number_count.Reads as number-count-reads
 
 shared-slice-read-place : tie.Need-shared-slice-read-place
 shared-slice-read-place c = search needs

@@ -1,14 +1,10 @@
+use native.Mathlib.Omega.{arith}
+use borrow.Author.Tests.{eq-eqb, ne-eqb}
+use borrow.Author.Needs.{needs}
 use Rattle.tables.specs.Updates.{movedOn}
 use Rattle.tables.proofs.TurnLaws.{patch-fields, count-in}
-use borrow.Author.Tests.{eq-eqb, ne-eqb, not-true, not-false}
-use native.Mathlib.Omega.{arith}
-use mathlib.Core.Path.{_≡_, sym, ap, _∙_}
-use borrow.Author.Needs.{needs}
 use Rattle.tables.proofs.turns.moved_on.Statement.{statement}
 use Rattle.tables.proofs.turns.moved_on.Tie as tie
-use Rattle.tables.proofs.turns.moved_on.Reads as reads
-use Rattle.tables.proofs.turns.moved_on.Lts as lts
-use Rattle.tables.proofs.numbers.number_count.Reads as number-count-reads
 
 shared-slice-read-place : tie.Need-shared-slice-read-place
 shared-slice-read-place c = let f = patch-fields (c .before .before .args .payload .now) (c .before .before .pre .0) in omega arith
@@ -16,9 +12,12 @@ shared-slice-read-place c = let f = patch-fields (c .before .before .args .paylo
 shared-slice-read-size : tie.Need-shared-slice-read-size
 shared-slice-read-size c = let f = patch-fields (c .before .before .before .args .payload .now) (c .before .before .before .pre .0) in omega arith
 
+at-rest-requires : tie.Need-at-rest-requires
+at-rest-requires c κs = search needs
+
 returns : tie.Need-returns
 unfolding movedOn
-returns c = rw (eq-eqb _ _ (c .if1 .taken))
+returns c = rw (eq-eqb _ _ (c .before .if1 .taken)) (c .at-rest .ensures)
 
 shared-slice-read-bits : tie.Need-shared-slice-read-bits
 shared-slice-read-bits c = let f = patch-fields (c .before .before .before .before .before .args .payload .now) (c .before .before .before .before .before .pre .0) in omega arith
@@ -51,6 +50,7 @@ moved-on-spec =
     (tie.spec
     shared-slice-read-place
     shared-slice-read-size
+    at-rest-requires
     returns
     shared-slice-read-bits
     sub-number-count

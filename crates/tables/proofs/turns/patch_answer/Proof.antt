@@ -1,15 +1,9 @@
-use Rattle.tables.proofs.TurnLaws.{patch-fields}
-use borrow.Author.Tests.{eq-eqb, ne-eqb, not-true, not-false}
-use native.Mathlib.Omega.{arith}
-use mathlib.Core.Path.{_≡_, sym, ap, _∙_}
+use mathlib.Core.Path.{sym, _∙_}
+use borrow.Author.Tests.{not-true, not-false}
 use borrow.Author.Needs.{needs}
+use Rattle.tables.proofs.TurnLaws.{patch-fields}
 use Rattle.tables.proofs.turns.patch_answer.Statement.{statement}
 use Rattle.tables.proofs.turns.patch_answer.Tie as tie
-use Rattle.tables.proofs.turns.patch_answer.Reads as reads
-use Rattle.tables.proofs.turns.patch_answer.Lts as lts
-use Rattle.tables.proofs.fields.good_patch.Reads as good-patch-reads
-use Rattle.tables.proofs.turns.in_range.Reads as in-range-reads
-use Rattle.tables.proofs.turns.in_turn.Reads as in-turn-reads
 
 good-patch-requires : tie.Need-good-patch-requires
 good-patch-requires c κs = search needs

@@ -1,15 +1,12 @@
-use Rattle.laws.proofs.Over.{over-fill}
-use borrow.Author.Fill.{fill-none, fill-more}
-use lib.ListN.{length, replicate, drop, set, length-set}
-use native.Mathlib.Omega.{arith}
+use Prim.Native.Nat.{_≤_, _-_}
 use mathlib.Core.List.{_++_}
 use mathlib.Core.Path.{_≡_, refl, ap, _∙_}
-use Prim.Native.Nat.{_≤_, _-_}
-use borrow.Author.Needs.{needs}
+use native.Mathlib.Omega.{arith}
+use lib.ListN.{length, replicate, drop, set, length-set}
+use borrow.Author.Fill.{fill-none, fill-more}
+use Rattle.laws.proofs.Over.{over-fill}
 use Rattle.tables.proofs.updates.fill.Statement.{statement}
 use Rattle.tables.proofs.updates.fill.Tie as tie
-use Rattle.tables.proofs.updates.fill.Reads as reads
-use Rattle.tables.proofs.updates.fill.Lts as lts
 
 abbrev Inv-loop : tie.InvT-loop
 Inv-loop part₀ n v i₀ part i = (i ≤ n) × (part ≡ replicate i v ++ drop i part₀) × (length part ≡ length part₀)

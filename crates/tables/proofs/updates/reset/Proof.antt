@@ -1,17 +1,11 @@
-use Rattle.tables.proofs.UpdateLaws.{reset-fields, reset-refused, reset-taken}
-use lib.ListN.{length}
-use borrow.Author.Tests.{eq-eqb, ne-eqb, not-true, not-false}
+use mathlib.Core.Path.{sym, _∙_}
 use native.Mathlib.Omega.{arith}
-use mathlib.Core.Path.{_≡_, sym, ap, _∙_}
+use lib.ListN.{length}
+use borrow.Author.Tests.{not-true, not-false}
 use borrow.Author.Needs.{needs}
+use Rattle.tables.proofs.UpdateLaws.{reset-fields, reset-refused, reset-taken}
 use Rattle.tables.proofs.updates.reset.Statement.{statement}
 use Rattle.tables.proofs.updates.reset.Tie as tie
-use Rattle.tables.proofs.updates.reset.Reads as reads
-use Rattle.tables.proofs.updates.reset.Lts as lts
-use Rattle.tables.proofs.fields.good_reset.Reads as good-reset-reads
-use Rattle.tables.proofs.fields.length_in.Reads as length-in-reads
-use Rattle.tables.proofs.updates.fill.Reads as fill-reads
-use Rattle.tables.proofs.updates.refused.Reads as refused-reads
 
 good-reset-requires : tie.Need-good-reset-requires
 good-reset-requires c κs = search needs
@@ -37,14 +31,17 @@ cast-fill c = search needs
 fill-requires : tie.Need-fill-requires
 fill-requires c κs = let f = reset-fields (length (c .before .before .before .before .before .before .before .args .part .now)) (c .before .before .before .before .before .before .before .args .payload .now) (sym (c .before .before .before .before .good-reset .ensures) ∙ not-false _ (c .before .before .before .if1 .left)) in omega arith
 
+at-rest-requires : tie.Need-at-rest-requires
+at-rest-requires c κs = search needs
+
 same-length : tie.Need-same-length
 same-length c = search needs
 
 returns-2 : tie.Need-returns-2
 returns-2 c =
-    let x = c .before .before .before .before .before .before .before .before .before .before .args in
-    let d = reset-taken (x .table) (x .payload .now) (x .part .now) (sym (c .before .before .before .before .before .before .before .good-reset .ensures) ∙ not-false _ (c .before .before .before .before .before .before .if1 .left)) (c .before .before .before .before .before .length-in .result) (c .before .before .fill .last .0)
-    (c .before .before .before .before .before .length-in .ensures) (c .before .before .fill .ensures) in
+    let x = c .before .before .before .before .before .before .before .before .before .before .before .args in
+    let d = reset-taken (x .table) (x .payload .now) (x .part .now) (sym (c .before .before .before .before .before .before .before .before .good-reset .ensures) ∙ not-false _ (c .before .before .before .before .before .before .before .if1 .left)) (c .before .before .before .before .before .before .length-in .result) (c .at-rest .result) (c .before .before .before .fill .last .0)
+    (c .before .before .before .before .before .before .length-in .ensures) (c .at-rest .ensures) (c .before .before .before .fill .ensures) in
     (d .result, d .entries)
 
 pub reset-spec : {M : Type 1} → statement M
@@ -58,5 +55,6 @@ reset-spec =
     shared-slice-read-infinity
     cast-fill
     fill-requires
+    at-rest-requires
     same-length
     returns-2)

@@ -1,17 +1,10 @@
-use Rattle.tables.proofs.UpdateLaws.{update-refused, bad-ttl, bad-hops, no-payload, patch-answer-alone, patch-alone, reset-answer-alone, reset-alone}
-use Rattle.tables.specs.Tables.{heldIn}
+use mathlib.Core.Path.{_∙_}
 use lib.ListN.{length}
-use borrow.Author.Tests.{eq-eqb, ne-eqb, not-true, not-false}
-use native.Mathlib.Omega.{arith}
-use mathlib.Core.Path.{_≡_, sym, ap, _∙_}
 use borrow.Author.Needs.{needs}
+use Rattle.tables.specs.Tables.{heldIn}
+use Rattle.tables.proofs.UpdateLaws.{update-refused, bad-ttl, bad-hops, no-payload, patch-answer-alone, patch-alone, reset-answer-alone, reset-alone}
 use Rattle.tables.proofs.updates.update.Statement.{statement}
 use Rattle.tables.proofs.updates.update.Tie as tie
-use Rattle.tables.proofs.updates.update.Reads as reads
-use Rattle.tables.proofs.updates.update.Lts as lts
-use Rattle.tables.proofs.updates.patch.Reads as patch-reads
-use Rattle.tables.proofs.updates.refused.Reads as refused-reads
-use Rattle.tables.proofs.updates.reset.Reads as reset-reads
 
 refused-requires : tie.Need-refused-requires
 refused-requires c κs = search needs
