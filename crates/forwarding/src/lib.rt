@@ -1,0 +1,3 @@
+// Floor 3: what of a query is read before it is forwarded, which lines it goes to, and the messages as they are sent on.
+pub mod messages;
+pub mod texts;
