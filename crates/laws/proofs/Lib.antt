@@ -4,3 +4,4 @@ pub mod Over
 pub mod Parts
 pub mod Writing
 pub mod Chunks
+pub mod Passing
