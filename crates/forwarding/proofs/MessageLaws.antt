@@ -1,13 +1,13 @@
 -- What the stores of a message leave, and that a whole message passed on is the message that document 01 has.
-use Prim.Native.Nat.{ℕ, suc, _+_, _-_, _≤_, _<_}
-use mathlib.Core.Path.{_≡_, refl, sym, ap, ap₂, _∙_}
+use Prim.Native.Nat.{ℕ, _+_, _-_, _≤_, _<_}
+use mathlib.Core.Path.{_≡_, sym, ap, ap₂, _∙_}
 use mathlib.Core.List.{List, [], _∷_, _++_, append-assoc}
 use native.Mathlib.Omega.{arith}
-use lib.ListN.{length, getD, take, drop, set, length-set, length-append, length-take, length-drop}
-use lib.Seq.{sets, sets-eq, take-take, take-suc, append-snoc, take-add, drop-drop, getD-drop, length-take-le}
+use lib.ListN.{length, getD, take, drop, set, length-set, length-append, length-drop}
+use lib.Seq.{sets-eq, take-take, take-suc, take-add, drop-drop, getD-drop, length-take-le}
 use borrow.Rule.Slice.PartMut.{putMid}
 use borrow.Author.Tests.{le-leb}
-use Rattle.laws.specs.Bytes.{little, littleBytes}
+use Rattle.laws.specs.Bytes.{littleBytes}
 use Rattle.laws.specs.Parts.{over}
 use Rattle.laws.proofs.Over.{rest-front}
 use Rattle.laws.proofs.Writing.{kept-length, stored-next, written-next, lent-part}
@@ -15,7 +15,7 @@ use Rattle.wire.specs.Header.{numberOf, kindOf, sizeOf, payloadOf, header, mess
 use Rattle.wire.proofs.HeaderLaws.{header-length}
 use Rattle.protocol.specs.Queries.{ownPayload, ownBytes}
 use Rattle.forwarding.specs.Messages.{passedOn}
-use Rattle.forwarding.proofs.Passing.{store-inside, four-back}
+use Rattle.laws.proofs.Passing.{store-inside, bytes-back}
 
 -- TTL and Hops stored in a copy
 pub passed-stored : (m out mid : List ℕ) (n ttl hops : ℕ) → 23 ≤ n → n ≤ length m → mid ≡ over 0 (take n m) out
@@ -31,7 +31,7 @@ passed-stored m out mid n ttl hops h k e =
 module _ (m : List ℕ) (ttl hops : ℕ) (whole : 23 + sizeOf m ≤ length m) (bytes : (i : ℕ) → getD m i 0 < 256) where
   size-bytes : littleBytes 4 (sizeOf m) ≡ take 4 (drop 19 m)
   size-bytes =
-      four-back (drop 19 m) (omega (arith, length-drop 19 m)) (λ i. rw getD-drop (bytes (19 + i)))
+      bytes-back 4 (drop 19 m) (omega (arith, length-drop 19 m)) (λ i. rw getD-drop (bytes (19 + i)))
 
   payload-long : length (payloadOf m) ≡ sizeOf m
   payload-long = length-take-le (sizeOf m) (drop 23 m) (omega (arith, length-drop 23 m))

@@ -11,3 +11,4 @@ pub mod Rings
 pub mod RingScan
 pub mod InPlace
 pub mod Truth
+pub mod Passing

@@ -1,7 +1,3 @@
-use mathlib.Core.Path.{_≡_, sym, ap, _∙_}
-use lib.ListN.{length, drop, drop-of-length-le}
-use native.Mathlib.Omega.{arith}
-use Rattle.laws.proofs.Parts.{part-tail}
 use Rattle.forwarding.proofs.TextLaws.{text-none, text-some}
 use borrow.Author.Needs.{needs}
 use Rattle.forwarding.proofs.texts.text_length.Statement.{statement}
