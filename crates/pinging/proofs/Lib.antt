@@ -1,0 +1,3 @@
+-- The laws of pings and pongs.
+pub mod Ranks
+pub mod Joined

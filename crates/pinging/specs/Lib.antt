@@ -1,0 +1,2 @@
+-- Pings and pongs over plain values.
+pub mod Numbers
