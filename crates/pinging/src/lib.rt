@@ -2,4 +2,8 @@
 // holds the state.
 pub mod answers;
 pub mod clock;
+mod messages;
+pub mod order;
+mod ring;
+pub mod send;
 pub mod store;

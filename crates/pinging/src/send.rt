@@ -1,0 +1,1 @@
+// The pongs that answer a ping.
