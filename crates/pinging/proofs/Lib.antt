@@ -1,6 +1,6 @@
 -- The laws of pings and pongs.
 pub mod Ranks
 pub mod RingLaws
-pub mod SendLaws
 pub mod WalkLaws
+pub mod SendLaws
 pub mod Joined

@@ -2,16 +2,37 @@
 -- Assumes nothing.
 use Prim.Native.Nat.{ℕ, zero, suc, _+_, _-_, _%_, _≤_, _<_}
 use mathlib.Core.Path.{_≡_, refl, sym, ap, _∙_}
-use mathlib.Core.List.{List, [], _∷_, _++_, append-nil}
+use mathlib.Core.List.{List, [], _∷_, _++_, append-assoc, append-nil}
 use native.Mathlib.Omega.{arith}
 use native.Mathlib.Nat.{mod-eq-of-lt, add-mod-right}
-use lib.ListN.{length, getD, drop, drop-of-length-le}
+use lib.ListN.{length, getD, take, drop, length-append, take-append-drop, drop-of-length-le}
+use lib.Seq.{length-take-le}
 use Rattle.laws.specs.Parts.{over}
 use Rattle.laws.specs.Ring.{back, placesBefore}
+use Rattle.laws.proofs.Writing.{written-next}
 
 -- what is as long as the area fills it
 pub over-all : (bs area : List ℕ) → length bs ≡ length area → over 0 bs area ≡ bs
 over-all bs area e = ap (λ l. bs ++ l) (drop-of-length-le area {i = 0 + length bs} (omega arith)) ∙ append-nil bs
+
+-- what is written from place n on, written with what stands before it
+over-before : (n : ℕ) (bs area : List ℕ) → n ≤ length area → over n bs area ≡ over 0 (take n area ++ bs) area
+over-before n bs area h =
+    let e : n + length bs ≡ 0 + length (take n area ++ bs) = simp length-append (omega (arith, length-take-le n area h)) in
+    sym (append-assoc (take n area) bs (drop (n + length bs) area)) ∙ ap (λ k. (take n area ++ bs) ++ drop k area) e
+
+-- two lists written one after the other
+pub over-split : (n : ℕ) (xs ys area : List ℕ) → n ≤ length area → over n (xs ++ ys) area ≡ over (n + length xs) ys (over n xs area)
+over-split n xs ys area h =
+    let e : length (take n area ++ xs) ≡ n + length xs = simp length-append (omega (arith, length-take-le n area h)) in
+    over-before n (xs ++ ys) area h
+    ∙ ap (λ l. over 0 l area) (sym (append-assoc (take n area) xs ys))
+    ∙ sym (written-next (n + length xs) (take n area ++ xs) ys area e)
+    ∙ ap (over (n + length xs) ys) (sym (over-before n xs area h))
+
+-- nothing written
+pub over-none : (n : ℕ) (area : List ℕ) → over n [] area ≡ area
+over-none n area = let e : n + 0 ≡ n = omega arith in ap (λ k. take n area ++ drop k area) e ∙ take-append-drop n area
 
 -- two elements or four, one by one
 pub two-front : (l rest : List ℕ) → length l ≡ 2 → getD l 0 0 ∷ getD l 1 0 ∷ rest ≡ l ++ rest
