@@ -19,7 +19,7 @@ use Rattle.protocol.specs.declared.Line.{Line}
 use Rattle.protocol.specs.declared.Own.{Own}
 use Rattle.protocol.specs.Lines.{elapsed, isOther, nowhere, storedPongs}
 use Rattle.protocol.specs.Pings.{pongType, ownPong, ranked, keepIf, isFresh}
-use Rattle.pinging.specs.Sending.{pongMessage, storedMessage, storedBytes, storedFor, turnOf, placeOf, ownBytes, pongsFor, pongsWritten}
+use Rattle.pinging.specs.Sending.{pongMessage, storedMessage, storedBytes, storedFor, turnOf, placeOf, ownBytes, pongsFor, pongsWritten, ownCount, pongCount, countWritten}
 use Rattle.pinging.proofs.Ranks.{two-front, four-front, over-split, over-none}
 use Rattle.pinging.proofs.RingLaws.{pongIn, pongAt, ranked-place}
 use Rattle.pinging.proofs.WalkLaws.{turnAt, leftFrom, walk-turns, left-next, left-none, ten-next, turn-one, bytes-append}
@@ -57,11 +57,11 @@ put-message number bytes out mid left ttl hops n b h m l =
 
 -- the own pong is sent
 pub own-said : (own : Own) (number payload part left : List ℕ) (ttl r : ℕ) (probe : Bool) → (probe || own .calls) ≡ true → payload ≡ ownPong own
-    → r ≡ length (pongMessage number ttl 0 payload) → left ≡ over 0 (pongMessage number ttl 0 payload) part
-    → (r ≡ length (ownBytes own number ttl probe)) × (left ≡ over 0 (ownBytes own number ttl probe) part)
-own-said own number payload part left ttl r probe e p n b =
+    → r ≡ length (pongMessage number ttl 0 payload) → r ≡ 37 → left ≡ over 0 (pongMessage number ttl 0 payload) part
+    → (r ≡ length (ownBytes own number ttl probe)) × ((r ≡ 37 * ownCount own probe) × (left ≡ over 0 (ownBytes own number ttl probe) part))
+own-said own number payload part left ttl r probe e p n k b =
     let q : pongMessage number ttl 0 payload ≡ ownBytes own number ttl probe = ap (pongMessage number ttl 0) p ∙ sym (rw e) in
-    (n ∙ ap length q, b ∙ ap (λ l. over 0 l part) q)
+    (n ∙ ap length q, (rw e k, b ∙ ap (λ l. over 0 l part) q))
 
 -- the ping's own line gives nothing
 pub turn-own : (x : Line) (other : Bool) (rank clock : ℕ) → other ≡ false → turnOf other x rank clock ≡ []
@@ -129,6 +129,7 @@ module _ (lines : List Line) (l clock : ℕ) (number : List ℕ) (ttl : ℕ) whe
     pub long : length area ≡ length start
     pub bytes : over (37 * s) (storedBytes number ttl (rest s i)) area ≡ over 0 whole start
     pub size : 37 * s + length (storedBytes number ttl (rest s i)) ≡ length whole
+    pub count : s + length (rest s i) ≡ length (storedFor lines l clock)
 
   pub left-start : (start : List ℕ) → Left 0 0 start start
   left-start start =
@@ -139,6 +140,7 @@ module _ (lines : List Line) (l clock : ℕ) (number : List ℕ) (ttl : ℕ) whe
         long = refl;
         bytes = ap (λ bs. over 0 bs start) e;
         size = let z = ap length e in omega arith;
+        count = let z = ap (λ ps. length (take 10 ps)) (sym (walk-turns lines l clock)) in omega arith;
       }
 
   module _ (s i : ℕ) (area start : List ℕ) (v : Left s i area start) where
@@ -156,10 +158,11 @@ module _ (lines : List Line) (l clock : ℕ) (number : List ℕ) (ttl : ℕ) whe
         let few : s + r ≤ 10 = omega arith in
         let mid : putMid (37 * s) (length area - 37 * s) area left ≡ over (37 * s) bs area =
             lent-part (37 * s) (length area - 37 * s) bs area left (omega arith) (omega arith) (p .bytes) in
+        let pongs : rest s i ≡ turn ++ rest (s + r) (i + 1) =
+            ap (take (10 - s)) (left-next lines l clock i hi)
+            ∙ ten-next s r turn (leftFrom lines l clock (80 - (i + 1)) (i + 1)) (sym n) few in
         let parts : storedBytes number ttl (rest s i) ≡ bs ++ on =
-            ap (λ ps. storedBytes number ttl (take (10 - s) ps)) (left-next lines l clock i hi)
-            ∙ ap (storedBytes number ttl) (ten-next s r turn (leftFrom lines l clock (80 - (i + 1)) (i + 1)) (sym n) few)
-            ∙ bytes-append number ttl turn (rest (s + r) (i + 1)) in
+            ap (storedBytes number ttl) pongs ∙ bytes-append number ttl turn (rest (s + r) (i + 1)) in
         let next : 37 * (s + r) ≡ 37 * s + length bs = omega arith in
         record {
           few = few;
@@ -171,6 +174,7 @@ module _ (lines : List Line) (l clock : ℕ) (number : List ℕ) (ttl : ℕ) whe
             ∙ ap (λ b. over (37 * s) b area) (sym parts)
             ∙ v .bytes;
           size = let z = ap length parts in let y = length-append bs on in let u = v .size in omega arith;
+          count = let z = ap length pongs in let y = length-append turn (rest (s + r) (i + 1)) in let u = v .count in omega arith;
         }
 
     pub left-turn : (other : Bool) (r : ℕ) (left : List ℕ) → other ≡ isOther l (i % 8) → i < 80 → s < 10 → 370 ≤ length start
@@ -178,18 +182,20 @@ module _ (lines : List Line) (l clock : ℕ) (number : List ℕ) (ttl : ℕ) whe
         → Left (s + r) (i + 1) (putMid (37 * s) (length area - 37 * s) area left) start
     left-turn other r left e hi hs room p = left-step r left hi hs room (rw e at p)
 
-    done : rest s i ≡ [] → (37 * s ≡ length whole) × ((37 * s ≤ 370) × (area ≡ over 0 whole start))
+    done : rest s i ≡ [] → (37 * s ≡ length whole) × ((37 * s ≤ 370) × ((37 * s ≡ 37 * length (storedFor lines l clock)) × (area ≡ over 0 whole start)))
     done e =
         let z : storedBytes number ttl (rest s i) ≡ [] = ap (storedBytes number ttl) e in
         let y = ap length z in
         let u = v .size in
         let w = v .few in
-        (omega arith, (omega arith, sym (over-none (37 * s) area) ∙ ap (λ b. over (37 * s) b area) (sym z) ∙ v .bytes))
+        let n = ap length e in
+        let k = v .count in
+        (omega arith, (omega arith, (omega arith, sym (over-none (37 * s) area) ∙ ap (λ b. over (37 * s) b area) (sym z) ∙ v .bytes)))
 
-    pub done-ten : 10 ≤ s → (37 * s ≡ length whole) × ((37 * s ≤ 370) × (area ≡ over 0 whole start))
+    pub done-ten : 10 ≤ s → (37 * s ≡ length whole) × ((37 * s ≤ 370) × ((37 * s ≡ 37 * length (storedFor lines l clock)) × (area ≡ over 0 whole start)))
     done-ten h = let e : 10 - s ≡ 0 = omega arith in done (ap (λ n. take n (leftFrom lines l clock (80 - i) i)) e)
 
-    pub done-all : 80 ≤ i → (37 * s ≡ length whole) × ((37 * s ≤ 370) × (area ≡ over 0 whole start))
+    pub done-all : 80 ≤ i → (37 * s ≡ length whole) × ((37 * s ≤ 370) × ((37 * s ≡ 37 * length (storedFor lines l clock)) × (area ≡ over 0 whole start)))
     done-all h = done (ap (take (10 - s)) (left-none lines l clock i h) ∙ take-nil (10 - s))
 
 -- the whole answer
@@ -202,6 +208,16 @@ module _ (lines : List Line) (l clock : ℕ) (own : Own) (number : List ℕ) (ho
       → ownBytes own number ttl probe ++ storedBytes number ttl (storedFor lines l clock) ≡ pongsWritten (length out) lines l clock own number hops probe
   unfolding pongsFor
   to-other probe e = rw (bears, e, le-leb 407 (length out) room)
+
+-- how many that is
+module _ (lines : List Line) (l clock : ℕ) (own : Own) (room : ℕ) (wide : 407 ≤ room) where
+  pub probe-count : (probe : Bool) → probe ≡ true → ownCount own probe ≡ countWritten room lines l clock own probe
+  unfolding pongCount
+  probe-count probe e = rw (e, le-leb 407 room wide)
+
+  pub other-count : (probe : Bool) → probe ≡ false → ownCount own probe + length (storedFor lines l clock) ≡ countWritten room lines l clock own probe
+  unfolding pongCount
+  other-count probe e = rw (e, le-leb 407 room wide)
 
 -- two answers written one behind the other
 pub both-written : (xs bs both out mid left : List ℕ) (f r : ℕ) → xs ++ bs ≡ both → f ≡ length xs → r ≡ length bs → f + r ≤ length out
@@ -218,3 +234,6 @@ both-written xs bs both out mid left f r w fa rb room m e =
       ∙ written-next f xs bs out (sym fa)
       ∙ ap (λ l. over 0 l out) w,
     )
+
+pub sum-of : (f r a b n : ℕ) → f ≡ 37 * a → r ≡ 37 * b → a + b ≡ n → f + r ≡ 37 * n
+sum-of f r a b n u w e = omega arith

@@ -64,3 +64,13 @@ pongsFor lines l clock own number hops probe =
 -- an output area of less than eleven pongs gets none
 abbrev pub pongsWritten : ℕ → List Line → ℕ → ℕ → Own → List ℕ → ℕ → Bool → List ℕ
 pongsWritten room lines l clock own number hops probe = cond (leb 407 room) (pongsFor lines l clock own number hops probe) []
+
+-- how many pongs that is
+abbrev pub ownCount : Own → Bool → ℕ
+ownCount own probe = cond (probe || own .calls) 1 0
+
+unfoldable pub pongCount : List Line → ℕ → ℕ → Own → Bool → ℕ
+pongCount lines l clock own probe = ownCount own probe + cond probe 0 (length (storedFor lines l clock))
+
+abbrev pub countWritten : ℕ → List Line → ℕ → ℕ → Own → Bool → ℕ
+countWritten room lines l clock own probe = cond (leb 407 room) (pongCount lines l clock own probe) 0

@@ -5,7 +5,7 @@ ghost use Prim.Native.Nat.{_*_, _≤_};
 ghost use lib.ListN.{length};
 ghost use Rattle.laws.specs.Parts.{over};
 ghost use Rattle.protocol.specs.Lines.{isOther};
-ghost use Rattle.pinging.specs.Sending.{ownBytes, turnOf, storedBytes, storedFor, pongsWritten};
+ghost use Rattle.pinging.specs.Sending.{ownBytes, turnOf, storedBytes, storedFor, pongsWritten, ownCount, countWritten};
 use crate::clock::elapsed_ms;
 use crate::messages::one_hop_more;
 use crate::messages::own_payload;
@@ -34,6 +34,7 @@ fn put_own(own: Own, number: [u8; 16], ttl: u8, probe: bool, part: &mut [u8]) ->
     requires { ⌜ 37 ≤ length (now part) ⌝ }
     ensures size { λ r. ⌜ r ≡ length (ownBytes own number ttl probe) ⌝ }
     ensures room { λ r. ⌜ r ≤ 37 ⌝ }
+    ensures count { λ r. ⌜ r ≡ 37 * ownCount own probe ⌝ }
     ensures bytes { λ _. ⌜ now (part .exit) ≡ over 0 (ownBytes own number ttl probe) (now (part .entry)) ⌝ }
 {
     if !speaks(probe, own.calls) {
@@ -87,6 +88,7 @@ fn put_stored(
     requires { ⌜ 370 ≤ length (now part) ⌝ }
     ensures size { λ r. ⌜ r ≡ length (storedBytes number ttl (storedFor lines line clock)) ⌝ }
     ensures room { λ r. ⌜ r ≤ 370 ⌝ }
+    ensures count { λ r. ⌜ r ≡ 37 * length (storedFor lines line clock) ⌝ }
     ensures bytes { λ _. ⌜ now (part .exit) ≡ over 0 (storedBytes number ttl (storedFor lines line clock)) (now (part .entry)) ⌝ }
 {
     let mut sent = 0;
@@ -119,6 +121,7 @@ pub fn send_pongs(
     out: &mut [u8],
 ) -> usize
     ensures size { λ r. ⌜ r ≡ length (pongsWritten (length (now (out .entry))) lines line clock own number hops probe) ⌝ }
+    ensures count { λ r. ⌜ r ≡ 37 * countWritten (length (now (out .entry))) lines line clock own probe ⌝ }
     ensures bytes { λ _. ⌜ now (out .exit) ≡ over 0 (pongsWritten (length (now (out .entry))) lines line clock own number hops probe) (now (out .entry)) ⌝ }
 {
     if out.len() < 407 {

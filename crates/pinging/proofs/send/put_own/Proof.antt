@@ -11,7 +11,7 @@ speaks-requires : tie.Need-speaks-requires
 speaks-requires c κs = search needs
 
 returns : tie.Need-returns
-returns c = rw (sym (c .before .speaks .ensures) ∙ not-true _ (c .if1 .taken)) (refl, (omega arith, refl))
+returns c = rw (sym (c .before .speaks .ensures) ∙ not-true _ (c .if1 .taken)) (refl, (omega arith, (refl, refl)))
 
 own-payload-requires : tie.Need-own-payload-requires
 own-payload-requires c κs = search needs
@@ -30,6 +30,7 @@ returns-2 c =
         (sym (c .before .before .before .before .before .before .speaks .ensures) ∙ not-false _ (c .before .before .before .before .before .if1 .left))
         (c .before .before .before .before .own-payload .ensures)
         (p .ensures .0)
+        (p .ensures .1 .0)
         (p .ensures .1 .1) in
     (d .0, (omega arith, d .1))
 
