@@ -4,3 +4,4 @@ pub mod RingLaws
 pub mod WalkLaws
 pub mod SendLaws
 pub mod Joined
+pub mod Theorems
