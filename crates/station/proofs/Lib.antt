@@ -3,3 +3,5 @@ pub mod LineLaws
 pub mod StateLaws
 pub mod StepLaws
 pub mod ReturnLaws
+pub mod ActLaws
+pub mod CallLaws

@@ -37,8 +37,9 @@ use Rattle.forwarding.specs.Texts.{textOf}
 use Rattle.forwarding.proofs.MessageLaws.{passed-message}
 use Rattle.forwarding.proofs.LineLaws.{flag-of, each-same}
 use Rattle.forwarding.proofs.TextLaws.{until-stops}
+use Rattle.pinging.specs.Numbers.{pongKept}
 use Rattle.station.specs.declared.acted.Acted.{Acted}
-use Rattle.station.specs.Steps.{quietly, pickActed, updateActed, updateRoute, hitActed, hitSent, goingTo, queryBy, queryLines, queryActed, querySent, isSent, livesIn, tablesIn}
+use Rattle.station.specs.Steps.{quietly, pickActed, pongActed, timeKept, backTo, pingActed, pingSent, updateActed, updateRoute, hitActed, hitSent, goingTo, queryBy, queryLines, queryActed, querySent, isSent, livesIn, tablesIn}
 use Rattle.station.proofs.StepLaws.{payload-part}
 
 -- ---- numbers
@@ -200,6 +201,20 @@ query-goes ended ttl hops seen e =
     let b = or-snd (ltb 15 ttl) (leb 7 hops) (or-snd (eqb ttl 0) (ltb 15 ttl || leb 7 hops) (p .1 .0)) in
     record { text = not-false ended (p .0); lives = omega (arith, eqb-false ttl 0 a); rises = leb-false 7 hops b }
 
+number-of : (k : ℕ) → k < 8 → getD lineNumbers k 0 ≡ k
+number-of zero h = refl
+number-of (suc zero) h = refl
+number-of (suc (suc zero)) h = refl
+number-of (suc (suc (suc zero))) h = refl
+number-of (suc (suc (suc (suc zero)))) h = refl
+number-of (suc (suc (suc (suc (suc zero))))) h = refl
+number-of (suc (suc (suc (suc (suc (suc zero)))))) h = refl
+number-of (suc (suc (suc (suc (suc (suc (suc zero))))))) h = refl
+number-of (suc (suc (suc (suc (suc (suc (suc (suc k)))))))) h = absurd (omega arith)
+
+pub table-of : (lines : List Line) (k : ℕ) → k < 8 → getD (tablesIn lines) k noTable ≡ getD lines k nowhere .table
+table-of lines k h = map-getD (λ k. getD lines k nowhere .table) lineNumbers k 0 noTable h ∙ ap (λ k. getD lines k nowhere .table) (number-of k h)
+
 module _ (lines : List Line) (room l life : ℕ) (text route : List ℕ) where
   pub going-nobody : life < 2 → nobody ≡ goingTo lines room l life text route
   going-nobody h =
@@ -212,20 +227,6 @@ module _ (lines : List Line) (room l life : ℕ) (text route : List ℕ) where
       let w : k ≡ l = eqb-true k l e in rw w (getD-set-same (livesIn lines) l false false hl)
   other-live k h hl false e = getD-set-other (livesIn lines) l k false false (eqb-false k l e) ∙ flag-of (λ k. getD lines k nowhere .live) k h
 
-  table-of : (k : ℕ) → k < 8 → getD (tablesIn lines) k noTable ≡ getD lines k nowhere .table
-  table-of k h = map-getD (λ k. getD lines k nowhere .table) lineNumbers k 0 noTable h ∙ ap (λ k. getD lines k nowhere .table) (number-of k h)
-    where
-      number-of : (k : ℕ) → k < 8 → getD lineNumbers k 0 ≡ k
-      number-of zero h = refl
-      number-of (suc zero) h = refl
-      number-of (suc (suc zero)) h = refl
-      number-of (suc (suc (suc zero))) h = refl
-      number-of (suc (suc (suc (suc zero)))) h = refl
-      number-of (suc (suc (suc (suc (suc zero))))) h = refl
-      number-of (suc (suc (suc (suc (suc (suc zero)))))) h = refl
-      number-of (suc (suc (suc (suc (suc (suc (suc zero))))))) h = refl
-      number-of (suc (suc (suc (suc (suc (suc (suc (suc k)))))))) h = absurd (omega arith)
-
   pub going-some : 2 ≤ life → l < 8 → {live : List Bool} {tables : List Table} {to : List Bool} → live ≡ livesIn lines → tables ≡ tablesIn lines
       → to ≡ passingOf (set live l false) tables room route text (life - 1) → to ≡ goingTo lines room l life text route
   unfolding passingOf
@@ -233,7 +234,7 @@ module _ (lines : List Line) (room l life : ℕ) (text route : List ℕ) where
       eo
       ∙ (rw (ev, et)
       (each-same _ (λ k. isOther l k && (leb 2 life && passes (getD lines k nowhere .live) (heldIn (getD lines k nowhere .table) (partOf room k route)) text (life - 1)))
-      (λ k b. ap₂ (λ f t. passes f (heldIn t (partOf room k route)) text (life - 1)) (other-live k b hl (eqb k l) refl) (table-of k b)
+      (λ k b. ap₂ (λ f t. passes f (heldIn t (partOf room k route)) text (life - 1)) (other-live k b hl (eqb k l) refl) (table-of lines k b)
       ∙ and-assoc (isOther l k) (getD lines k nowhere .live) _
       ∙ (rw (le-leb 2 life h)))))
 
@@ -318,3 +319,49 @@ pub query-bytes : (m out : List ℕ) (to : List Bool) {life : ℕ} {o : List ℕ
     → o ≡ over 0 (writtenFor to (queryOn usualLimit m)) out
 query-bytes m out to ek el eo =
     eo ∙ ap₂ (λ k f. over 0 (cond (isSent to) (message (numberOf m) k (f - 1) (hopsOf m + 1) (payloadOf m)) []) out) ek el
+
+-- ---- pings and pongs
+
+module _ (x : Line) (n l clock : ℕ) (probe : Bool) (pongs out : List ℕ) where
+  abbrev PingDone : Acted → List ℕ → Type 0
+  PingDone r o = (r ≡ pingActed x n l probe clock pongs) × (o ≡ over 0 (pingSent n pongs) out)
+
+  pub ping-refused : {a : ℕ} {r : Acted} → a ≡ n → (a ≡ 0 → ⊥) → r ≡ quietly a x → PingDone r out
+  ping-refused e z er =
+      let t = ne-eqb n 0 (λ y. z (e ∙ y)) in
+      let g : quietly n x ≡ pingActed x n l probe clock pongs = rw t in
+      (er ∙ ap (λ y. quietly y x) e ∙ g, rw t)
+
+  abbrev pingGone : Line → ℕ → List Bool → Acted
+  pingGone y w to =
+      record {
+        answer = 0;
+        line = y;
+        remember = false;
+        written = w;
+        to = to;
+        search = false;
+        delivered = false;
+        textat = 0;
+        textlen = 0;
+      }
+
+  pub ping-done : {a w : ℕ} {to : List Bool} {y : Line} {o : List ℕ} → a ≡ n → a ≡ 0 → w ≡ length pongs → to ≡ backTo w l → y ≡ timeKept x probe clock
+      → o ≡ over 0 pongs out → PingDone (pingGone y w to) o
+  ping-done e z ew et ey eo =
+      let t = eq-eqb n 0 (sym e ∙ z) in
+      (rw (t, et, ew, ey), rw t eo)
+
+module _ (x : Line) (n hops clock : ℕ) (payload : List ℕ) where
+  pub pong-refused : {a : ℕ} {r : Acted} → a ≡ n → (a ≡ 0 → ⊥) → r ≡ quietly a x → r ≡ pongActed x n hops clock payload
+  pong-refused e z er =
+      let t = ne-eqb n 0 (λ y. z (e ∙ y)) in
+      let g : quietly n x ≡ pongActed x n hops clock payload = rw t in
+      er ∙ ap (λ y. quietly y x) e ∙ g
+
+  pub pong-done : {a : ℕ} {y : Line} {r : Acted} {part : List ℕ} → a ≡ n → a ≡ 0 → part ≡ payload → y ≡ pongKept x part hops clock → r ≡ quietly 0 y
+      → r ≡ pongActed x n hops clock payload
+  pong-done e z ep ey er =
+      let t = eq-eqb n 0 (sym e ∙ z) in
+      let g : quietly 0 (pongKept x payload hops clock) ≡ pongActed x n hops clock payload = rw t in
+      er ∙ ap (quietly 0) (ey ∙ ap (λ p. pongKept x p hops clock) ep) ∙ g

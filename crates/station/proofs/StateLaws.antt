@@ -34,7 +34,7 @@ use Rattle.station.specs.Acting.{Fit, actedOf, isTaken, pickState, state
 use Rattle.station.specs.Steps.{stored}
 use Rattle.station.proofs.LineLaws.{line-mod, same-line, line-in, fit}
 
-not-zero : (s : Station) (m : List ℕ) (n : ℕ) (route : List ℕ) → (n ≡ 0 → ⊥) → isTaken m (quiet n s route) ≡ false
+pub not-zero : (s : Station) (m : List ℕ) (n : ℕ) (route : List ℕ) → (n ≡ 0 → ⊥) → isTaken m (quiet n s route) ≡ false
 not-zero s m n route z = ap (λ b. eqb (kindOf m) queryType && b) (ne-eqb n 0 z) ∙ and-false (eqb (kindOf m) queryType)
 
 module _ (s : Station) (j : ℕ) (m : List ℕ) (inside : j < length (s .lines)) where
@@ -133,17 +133,28 @@ module _ (s : Station) (line clock : ℕ) (own : Own) (m : List ℕ) (out : ℕ)
       ap (λ (u : Outcome). handled u (usedOf (u .answer) m)) message-acts
       ∙ ap (withState o (usedOf (o .answer) m)) t
 
--- what the code stores is the state after the message
-abbrev storedBy : Station → ℕ → Line → Bool → Number → ℕ → Type 0
-storedBy s j x b n who = stored s j x b n who ≡ pickState b (remember s n who) (withLine s j x)
+-- a state with other lines
+abbrev pub withLines : Station → List Line → Station
+withLines s lines =
+    record {
+      room = s .room;
+      lines = lines;
+      lo = s .lo;
+      hi = s .hi;
+      asker = s .asker;
+      count = s .count;
+      next = s .next;
+    }
 
-stored-by : (s : Station) (j : ℕ) (x : Line) (b : Bool) (n : Number) (who : ℕ) → (b ≡ true → (s .next < 512) × (x ≡ lineAt s j)) → storedBy s j x b n who
+-- what the code stores is the state after the call
+pub stored-by : (s : Station) (lines : List Line) (b : Bool) (n : Number) (who : ℕ) → (b ≡ true → (s .next < 512) × (lines ≡ s .lines))
+    → stored s lines b n who ≡ pickState b (remember s n who) (withLines s lines)
 unfolding stored remember
-stored-by s j x true n who h =
+stored-by s lines true n who h =
     let p : s .next % capacity ≡ s .next = mod-eq-of-lt (h refl .0) in
-    let l : set (s .lines) j x ≡ s .lines = ap (set (s .lines) j) (h refl .1) ∙ set-getD (s .lines) j nowhere in
+    let l : lines ≡ s .lines = h refl .1 in
     rw (p, l)
-stored-by s j x false n who h =
+stored-by s lines false n who h =
     let p : ℕ = s .next % capacity in
     rw (set-getD (s .lo) p 0, set-getD (s .hi) p 0, set-getD (s .asker) p 0)
 
@@ -201,18 +212,19 @@ module _ (s : Station) (line clock : ℕ) (own : Own) (m : List ℕ) (out : ℕ)
   abbrev doneBy : ℕ → Acted
   doneBy n = actedFor n s (line % 8) clock own m route
 
-  stores : stored s (line % 8) (doneBy (early s line m out (length route)) .line) (doneBy (early s line m out (length route)) .remember) (numberIn m) (line % 8)
+  stores : stored s (set (s .lines) (line % 8) (doneBy (early s line m out (length route)) .line)) (doneBy (early s line m out (length route)) .remember) (numberIn m) (line % 8)
       ≡ stateAfter s (line % 8) m (doneBy (early s line m out (length route)))
   unfolding stateAfter actedFor
   stores =
       let o : Outcome = actOutcome (early s line m out (length route)) s (line % 8) clock own m route in
-      stored-by s (line % 8) (lineAt (o .state) (line % 8)) (isTaken m o) (numberIn m) (line % 8)
-      (kept s (line % 8) (early s line m out (length route)) clock own m out route (ready refl))
+      let k = kept s (line % 8) (early s line m out (length route)) clock own m out route (ready refl) in
+      stored-by s (set (s .lines) (line % 8) (lineAt (o .state) (line % 8))) (isTaken m o) (numberIn m) (line % 8)
+      (λ t. (k t .0, ap (set (s .lines) (line % 8)) (k t .1) ∙ set-getD (s .lines) (line % 8) nowhere))
 
   pub message-is : {n : ℕ} {a : Acted} → n ≡ early s line m out (length route) → a ≡ doneBy n
-      → partsOf a (usedOf (a .answer) m) (stored s (line % 8) (a .line) (a .remember) (numberIn m) (line % 8)) ≡ messageResult s line clock own m out route
+      → partsOf a (usedOf (a .answer) m) (stored s (set (s .lines) (line % 8) (a .line)) (a .remember) (numberIn m) (line % 8)) ≡ messageResult s line clock own m out route
   unfolding handledAfter
   message-is en ea =
-      ap (λ (b : Acted). partsOf b (usedOf (b .answer) m) (stored s (line % 8) (b .line) (b .remember) (numberIn m) (line % 8))) (ea ∙ ap doneBy en)
+      ap (λ (b : Acted). partsOf b (usedOf (b .answer) m) (stored s (set (s .lines) (line % 8) (b .line)) (b .remember) (numberIn m) (line % 8))) (ea ∙ ap doneBy en)
       ∙ ap (partsOf (doneBy (early s line m out (length route))) (usedOf (doneBy (early s line m out (length route)) .answer) m)) stores
       ∙ sym (message-told s line clock own m out route eight)

@@ -66,24 +66,6 @@ module _ (s : Station) (l clock : ℕ) (own : Own) (m route : List ℕ) where
   unfolding actOutcome
   takes-refusal {n} z = rw (ne-eqb n 0 z)
 
--- what a message does, and what stands in the two areas after it
-pub record Did (n : ℕ) (s : Station) (l clock : ℕ) (own : Own) (m out route : List ℕ) (r : Acted) (o a : List ℕ) : Type 0 where
-  pub acted : r ≡ actedFor n s l clock own m route
-  pub output : o ≡ over 0 (actOutcome n s l clock own m route .sent) out
-  pub area : a ≡ actOutcome n s l clock own m route .route
-
-module _ {n : ℕ} {s : Station} {l clock : ℕ} {own : Own} {m route : List ℕ} where
-  pub did : (out : List ℕ) (u : Outcome) (t : Bool) → actOutcome n s l clock own m route ≡ u → isTaken m u ≡ t
-      → {r : Acted} {o a : List ℕ} → r ≡ actedOf u l t → o ≡ over 0 (u .sent) out → a ≡ u .route
-      → Did n s l clock own m out route r o a
-  unfolding actedFor
-  did out u t e k er eo ea =
-      record {
-        acted = er ∙ ap₂ (λ (v : Outcome) b. actedOf v l b) (sym e) (sym k ∙ ap (isTaken m) (sym e));
-        output = eo ∙ ap (λ (v : Outcome). over 0 (v .sent) out) (sym e);
-        area = ea ∙ ap (λ (v : Outcome). v .route) (sym e);
-      }
-
 -- a message of another type than a query is not taken for one
 pub other-kind : (m : List ℕ) (u : Outcome) (k : ℕ) → kindOf m ≡ k → eqb k queryType ≡ false → isTaken m u ≡ false
 other-kind m u k e f = ap (λ b. b && eqb (u .answer) 0) (ap (λ x. eqb x queryType) e ∙ f)
@@ -107,6 +89,10 @@ update-acted s l m route h =
 pub update-route : (s : Station) (l : ℕ) (m route : List ℕ) → updateRoute (s .room) l (lineAt s l) (ttlOf m) (hopsOf m) (payloadOf m) route ≡ updateOutcome s l m route .route
 unfolding updateRoute updateOutcome
 update-route s l m route = refl
+
+pub update-sent : (s : Station) (l : ℕ) (m route : List ℕ) → [] ≡ updateOutcome s l m route .sent
+unfolding updateOutcome
+update-sent s l m route = refl
 
 -- a hit
 module _ (s : Station) (l : ℕ) (m route : List ℕ) (whole : 23 + sizeOf m ≤ length m) where

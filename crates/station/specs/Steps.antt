@@ -6,7 +6,7 @@ use mathlib.Core.List.{List, [], map}
 use lib.Dec.{eqb, leb}
 use lib.ListN.{length, set, getD}
 use Rattle.laws.specs.Tests.{any}
-use Rattle.wire.specs.Header.{ttlOf, hopsOf, sizeOf, payloadOf}
+use Rattle.wire.specs.Header.{ttlOf, hopsOf, sizeOf, payloadOf, numberOf}
 use Rattle.tables.specs.declared.Table.{Table}
 use Rattle.laws.specs.Parts.{over}
 use Rattle.laws.specs.Ring.{onward}
@@ -15,11 +15,15 @@ use Rattle.tables.specs.Updates.{updateAnswer, updated}
 use Rattle.protocol.specs.declared.Line.{Line}
 use Rattle.protocol.specs.declared.Station.{Station}
 use Rattle.protocol.specs.Memory.{capacity, here, Number}
-use Rattle.protocol.specs.Lines.{lineNumbers, isOther, nowhere, withTable, partOf}
+use Rattle.protocol.specs.declared.Own.{Own}
+use Rattle.protocol.specs.Lines.{lineNumbers, isOther, nowhere, withTable, pingedAt, partOf}
 use Rattle.protocol.specs.Outcomes.{eachLine, nobody, onlyTo, writtenFor}
 use Rattle.protocol.specs.Queries.{usualLimit, textIn, hasText, lifeOf, passes, queryOn}
 use Rattle.refusals.specs.Numbers.{queryNumber, hitNumber}
+use Rattle.pinging.specs.Numbers.{probing, pingNumber, pongKept}
+use Rattle.pinging.specs.Sending.{pongsWritten}
 use Rattle.station.specs.declared.acted.Acted.{Acted}
+use Rattle.station.specs.declared.asking.Sent.{Sent}
 
 -- answered n, with the line's record x after it; nothing is sent, searched, delivered or remembered
 abbrev pub quietly : ℕ → Line → Acted
@@ -50,6 +54,44 @@ updateActed room l x ttl hops payload route =
 
 unfoldable pub updateRoute : ℕ → ℕ → Line → ℕ → ℕ → List ℕ → List ℕ → List ℕ
 updateRoute room l x ttl hops payload route = over (l * room) (updated room (heldBy x room l route) ttl hops payload .entries) route
+
+-- a pong that is answered n
+abbrev pub pongActed : Line → ℕ → ℕ → ℕ → List ℕ → Acted
+pongActed x n hops clock payload = pickActed (eqb n 0) (quietly 0 (pongKept x payload hops clock)) (quietly n x)
+
+-- the line after an accepted ping: a probe's time is not kept
+abbrev pub timeKept : Line → Bool → ℕ → Line
+timeKept x probe clock = cond probe x (pingedAt x clock)
+
+abbrev pub backTo : ℕ → ℕ → List Bool
+backTo written l = cond (eqb written 0) nobody (onlyTo l)
+
+-- a ping that is answered n, with the pongs that go back to its line
+abbrev pub pingActed : Line → ℕ → ℕ → Bool → ℕ → List ℕ → Acted
+pingActed x n l probe clock pongs =
+    pickActed (eqb n 0)
+    (record {
+      answer = 0;
+      line = timeKept x probe clock;
+      remember = false;
+      written = length pongs;
+      to = backTo (length pongs) l;
+      search = false;
+      delivered = false;
+      textat = 0;
+      textlen = 0;
+    })
+    (quietly n x)
+
+abbrev pub pingSent : ℕ → List ℕ → List ℕ
+pingSent n pongs = cond (eqb n 0) pongs []
+
+-- what a ping is answered, and the pongs that go back for it
+abbrev pub pingBy : Line → ℕ → List ℕ → ℕ
+pingBy x clock m = pingNumber (x .pinged) (x .pingtime) clock (ttlOf m) (hopsOf m)
+
+abbrev pub pongsBack : ℕ → List Line → ℕ → ℕ → Own → List ℕ → List ℕ
+pongsBack out lines l clock own m = pongsWritten out lines l clock own (numberOf m) (hopsOf m) (probing (ttlOf m) (hopsOf m))
 
 -- a hit that is answered n, whose query was asked by k: delivered here, or passed on as `size` bytes behind its header
 abbrev pub hitActed : Line → ℕ → ℕ → ℕ → Acted
@@ -113,12 +155,22 @@ livesIn lines = eachLine (λ k. getD lines k nowhere .live)
 abbrev pub tablesIn : List Line → List Table
 tablesIn lines = map (λ k. getD lines k nowhere .table) lineNumbers
 
--- the state after a call as the code stores it: the line's record anew, and the number at the ring's next place where it is to be remembered
-unfoldable pub stored : Station → ℕ → Line → Bool → Number → ℕ → Station
-stored s l x taken n who =
+-- the lines that an own query goes to, and what is written of one that is answered n
+abbrev pub ownLines : List Line → ℕ → List ℕ → List ℕ → List Bool
+ownLines lines room text route = eachLine (λ k. passes (getD lines k nowhere .live) (heldBy (getD lines k nowhere) room k route) text usualLimit)
+
+abbrev pub ownWritten : ℕ → List Bool → List ℕ → List ℕ
+ownWritten n to bytes = cond (eqb n 0) (writtenFor to bytes) []
+
+abbrev pub sentBy : ℕ → List Bool → List ℕ → Sent
+sentBy n to bytes = record { written = length (ownWritten n to bytes); to = cond (eqb n 0) to nobody }
+
+-- the state after a call as the code stores it: these lines, and the number at the ring's next place where it is to be remembered
+unfoldable pub stored : Station → List Line → Bool → Number → ℕ → Station
+stored s lines taken n who =
     record {
       room = s .room;
-      lines = set (s .lines) l x;
+      lines = lines;
       lo = set (s .lo) (s .next % capacity) (cond taken (n .lo) (getD (s .lo) (s .next % capacity) 0));
       hi = set (s .hi) (s .next % capacity) (cond taken (n .hi) (getD (s .hi) (s .next % capacity) 0));
       asker = set (s .asker) (s .next % capacity) (cond taken who (getD (s .asker) (s .next % capacity) 0));

@@ -1,11 +1,14 @@
 // A fresh state, and lines opened and closed.
 ghost use mathlib.Core.Path.{_≡_};
 ghost use mathlib.Core.Bool.{cond};
-ghost use Prim.Native.Nat.{_/_};
-ghost use lib.Dec.{ltb};
+ghost use Prim.Native.Nat.{_/_, _%_};
+ghost use mathlib.Core.List.{map};
+ghost use lib.Dec.{eqb, ltb};
 ghost use lib.ListN.{length};
 ghost use Rattle.protocol.specs.Lines.{emptyLine};
-ghost use Rattle.protocol.specs.Calls.{fresh};
+ghost use Rattle.protocol.specs.Memory.{left};
+ghost use Rattle.protocol.specs.Calls.{fresh, opening, closing, changed};
+use crate::order::in_order;
 use protocol::Changed;
 use protocol::Line;
 use protocol::Pong;
@@ -77,4 +80,66 @@ pub fn fresh(route: &[u8]) -> Changed
         next: 0,
     };
     Changed { state, answer }
+}
+
+// The line's record after a change that is answered so: an empty line, or as it was where the change is refused.
+fn line_after(answer: u8, live: bool, x: Line) -> Line
+    ensures { λ r. ⌜ r ≡ cond (eqb answer 0) (emptyLine live) x ⌝ }
+{
+    if answer != 0 {
+        return x;
+    }
+    empty_line(live)
+}
+
+// A line is opened.
+pub fn open_line(mut s: Station, line: u32) -> Changed
+    ensures { λ r. ⌜ r ≡ changed (opening s line) ⌝ }
+{
+    let next = s.next;
+    let count = s.count;
+    let room = s.room;
+    let lines = s.lines;
+    let j = (line % 8) as usize;
+    let x = s.lines[j];
+    let order = in_order(&s.lo, &s.hi, &s.asker, next, count, room, lines);
+    let answer = refusals::opening(order, line, x.live);
+    let y = line_after(answer, true, x);
+    s.lines[j] = y;
+    Changed { state: s, answer }
+}
+
+// The line whose queries are marked gone; 9, which is gone already, where the closing is refused.
+fn leaver(answer: u8, line: u32) -> u8
+    ensures { λ r. ⌜ r ≡ cond (eqb answer 0) (line % 8) 9 ⌝ }
+{
+    if answer != 0 {
+        return 9;
+    }
+    (line % 8) as u8
+}
+
+fn leave_all(asker: &mut [u8; 512], line: u8)
+    ensures { λ _. ⌜ now (asker .exit) ≡ map (left line) (now (asker .entry)) ⌝ }
+{
+    memory::leave::leave(asker, line);
+}
+
+// A line is closed.
+pub fn close_line(mut s: Station, line: u32) -> Changed
+    ensures { λ r. ⌜ r ≡ changed (closing s line) ⌝ }
+{
+    let next = s.next;
+    let count = s.count;
+    let room = s.room;
+    let lines = s.lines;
+    let j = (line % 8) as usize;
+    let x = s.lines[j];
+    let order = in_order(&s.lo, &s.hi, &s.asker, next, count, room, lines);
+    let answer = refusals::closing(order, line, x.live);
+    let y = line_after(answer, false, x);
+    s.lines[j] = y;
+    let who = leaver(answer, line);
+    leave_all(&mut s.asker, who);
+    Changed { state: s, answer }
 }
