@@ -8,3 +8,5 @@ pub mod TurnLaws
 pub mod AnswerLaws
 pub mod AllLaws
 pub mod CallLaws
+pub mod Exact
+pub mod Answers
