@@ -13,7 +13,7 @@ use Rattle.wire.proofs.HeaderLaws.{message-length}
 use Rattle.tables.specs.Tables.{goodLength, goodInfinity, lengths}
 use Rattle.tablewriter.specs.declared.Written.{Written}
 use Rattle.tablewriter.specs.declared.run.Plan.{Plan}
-use Rattle.tablewriter.specs.Writer.{baseOf, allNear, bitsFor, dataOf, chunks, partsOf, runFrom, update, resetPayload, messagesOf, joined, inRange, goodTable, writerAnswer, writtenAs, writerBytes, writerResult, writerOut}
+use Rattle.tablewriter.specs.Writer.{baseOf, allNear, bitsFor, dataOf, chunks, partsOf, runFrom, update, resetPayload, messagesOf, joined, inRange, goodTable, runRules, writerAnswer, writtenAs, writerBytes, writerResult, writerOut}
 use Rattle.tablewriter.specs.Steps.{mayWrite, dataBy, leftOf, allBy, resetLength}
 use Rattle.tablewriter.proofs.RunLaws.{parts-joined, run-length}
 
@@ -55,9 +55,7 @@ module _ (number : List ℕ) (had : Bool) (old : List ℕ) (oldInfinity : ℕ) (
   answer-by : writerAnswer number had old oldInfinity new infinity size (length out)
       ≡ cond (mayWrite had old oldInfinity new infinity size)
       (firstOf
-      ((ltb 255 (length (partsOf size (dataOf new (baseOf had old new infinity)))), 14)
-      ∷ (ltb (length out) (length (joined (messagesOf number had old new infinity size))), 2)
-      ∷ []))
+      (runRules (length (partsOf size (dataOf new (baseOf had old new infinity)))) (length (joined (messagesOf number had old new infinity size))) (length out)))
       14
   unfolding writerAnswer mayWrite
   answer-by =

@@ -17,3 +17,5 @@ pub mod TurnLaws
 pub mod AnswerLaws
 pub mod AllLaws
 pub mod CallLaws
+pub mod Exact
+pub mod Answers

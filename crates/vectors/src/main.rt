@@ -3,9 +3,11 @@ mod places;
 mod print;
 mod texts;
 mod updates;
+mod writing;
 
 fn main() {
     places::all();
     texts::all();
     updates::all();
+    writing::all();
 }

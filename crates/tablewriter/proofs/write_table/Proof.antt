@@ -50,10 +50,14 @@ total c =
 may-write-requires : tie.Need-may-write-requires
 may-write-requires c κs = search needs
 
+answered-requires : tie.Need-answered-requires
+answered-requires c κs = search needs
+
 returns : tie.Need-returns
 returns c =
-    let x = c .before .before .before .before .before .args in
-    refused (x .number) (x .had) (x .old .now) (x .old-infinity) (x .new .now) (x .infinity) (x .size) (x .out .now) 14 (bad-given (x .number) (x .had) (x .old .now) (x .old-infinity) (x .new .now) (x .infinity) (x .size) (x .out .now) (sym (c .before .may-write .ensures) ∙ not-true _ (c .if1 .taken))) refl
+    let x = c .before .before .before .before .before .before .args in
+    let w = refused (x .number) (x .had) (x .old .now) (x .old-infinity) (x .new .now) (x .infinity) (x .size) (x .out .now) 14 (bad-given (x .number) (x .had) (x .old .now) (x .old-infinity) (x .new .now) (x .infinity) (x .size) (x .out .now) (sym (c .before .before .may-write .ensures) ∙ not-true _ (c .before .if1 .taken))) refl in
+    (c .answered .ensures ∙ w .0, w .1)
 
 all-near-requires : tie.Need-all-near-requires
 all-near-requires c κs =
@@ -72,11 +76,15 @@ sub-count c = omega (arith, good (c .before .before) .some)
 div-count : tie.Need-div-count
 div-count c = good (c .before .before) .some
 
+answered-requires-2 : tie.Need-answered-requires-2
+answered-requires-2 c κs = search needs
+
 returns-2 : tie.Need-returns-2
 returns-2 c =
-    let x = c .before .before .before .before .before .before .before .before .args in
-    let k = count (c .before) in
-    refused (x .number) (x .had) (x .old .now) (x .old-infinity) (x .new .now) (x .infinity) (x .size) (x .out .now) 14 (too-many (x .number) (x .had) (x .old .now) (x .old-infinity) (x .new .now) (x .infinity) (x .size) (x .out .now) (may (c .before .before .before)) (omega arith)) refl
+    let x = c .before .before .before .before .before .before .before .before .before .args in
+    let k = count (c .before .before) in
+    let w = refused (x .number) (x .had) (x .old .now) (x .old-infinity) (x .new .now) (x .infinity) (x .size) (x .out .now) 14 (too-many (x .number) (x .had) (x .old .now) (x .old-infinity) (x .new .now) (x .infinity) (x .size) (x .out .now) (may (c .before .before .before .before)) (omega arith)) refl in
+    (c .answered2 .ensures ∙ w .0, w .1)
 
 reset-length-requires : tie.Need-reset-length-requires
 reset-length-requires c κs = search needs
@@ -90,12 +98,16 @@ add-total c = omega (arith, c .reset-length .ensures, reset-few (c .before .befo
 add-total-2 : tie.Need-add-total-2
 add-total-2 c = omega (arith, few (c .before .before), c .reset-length .ensures, reset-few (c .before .before .before .before .before .before .before .before .before .args .had))
 
+answered-requires-3 : tie.Need-answered-requires-3
+answered-requires-3 c κs = search needs
+
 returns-3 : tie.Need-returns-3
 returns-3 c =
-    let x = c .before .before .before .before .before .before .before .before .before .before .args in
-    let k = count (c .before .before .before) in
-    let t = total (c .before) in
-    refused (x .number) (x .had) (x .old .now) (x .old-infinity) (x .new .now) (x .infinity) (x .size) (x .out .now) 2 (too-short (x .number) (x .had) (x .old .now) (x .old-infinity) (x .new .now) (x .infinity) (x .size) (x .out .now) (may (c .before .before .before .before .before)) (omega arith) (omega arith)) refl
+    let x = c .before .before .before .before .before .before .before .before .before .before .before .args in
+    let k = count (c .before .before .before .before) in
+    let t = total (c .before .before) in
+    let w = refused (x .number) (x .had) (x .old .now) (x .old-infinity) (x .new .now) (x .infinity) (x .size) (x .out .now) 2 (too-short (x .number) (x .had) (x .old .now) (x .old-infinity) (x .new .now) (x .infinity) (x .size) (x .out .now) (may (c .before .before .before .before .before .before)) (omega arith) (omega arith)) refl in
+    (c .answered3 .ensures ∙ w .0, w .1)
 
 cast-t19 : tie.Need-cast-t19
 cast-t19 c = search needs
@@ -109,38 +121,47 @@ put-all-requires c κs =
     let b = bytes-length (x .had) (x .number) (x .old .now) (x .new .now) (x .infinity) (x .size) (omega arith) (g .some) in
     plan-fits (x .number) (omega arith) (x .had) (x .old .now) (x .new .now) (x .infinity) (x .size) (g) (c .before .before .before .before .before .all-near .result) (c .before .before .before .before .before .all-near .ensures) _ _ k (omega arith)
 
+answered-requires-4 : tie.Need-answered-requires-4
+answered-requires-4 c κs = search needs
+
 same-length : tie.Need-same-length
 same-length c = search needs
 
 returns-4 : tie.Need-returns-4
 returns-4 c =
-    let x = c .before .before .before .before .before .before .before .before .before .before .before .before .before .before .args in
-    let a = c .before .before .before .before .before .before .before .before .all-near in
-    let k = count (c .before .before .before .before .before .before .before) in
-    let t = total (c .before .before .before .before .before) in
-    accepted (x .number) (x .had) (x .old .now) (x .old-infinity) (x .new .now) (x .infinity) (x .size) (x .out .now) _ _ (all-well (x .number) (x .had) (x .old .now) (x .old-infinity) (x .new .now) (x .infinity) (x .size) (x .out .now) (may (c .before .before .before .before .before .before .before .before .before)) (omega arith) (omega arith)) t
-    (c .before .before .put-all .ensures
+    let x = c .before .before .before .before .before .before .before .before .before .before .before .before .before .before .before .args in
+    let a = c .before .before .before .before .before .before .before .before .before .all-near in
+    let k = count (c .before .before .before .before .before .before .before .before) in
+    let t = total (c .before .before .before .before .before .before) in
+    let w =
+    accepted (x .number) (x .had) (x .old .now) (x .old-infinity) (x .new .now) (x .infinity) (x .size) (x .out .now) _ _ (all-well (x .number) (x .had) (x .old .now) (x .old-infinity) (x .new .now) (x .infinity) (x .size) (x .out .now) (may (c .before .before .before .before .before .before .before .before .before .before)) (omega arith) (omega arith)) t
+    (c .before .before .before .put-all .ensures
     ∙ ap (λ b. over 0 b (x .out .now))
-    (all-same (x .had) (x .number) (x .old .now) (x .new .now) (x .infinity) (x .size) (a .result) _ (a .ensures) k))
+    (all-same (x .had) (x .number) (x .old .now) (x .new .now) (x .infinity) (x .size) (a .result) _ (a .ensures) k)) in
+    (c .answered4 .ensures ∙ w .0, w .1)
 
 pub write-table-spec : {M : Type 1} → statement M
 write-table-spec =
     tie.close
     (tie.spec
     may-write-requires
+    answered-requires
     returns
     all-near-requires
     data-length-requires
     add-count
     sub-count
     div-count
+    answered-requires-2
     returns-2
     reset-length-requires
     mul-total
     add-total
     add-total-2
+    answered-requires-3
     returns-3
     cast-t19
     put-all-requires
+    answered-requires-4
     same-length
     returns-4)

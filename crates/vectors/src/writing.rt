@@ -1,0 +1,99 @@
+// `table LABEL ANSWER WRITTEN BYTES` and `run ENTRIES BITS SIZE ANSWER WRITTEN`
+use crate::print;
+
+fn number() -> [u8; 16] {
+    [0, 1, 2, 3, 4, 5, 6, 7, 8, 9, 10, 11, 12, 13, 14, 15]
+}
+
+// A row of what was written to the front of `out`.
+fn words(label: &[u8], answer: u8, written: usize, out: &[u8]) {
+    io::write_all(1, b"table ");
+    print::word(label);
+    print::space();
+    print::number(answer as u64);
+    print::space();
+    print::number(written as u64);
+    print::space();
+    if written <= out.len() {
+        print::hex(&out[..written]);
+    }
+    print::end();
+}
+
+// From no table, into an output area of `room` bytes.
+fn fresh(label: &[u8], new: &[u8], infinity: u8, size: usize, room: usize) {
+    let mut out = [0u8; 400];
+    let mut n = room;
+    if 400 < n {
+        n = 400;
+    }
+    let r = tablewriter::write_table(number(), false, new, 0, new, infinity, size, &mut out[..n]);
+    words(label, r.answer, r.written, &out);
+}
+
+// From an old table.
+fn change<'a>(label: &[u8], old: &'a [u8], was: u8, new: &'a [u8], infinity: u8, size: usize) {
+    let mut out = [0u8; 400];
+    let r = tablewriter::write_table(number(), true, old, was, new, infinity, size, &mut out);
+    words(label, r.answer, r.written, &out);
+}
+
+fn accepted() {
+    fresh(b"fresh", &[8, 1, 8, 1], 8, 4091, 400);
+    fresh(b"fresh1", &[8, 1, 8, 1], 8, 1, 400);
+    change(b"same", &[8, 1, 8, 1], 8, &[8, 1, 8, 1], 8, 4091);
+    change(b"change", &[8, 1, 8, 1], 8, &[1, 8, 1, 8], 8, 2);
+    change(b"wide", &[120, 1, 120, 1], 127, &[1, 120, 127, 1], 127, 3);
+    change(b"edge7", &[1, 9, 1, 1], 20, &[8, 1, 1, 1], 20, 2);
+    change(b"edge8", &[1, 9, 1, 1], 20, &[9, 1, 1, 1], 20, 2);
+}
+
+fn refused() {
+    fresh(b"length6", &[1, 1, 1, 1, 1, 1], 8, 9, 400);
+    fresh(b"entry0", &[0, 1, 1, 1], 8, 9, 400);
+    fresh(b"entry9", &[9, 1, 1, 1], 8, 9, 400);
+    change(b"old9", &[9, 1, 1, 1], 8, &[8, 1, 1, 1], 8, 9);
+    fresh(b"infinity1", &[1, 1, 1, 1], 1, 9, 400);
+    fresh(b"infinity128", &[1, 1, 1, 1], 128, 9, 400);
+    change(b"unlike", &[8, 8, 8, 8], 8, &[8, 8, 8, 8], 9, 9);
+    change(b"longer", &[8, 8, 8, 8], 8, &[8, 8, 8, 8, 8, 8, 8, 8], 8, 9);
+    fresh(b"size0", &[8, 1, 8, 1], 8, 0, 400);
+    fresh(b"size4092", &[8, 1, 8, 1], 8, 4092, 400);
+    fresh(b"exact", &[8, 1, 8, 1], 8, 4091, 59);
+    fresh(b"short", &[8, 1, 8, 1], 8, 4091, 58);
+    fresh(b"shortbad", &[0, 1, 8, 1], 8, 4091, 0);
+}
+
+fn run_words(entries: usize, bits: u8, size: usize, answer: u8, written: usize) {
+    io::write_all(1, b"run ");
+    print::number(entries as u64);
+    print::space();
+    print::number(bits as u64);
+    print::space();
+    print::number(size as u64);
+    print::space();
+    print::number(answer as u64);
+    print::space();
+    print::number(written as u64);
+    print::end();
+}
+
+// A long run: every entry 127 goes at 4 bits, every entry 1 at 8.
+fn run(new: &[u8], bits: u8, size: usize) {
+    let mut out = [0u8; 131072];
+    let r = tablewriter::write_table(number(), false, new, 0, new, 127, size, &mut out);
+    run_words(new.len(), bits, size, r.answer, r.written);
+}
+
+pub fn all() {
+    accepted();
+    refused();
+    let far = [127u8; 65536];
+    let near = [1u8; 65536];
+    run(&near, 8, 257);
+    run(&near, 8, 258);
+    run(&near, 8, 4091);
+    run(&far, 4, 128);
+    run(&far, 4, 129);
+    run(&far[..4], 4, 1);
+}
