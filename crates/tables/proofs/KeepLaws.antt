@@ -6,7 +6,7 @@ use mathlib.Core.Bool.{Bool, true, false, cond, not, _&&_, _||_, or-false, or-tr
 use mathlib.Core.List.{List, [], _∷_, _++_}
 use native.Mathlib.Omega.{arith}
 use lib.Dec.{eqb, leb}
-use lib.ListN.{length, getD, take, drop, replicate, length-take, length-drop, length-append, length-replicate}
+use lib.ListN.{length, take, drop, replicate, length-take, length-drop, length-append, length-replicate}
 use borrow.Author.Tests.{leb-true, eqb-true, ne-eqb, eqb-false, le-leb, not-false}
 use Rattle.laws.specs.Tests.{firstOf, all}
 use Rattle.laws.proofs.Over.{over-own, over-front-of}
@@ -90,7 +90,7 @@ module _ (room : ℕ) (h : Held) (ttl hops : ℕ) (p : List ℕ) where
       inr
       (record {
         number = e;
-        fields = rw (no-reset room h p (eqb-true (getD p 0 0) 1 v)) at (z .0);
+        fields = rw (no-reset room h p v) at (z .0);
         turn = not-false (inTurn h p) (rw v at (z .1));
         range = not-false (inRange h p) (rw v at (z .2));
         left = taken-left e ∙ rw v refl;
@@ -100,7 +100,7 @@ module _ (room : ℕ) (h : Held) (ttl hops : ℕ) (p : List ℕ) where
       inl
       (record {
         number = e;
-        fields = sym (or-false (goodReset room p)) ∙ (rw (no-patch room h p (eqb-false (getD p 0 0) 1 v)) at (z .0));
+        fields = sym (or-false (goodReset room p)) ∙ (rw (no-patch room h p v) at (z .0));
         left = taken-left e ∙ rw v refl;
       })
 

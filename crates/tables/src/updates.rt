@@ -12,6 +12,7 @@ use crate::Updated;
 use crate::WAITING;
 use crate::fields::entry_count;
 use crate::fields::good_reset;
+use crate::fields::is_patch;
 use crate::fields::length_in;
 use crate::numbers::add_all;
 use crate::turns::at_rest;
@@ -98,11 +99,7 @@ pub fn update(table: Table, ttl: u8, hops: u8, payload: &[u8], part: &mut [u8]) 
     if hops != 0 {
         return refused(14, table);
     }
-    if payload.len() == 0 {
-        return refused(14, table);
-    }
-    let variant = payload[0];
-    if variant == 1 {
+    if is_patch(payload) {
         return patch(table, payload, part);
     }
     reset(table, payload, part)
