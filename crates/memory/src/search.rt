@@ -80,5 +80,14 @@ pub fn find<'a>(
         return r;
     }
     let capacity = lo.len();
-    newest(lo, hi, asker, capacity, capacity - (count - next), next, a, b)
+    newest(
+        lo,
+        hi,
+        asker,
+        capacity,
+        capacity - (count - next),
+        next,
+        a,
+        b,
+    )
 }

@@ -19,9 +19,9 @@ abbrev μ-loop : tie.MeasureT-loop
 
 loop-holds : tie.Need-loop-holds Inv-loop μ-loop
 loop-holds c =
-  let a = c .before .before .before .args in
-  let e : a .passed + (a .from - a .from) ≡ a .passed = omega arith in
-  (search needs, search needs, rw e)
+    let a = c .before .before .before .args in
+    let e : a .passed + (a .from - a .from) ≡ a .passed = omega arith in
+    (search needs, search needs, rw e)
 
 sub-p : tie.Need-sub-p Inv-loop μ-loop
 sub-p c = search needs
@@ -49,46 +49,44 @@ byte-at-requires c κs = search needs
 
 returns : tie.Need-returns Inv-loop μ-loop
 returns c =
-  let a = c .before .before .before .before .before .before .before .before .before .before .args in
-  let l = c .before .before .before .before .before .before .loop in
-  let e = sym (l .inv .2) ∙ down-here (a .lo .now) (a .hi .now) (a .asker .now) (a .a) (a .b) (a .from) (a .stop) (a .passed) (l .p) (search needs) (search needs) (search needs) (c .before .before .before .if1 .taken) (sym (c .before .before .word-at .ensures) ∙ c .before .if2 .taken) in
-  rw (e, c .byte-at .ensures)
+    let a = c .before .before .before .before .before .before .before .before .before .before .args in
+    let l = c .before .before .before .before .before .before .loop in
+    let e = sym (l .inv .2) ∙ down-here (a .lo .now) (a .hi .now) (a .asker .now) (a .a) (a .b) (a .from) (a .stop) (a .passed) (l .p) (search needs) (search needs) (search needs) (c .before .before .before .if1 .taken) (sym (c .before .before .word-at .ensures) ∙ c .before .if2 .taken) in
+    rw (e, c .byte-at .ensures)
 
 loop-less : tie.Need-loop-less Inv-loop μ-loop
 loop-less c = search needs
 
 loop-again : tie.Need-loop-again Inv-loop μ-loop
 loop-again c =
-  let a = c .before .before .before .before .before .before .before .before .before .args in
-  let l = c .before .before .before .before .before .loop in
-  (
-    search needs,
-    search needs,
-    sym (down-on-too (a .lo .now) (a .hi .now) (a .asker .now) (a .a) (a .b) (a .from) (a .stop) (a .passed) (l .p) (search needs) (search needs) (search needs) (c .before .before .if1 .taken) (λ e. c .if2 .left (c .before .word-at .ensures ∙ e))) ∙ l .inv .2,
-  )
+    let a = c .before .before .before .before .before .before .before .before .before .args in
+    let l = c .before .before .before .before .before .loop in (
+      search needs,
+      search needs,
+      sym (down-on-too (a .lo .now) (a .hi .now) (a .asker .now) (a .a) (a .b) (a .from) (a .stop) (a .passed) (l .p) (search needs) (search needs) (search needs) (c .before .before .if1 .taken) (λ e. c .if2 .left (c .before .word-at .ensures ∙ e))) ∙ l .inv .2,
+    )
 
 loop-less-2 : tie.Need-loop-less-2 Inv-loop μ-loop
 loop-less-2 c = search needs
 
 loop-again-2 : tie.Need-loop-again-2 Inv-loop μ-loop
 loop-again-2 c =
-  let a = c .before .before .before .before .before .before .before .args in
-  let l = c .before .before .before .loop in
-  (
-    search needs,
-    search needs,
-    sym (down-on (a .lo .now) (a .hi .now) (a .asker .now) (a .a) (a .b) (a .from) (a .stop) (a .passed) (l .p) (search needs) (search needs) (search needs) (c .if1 .left)) ∙ l .inv .2,
-  )
+    let a = c .before .before .before .before .before .before .before .args in
+    let l = c .before .before .before .loop in (
+      search needs,
+      search needs,
+      sym (down-on (a .lo .now) (a .hi .now) (a .asker .now) (a .a) (a .b) (a .from) (a .stop) (a .passed) (l .p) (search needs) (search needs) (search needs) (c .if1 .left)) ∙ l .inv .2,
+    )
 
 absent-requires : tie.Need-absent-requires Inv-loop μ-loop
 absent-requires c κs = search needs
 
 returns-2 : tie.Need-returns-2 Inv-loop μ-loop
 returns-2 c =
-  let a = c .before .before .before .before .before .before .args in
-  let l = c .before .before .loop in
-  c .absent .ensures
-  ∙ ap looked (sym (left-end (a .lo .now) (a .hi .now) (a .asker .now) (a .a) (a .b) (l .p) (l .p - a .stop) (a .passed + (a .from - l .p)) (search needs)) ∙ l .inv .2)
+    let a = c .before .before .before .before .before .before .args in
+    let l = c .before .before .loop in
+    c .absent .ensures
+    ∙ ap looked (sym (left-end (a .lo .now) (a .hi .now) (a .asker .now) (a .a) (a .b) (l .p) (l .p - a .stop) (a .passed + (a .from - l .p)) (search needs)) ∙ l .inv .2)
 
 pub newest-spec : {M : Type 1} → statement M
 newest-spec =
