@@ -117,7 +117,13 @@ fn two() -> Case {
     let none = start().table;
     let r = tables::updates::update(none, 1, 0, b"\x00\x04\x00\x00\x00\x02", &mut part);
     let waiting = r.table;
-    let s = tables::updates::update(waiting, 1, 0, b"\x01\x01\x01\x00\x08\x00\x00\x00\x00", &mut part);
+    let s = tables::updates::update(
+        waiting,
+        1,
+        0,
+        b"\x01\x01\x01\x00\x08\x00\x00\x00\x00",
+        &mut part,
+    );
     let table = s.table;
     Case { table, part }
 }

@@ -14,33 +14,43 @@ fn words(label: &[u8], answer: u8, written: usize, out: &[u8]) {
     print::space();
     print::number(written as u64);
     print::space();
-    if written <= out.len() {
-        print::hex(&out[..written]);
-    }
+    print::hex(out, written);
     print::end();
 }
 
-// From no table, into an output area of `room` bytes.
-fn fresh(label: &[u8], new: &[u8], infinity: u8, size: usize, room: usize) {
+// From no table.
+fn fresh_in(label: &[u8], new: &[u8], infinity: u8, size: usize, out: &mut [u8]) {
+    let r = tablewriter::write_table(number(), false, new, 0, new, infinity, size, &mut *out);
+    words(label, r.answer, r.written, out);
+}
+
+fn fresh(label: &[u8], new: &[u8], infinity: u8, size: usize) {
     let mut out = [0u8; 400];
-    let mut n = room;
-    if 400 < n {
-        n = 400;
-    }
-    let r = tablewriter::write_table(number(), false, new, 0, new, infinity, size, &mut out[..n]);
-    words(label, r.answer, r.written, &out);
+    fresh_in(label, new, infinity, size, &mut out);
 }
 
 // From an old table.
+fn change_in<'a>(
+    label: &[u8],
+    old: &'a [u8],
+    was: u8,
+    new: &'a [u8],
+    infinity: u8,
+    size: usize,
+    out: &mut [u8],
+) {
+    let r = tablewriter::write_table(number(), true, old, was, new, infinity, size, &mut *out);
+    words(label, r.answer, r.written, out);
+}
+
 fn change<'a>(label: &[u8], old: &'a [u8], was: u8, new: &'a [u8], infinity: u8, size: usize) {
     let mut out = [0u8; 400];
-    let r = tablewriter::write_table(number(), true, old, was, new, infinity, size, &mut out);
-    words(label, r.answer, r.written, &out);
+    change_in(label, old, was, new, infinity, size, &mut out);
 }
 
 fn accepted() {
-    fresh(b"fresh", &[8, 1, 8, 1], 8, 4091, 400);
-    fresh(b"fresh1", &[8, 1, 8, 1], 8, 1, 400);
+    fresh(b"fresh", &[8, 1, 8, 1], 8, 4091);
+    fresh(b"fresh1", &[8, 1, 8, 1], 8, 1);
     change(b"same", &[8, 1, 8, 1], 8, &[8, 1, 8, 1], 8, 4091);
     change(b"change", &[8, 1, 8, 1], 8, &[1, 8, 1, 8], 8, 2);
     change(b"wide", &[120, 1, 120, 1], 127, &[1, 120, 127, 1], 127, 3);
@@ -49,19 +59,21 @@ fn accepted() {
 }
 
 fn refused() {
-    fresh(b"length6", &[1, 1, 1, 1, 1, 1], 8, 9, 400);
-    fresh(b"entry0", &[0, 1, 1, 1], 8, 9, 400);
-    fresh(b"entry9", &[9, 1, 1, 1], 8, 9, 400);
+    fresh(b"length6", &[1, 1, 1, 1, 1, 1], 8, 9);
+    fresh(b"entry0", &[0, 1, 1, 1], 8, 9);
+    fresh(b"entry9", &[9, 1, 1, 1], 8, 9);
     change(b"old9", &[9, 1, 1, 1], 8, &[8, 1, 1, 1], 8, 9);
-    fresh(b"infinity1", &[1, 1, 1, 1], 1, 9, 400);
-    fresh(b"infinity128", &[1, 1, 1, 1], 128, 9, 400);
+    fresh(b"infinity1", &[1, 1, 1, 1], 1, 9);
+    fresh(b"infinity128", &[1, 1, 1, 1], 128, 9);
     change(b"unlike", &[8, 8, 8, 8], 8, &[8, 8, 8, 8], 9, 9);
     change(b"longer", &[8, 8, 8, 8], 8, &[8, 8, 8, 8, 8, 8, 8, 8], 8, 9);
-    fresh(b"size0", &[8, 1, 8, 1], 8, 0, 400);
-    fresh(b"size4092", &[8, 1, 8, 1], 8, 4092, 400);
-    fresh(b"exact", &[8, 1, 8, 1], 8, 4091, 59);
-    fresh(b"short", &[8, 1, 8, 1], 8, 4091, 58);
-    fresh(b"shortbad", &[0, 1, 8, 1], 8, 4091, 0);
+    fresh(b"size0", &[8, 1, 8, 1], 8, 0);
+    fresh(b"size4092", &[8, 1, 8, 1], 8, 4092);
+    let mut exact = [0u8; 59];
+    fresh_in(b"exact", &[8, 1, 8, 1], 8, 4091, &mut exact);
+    let mut short = [0u8; 58];
+    fresh_in(b"short", &[8, 1, 8, 1], 8, 4091, &mut short);
+    fresh_in(b"shortbad", &[0, 1, 8, 1], 8, 4091, &mut short[..0]);
 }
 
 fn run_words(entries: usize, bits: u8, size: usize, answer: u8, written: usize) {
@@ -79,9 +91,8 @@ fn run_words(entries: usize, bits: u8, size: usize, answer: u8, written: usize) 
 }
 
 // A long run: every entry 127 goes at 4 bits, every entry 1 at 8.
-fn run(new: &[u8], bits: u8, size: usize) {
-    let mut out = [0u8; 131072];
-    let r = tablewriter::write_table(number(), false, new, 0, new, 127, size, &mut out);
+fn run(new: &[u8], bits: u8, size: usize, out: &mut [u8]) {
+    let r = tablewriter::write_table(number(), false, new, 0, new, 127, size, out);
     run_words(new.len(), bits, size, r.answer, r.written);
 }
 
@@ -90,10 +101,11 @@ pub fn all() {
     refused();
     let far = [127u8; 65536];
     let near = [1u8; 65536];
-    run(&near, 8, 257);
-    run(&near, 8, 258);
-    run(&near, 8, 4091);
-    run(&far, 4, 128);
-    run(&far, 4, 129);
-    run(&far[..4], 4, 1);
+    let mut out = [0u8; 131072];
+    run(&near, 8, 257, &mut out);
+    run(&near, 8, 258, &mut out);
+    run(&near, 8, 4091, &mut out);
+    run(&far, 4, 128, &mut out);
+    run(&far, 4, 129, &mut out);
+    run(&[127u8; 4], 4, 1, &mut out);
 }
