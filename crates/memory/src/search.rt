@@ -2,7 +2,7 @@
 ghost use Prim.Native.Nat.{_+_, _-_, _<_, _≤_};
 ghost use mathlib.Core.Path.{_≡_};
 ghost use lib.ListN.{length};
-ghost use Rattle.protocol.specs.Memory.{Found, Absent, find};
+ghost use Rattle.protocol.specs.Memory.{Absent, find};
 ghost use Rattle.memory.specs.Queries.{queriesBefore, queriesIn, behind, looked};
 use crate::places::byte_at;
 use crate::places::ring_fits;

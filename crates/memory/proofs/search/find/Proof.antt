@@ -1,15 +1,14 @@
-use Rattle.memory.proofs.SearchLaws.{find-straight, find-first, find-second}
-use Rattle.memory.proofs.QueryLaws.{kept-none, fits-next, fits-count}
+-- A look-up in the kept queries is one below `next`, and, where that finds nothing and more are kept, one at the end of the slices.
+use mathlib.Core.Path.{sym, ap, _∙_}
+use native.Mathlib.Omega.{arith}
+use lib.ListN.{length}
+use borrow.Author.Tests.{not-true, not-false}
+use borrow.Author.Needs.{needs}
+use Rattle.protocol.specs.Memory.{find}
 use Rattle.memory.specs.Queries.{looked}
 use Rattle.memory.specs.declared.search.Looked.{Looked}
-use Rattle.protocol.specs.Memory.{find, Absent}
-use borrow.Author.Tests.{not-true, not-false}
-use lib.ListN.{length}
-use mathlib.Core.Bool.{Bool}
-use mathlib.Core.Path.{_≡_, sym, ap, _∙_}
-use Prim.Native.Nat.{_≤_, _<_}
-use native.Mathlib.Omega.{arith}
-use borrow.Author.Needs.{needs}
+use Rattle.memory.proofs.SearchLaws.{find-straight, find-first, find-second}
+use Rattle.memory.proofs.QueryLaws.{kept-none, fits-next, fits-count}
 use Rattle.memory.proofs.search.find.Statement.{statement}
 use Rattle.memory.proofs.search.find.Tie as tie
 

@@ -1,10 +1,10 @@
-use Rattle.memory.proofs.SearchLaws.{leftOf, left-end, down-here, down-on, down-on-too}
-use Rattle.memory.specs.Queries.{looked}
-use Rattle.protocol.specs.Memory.{Found}
+-- What is left below p, behind what was passed, is what there is below `from`.
+use Prim.Native.Nat.{_-_, _≤_, _+_}
 use mathlib.Core.Path.{_≡_, sym, ap, _∙_}
 use native.Mathlib.Omega.{arith}
-use Prim.Native.Nat.{_-_, _≤_, _+_}
 use borrow.Author.Needs.{needs}
+use Rattle.memory.specs.Queries.{looked}
+use Rattle.memory.proofs.SearchLaws.{leftOf, left-end, down-here, down-on, down-on-too}
 use Rattle.memory.proofs.search.newest.Statement.{statement}
 use Rattle.memory.proofs.search.newest.Tie as tie
 
