@@ -50,3 +50,18 @@ pub fn hex(bytes: &[u8], n: usize) {
         i += 1;
     }
 }
+
+// The text stands in the area from place `at` on, as far as it reaches.
+pub fn put(area: &mut [u8], at: usize, text: &[u8]) {
+    let mut i = 0;
+    while i < text.len() {
+        if area.len() <= at {
+            return;
+        }
+        if area.len() - at <= i {
+            return;
+        }
+        area[at + i] = text[i];
+        i += 1;
+    }
+}

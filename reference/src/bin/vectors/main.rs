@@ -1,5 +1,7 @@
 //! Prints the table of `docs/VECTORS.md`.
 
+mod handshake;
+
 use lunozhar_reference::hash::place;
 use lunozhar_reference::keywords::keywords;
 use lunozhar_reference::table::Table;
@@ -15,6 +17,7 @@ fn main() -> io::Result<()> {
     withheld(&mut out)?;
     tables(&mut out)?;
     runs(&mut out)?;
+    handshake::all(&mut out)?;
     out.flush()
 }
 
