@@ -1,0 +1,3 @@
+-- What contracts of the handshake reader cite.
+pub mod Text
+pub mod Lines

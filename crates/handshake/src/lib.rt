@@ -1,0 +1,2 @@
+// The handshake: reading a group of lines, and asking it for a field.
+pub mod text;

@@ -1,0 +1,2 @@
+-- Laws on lists and numbers that proofs of several crates cite.
+pub mod Text
