@@ -6,12 +6,12 @@ use Prim.Native.Nat.{ℕ, zero, suc, _+_, _-_, _*_, _^_, _≤_, _<_}
 use native.Mathlib.Nat.{pow-suc, pow-le-pow-right}
 use native.Mathlib.Numerals.{add-one}
 use native.Mathlib.Omega.{arith}
-use lib.ListN.{length, getD, take, drop, length-drop, drop-of-length-le}
+use lib.ListN.{length, getD, take, drop, length-take, drop-of-length-le}
 use lib.Seq.{drop-cons}
 use lib.Dec.{eqb, leb}
 use borrow.Author.Tests.{eq-eqb, ne-eqb, leb-true}
 use Rattle.handshake.proofs.Tests.{tests}
-use Rattle.handshake.specs.Text.{run, compared, same, digitOf, decimalFrom, isDigit}
+use Rattle.handshake.specs.Text.{run, compared, same, digitOf, decimalFrom, isDigit, digitCount}
 
 and-false : (t : Bool) → (t && false) ≡ false
 and-false true = refl
@@ -46,6 +46,10 @@ run-length f (b ∷ bs) = run-case (f (b ∷ bs)) (run f bs) (length bs) (run-le
     run-case : (t : Bool) (m n : ℕ) → m ≤ n → cond t (suc m) 0 ≤ suc n
     run-case true m n h = omega arith
     run-case false m n h = omega arith
+
+-- more than six digits are not looked at
+pub digit-count : (s : List ℕ) → digitCount s ≤ 6
+digit-count s = omega (arith, run-length (λ t. isDigit (getD t 0 0)) (take 6 s), length-take 6 s)
 
 -- texts of other lengths are not the same
 pub same-lengths : (fold : Bool) (a b : List ℕ) → (length a ≡ length b → ⊥) → same fold a b ≡ false
