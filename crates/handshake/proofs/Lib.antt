@@ -2,3 +2,4 @@
 pub mod Tests
 pub mod TextLaws
 pub mod LineLaws
+pub mod FieldLaws

@@ -3,3 +3,4 @@ pub mod Text
 pub mod Lines
 pub mod Start
 pub mod Fields
+pub mod Step

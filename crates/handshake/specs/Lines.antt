@@ -35,6 +35,10 @@ inLine s = not (pairAt s 0)
 abbrev pub lineLength : List ℕ → ℕ
 lineLength s = run inLine s
 
+-- the line that starts at a place
+unfoldable pub lineAt : List ℕ → ℕ → List ℕ
+lineAt s at = take (lineLength (drop at s)) (drop at s)
+
 -- a byte more at the front of the first line
 abbrev pub onto : ℕ → List (List ℕ) → List (List ℕ)
 onto a [] = (a ∷ []) ∷ []

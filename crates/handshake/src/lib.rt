@@ -1,4 +1,5 @@
 // The handshake: reading a group of lines, and asking it for a field.
+pub mod fields;
 pub mod lines;
 pub mod start;
 pub mod text;
