@@ -13,12 +13,12 @@ use Rattle.laws.specs.Tests.{all}
 use Rattle.laws.specs.Parts.{over}
 use Rattle.laws.proofs.Text.{over-append}
 use Rattle.handshake.specs.Text.{run, leading, isBlank, sameName}
-use Rattle.handshake.specs.Lines.{inLine, lineLength, lineAt, linesOf, onto}
+use Rattle.handshake.specs.Lines.{inLine, lineLength, lineAt, linesOf, onto, firstLine, otherLines}
 use Rattle.handshake.specs.Fields.{continues, nameOf, nameLength, valueOf, withoutBlanks, continued, fieldsOf, valuesOf, commaEach, commaBetween, isNone, isAbsent, valueFor, lineOk, linesOk}
 use Rattle.handshake.specs.Step.{passed, stepFrom, stepOf, valueStart, separated, addedBy}
 use Rattle.handshake.specs.declared.fields.Step.{Step}
 use Rattle.handshake.proofs.TextLaws.{run-length}
-use Rattle.handshake.proofs.LineLaws.{lines-step}
+use Rattle.handshake.proofs.LineLaws.{lines-step, lines-first, lines-others}
 
 -- ---- a line of the lines from a place on
 
@@ -229,3 +229,12 @@ none-separated b e = rw (eq-eqb b 0 e)
 
 pub some-separated : (b : ℕ) → (b ≡ 0 → ⊥) → separated b ≡ b ∷ []
 some-separated b e = rw (ne-eqb b 0 e)
+
+-- ---- the first line and the others
+
+pub first-at : (s : List ℕ) → lineAt s 0 ≡ firstLine (linesOf s)
+unfolding lineAt
+first-at s = sym (lines-first s)
+
+pub others-at : (s : List ℕ) → linesOf (drop (length (lineAt s 0) + 2) s) ≡ otherLines (linesOf s)
+others-at s = ap (λ k. linesOf (drop (k + 2) s)) (line-size s 0) ∙ sym (lines-others s)

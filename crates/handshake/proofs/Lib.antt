@@ -3,3 +3,4 @@ pub mod Tests
 pub mod TextLaws
 pub mod LineLaws
 pub mod FieldLaws
+pub mod GroupLaws

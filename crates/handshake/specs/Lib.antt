@@ -4,3 +4,4 @@ pub mod Lines
 pub mod Start
 pub mod Fields
 pub mod Step
+pub mod Group

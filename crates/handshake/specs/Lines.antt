@@ -23,10 +23,6 @@ firstFrom f (suc k) i = cond (f i) i (firstFrom f k (i + 1))
 unfoldable pub groupLength : List ℕ → ℕ
 groupLength m = firstFrom (endsAt m) (min (length m) 4096 - 1) 2
 
--- the lines of a group without the empty one
-abbrev pub linesBytes : List ℕ → List ℕ
-linesBytes m = take (groupLength m - 2) m
-
 -- no CR and LF stand at the front
 abbrev pub inLine : List ℕ → Bool
 inLine s = not (pairAt s 0)

@@ -213,7 +213,7 @@ fn put(out: &mut [u8], at: usize, separator: u8, part: &[u8]) -> usize
 }
 
 // The value of the name is written to the front of `out`, which has room for it.
-fn write_value(s: &[u8], name: &[u8], out: &mut [u8])
+pub(crate) fn write_value(s: &[u8], name: &[u8], out: &mut [u8])
     requires { ⌜ length (valueFor (now name) (linesOf (now s))) ≤ length (now out) ⌝ }
     ensures { λ r. ⌜ now (out .exit) ≡ over 0 (valueFor (now (name .entry)) (linesOf (now (s .entry)))) (now (out .entry)) ⌝ }
 {
