@@ -4,3 +4,4 @@ pub mod TextLaws
 pub mod LineLaws
 pub mod FieldLaws
 pub mod GroupLaws
+pub mod Vectors
