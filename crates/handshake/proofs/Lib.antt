@@ -5,3 +5,5 @@ pub mod LineLaws
 pub mod FieldLaws
 pub mod GroupLaws
 pub mod Vectors
+pub mod Ends
+pub mod Behind

@@ -5,3 +5,4 @@ pub mod Start
 pub mod Fields
 pub mod Step
 pub mod Group
+pub mod Claims
