@@ -1,11 +1,10 @@
-use mathlib.Core.Path.{_≡_, refl, sym, ap, ap₂, _∙_}
-use borrow.Author.Tests.{eq-eqb, ne-eqb, lt-ltb, le-ltb, le-leb, lt-leb}
+use mathlib.Core.Path.{_≡_, sym, ap, _∙_}
+use borrow.Author.Tests.{eq-eqb, ne-eqb}
 use mathlib.Core.Bool.{false}
-use lib.ListN.{length, take}
 use Rattle.handshake.specs.Text.{isText, leading}
-use Rattle.handshake.specs.Lines.{linesOf, lineAt, firstLine}
+use Rattle.handshake.specs.Lines.{lineAt, firstLine}
 use Rattle.handshake.specs.Fields.{linesOk}
-use Rattle.handshake.specs.Group.{understood, linesIn, startIn, fieldsIn}
+use Rattle.handshake.specs.Group.{understood, linesIn}
 use Rattle.handshake.specs.declared.start.Start.{Start}
 use Rattle.handshake.proofs.FieldLaws.{first-at, all-run, not-all-run}
 use borrow.Author.Needs.{needs}

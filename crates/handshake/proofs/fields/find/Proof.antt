@@ -1,14 +1,13 @@
 -- What was counted and what is still to be added make the value's length.
-use Prim.Native.Nat.{ℕ, _+_, _-_, _≤_, _<_}
-use mathlib.Core.Path.{_≡_, refl, sym, ap, ap₂, _∙_}
+use Prim.Native.Nat.{ℕ, _+_, _-_}
+use mathlib.Core.Path.{_≡_, sym, ap, ap₂, _∙_}
 use native.Mathlib.Omega.{arith}
-use mathlib.Core.Bool.{Bool, true, false, not}
+use mathlib.Core.Bool.{Bool, not}
 use lib.ListN.{length, drop}
 use Rattle.handshake.specs.Lines.{linesOf}
 use Rattle.handshake.specs.Fields.{isAbsent, valueFor}
-use Rattle.handshake.specs.Step.{addedBy, separated}
 use Rattle.handshake.specs.declared.fields.Found.{Found}
-use Rattle.handshake.proofs.FieldLaws.{line-fits, line-none, streamed, foundAfter, streamed-on, found-on, streamed-all, found-all, value-short, count-on}
+use Rattle.handshake.proofs.FieldLaws.{line-fits, line-none, streamed, foundAfter, found-on, streamed-all, found-all, value-short, count-on}
 use borrow.Author.Needs.{needs}
 use Rattle.handshake.proofs.fields.find.Statement.{statement}
 use Rattle.handshake.proofs.fields.find.Tie as tie
