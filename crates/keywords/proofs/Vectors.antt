@@ -2,13 +2,28 @@
 use Prim.Native.Nat.{ℕ}
 use mathlib.Core.Path.{_≡_, refl}
 use mathlib.Core.List.{List, [], _∷_, map}
-use Rattle.keywords.specs.Keywords.{lower, keywordsOf, pieces, filled, isSeparator}
-use Rattle.keywords.specs.Hash.{word, hashOf, placeOf, placeIn}
+use lib.ListN.{take}
+use Rattle.keywords.specs.Keywords.{lower, keywordsOf, pieces, filled, isSeparator, leading, cutOf}
+use Rattle.keywords.specs.Hash.{xor32, word, hashOf, placeOf, placeIn}
 
-thirteen : map (placeOf 13) ([] ∷ (0x65 ∷ 0x62 ∷ []) ∷ (0x65 ∷ 0x62 ∷ 0x63 ∷ 0x6B ∷ 0x6C ∷ []) ∷ []) ≡ 0 ∷ 6791 ∷ 3179 ∷ []
-unfolding word hashOf
+-- ebcklmenq
+letters : List ℕ
+letters = 0x65 ∷ 0x62 ∷ 0x63 ∷ 0x6B ∷ 0x6C ∷ 0x6D ∷ 0x65 ∷ 0x6E ∷ 0x71 ∷ []
+
+-- the empty keyword, eb, ebc, .. ebcklmenq at 13 bits
+thirteen : map (λ n. placeOf 13 (take n letters)) (0 ∷ 2 ∷ 3 ∷ 4 ∷ 5 ∷ 6 ∷ 7 ∷ 8 ∷ 9 ∷ [])
+    ≡ 0 ∷ 6791 ∷ 7082 ∷ 6698 ∷ 3179 ∷ 3235 ∷ 6438 ∷ 1062 ∷ 3527 ∷ []
+unfolding letters lower word xor32 hashOf
 thirteen = refl
 
-two : map (placeIn 4) (keywordsOf (0x65 ∷ 0x42 ∷ 0x20 ∷ 0x20 ∷ 0x65 ∷ 0x62 ∷ 0x63 ∷ 0x6B ∷ 0x6C ∷ [])) ≡ 3 ∷ 1 ∷ []
-unfolding word hashOf keywordsOf pieces filled
+-- " eB  ebckl": two keywords, their places in a table of four entries, and where the first one stands
+text : List ℕ
+text = 0x20 ∷ 0x65 ∷ 0x42 ∷ 0x20 ∷ 0x20 ∷ take 5 letters
+
+two : map (placeIn 4) (keywordsOf text) ≡ 3 ∷ 1 ∷ []
+unfolding text letters lower isSeparator word xor32 hashOf keywordsOf pieces filled
 two = refl
+
+cut : cutOf text ≡ record { start = 1; end = 3 }
+unfolding text letters isSeparator leading
+cut = refl

@@ -4,13 +4,17 @@ use mathlib.Core.List.{List, [], _∷_, map}
 use Rattle.laws.specs.Bytes.{little, xor}
 use Rattle.keywords.specs.Keywords.{lower}
 
+-- exclusive or of two 32-bit numbers
+unfoldable pub xor32 : ℕ → ℕ → ℕ
+xor32 a b = xor 32 a b
+
 -- chunks of four bytes, little-endian, the last zero-padded, joined by exclusive or
 unfoldable pub word : List ℕ → ℕ
 word [] = 0
 word (a ∷ []) = little (a ∷ [])
 word (a ∷ b ∷ []) = little (a ∷ b ∷ [])
 word (a ∷ b ∷ c ∷ []) = little (a ∷ b ∷ c ∷ [])
-word (a ∷ b ∷ c ∷ d ∷ rest) = xor 32 (little (a ∷ b ∷ c ∷ d ∷ [])) (word rest)
+word (a ∷ b ∷ c ∷ d ∷ rest) = xor32 (little (a ∷ b ∷ c ∷ d ∷ [])) (word rest)
 
 -- the factor of document 001's appendix
 abbrev pub factor : ℕ
@@ -20,7 +24,7 @@ factor = 0x4F1BBCDC
 unfoldable pub hashOf : List ℕ → ℕ
 hashOf k = word (map lower k) * factor % 2 ^ 32
 
--- the place of a keyword in a table of 2 to the power b entries: the top b bits of its hash
+-- the place of a keyword in a table of 2 to the power b entries: the top b bits of its hash. From 32 on b means 32.
 abbrev pub placeOf : ℕ → List ℕ → ℕ
 placeOf b k = hashOf k / 2 ^ (32 - b)
 
@@ -34,4 +38,4 @@ placeIn n k = scaled n (hashOf k)
 -- document 001's appendix: the byte at index i is shifted by i modulo 4 bytes and joined by exclusive or
 unfoldable pub rolling : ℕ → ℕ → List ℕ → ℕ
 rolling acc j [] = acc
-rolling acc j (b ∷ bs) = rolling (xor 32 acc (b * 256 ^ j)) ((j + 1) % 4) bs
+rolling acc j (b ∷ bs) = rolling (xor32 acc (b * 256 ^ j)) ((j + 1) % 4) bs

@@ -1,16 +1,17 @@
 -- Keywords of a text, as document 01 has them in "Keywords and hash".
-use Prim.Native.Nat.{ℕ, suc, _+_}
+use Prim.Native.Nat.{ℕ, suc, _+_, _-_}
 use mathlib.Core.Bool.{Bool, true, false, cond, not, _&&_}
 use mathlib.Core.List.{List, [], _∷_, map}
 use lib.Dec.{eqb, leb}
-use lib.ListN.{drop}
+use lib.ListN.{take, drop}
+use Rattle.keywords.specs.declared.cut.Cut.{Cut}
 
 -- the bytes that part keywords
-abbrev pub isSeparator : ℕ → Bool
+unfoldable pub isSeparator : ℕ → Bool
 isSeparator b = eqb b 0x20
 
 -- A to Z become a to z, other bytes stay
-abbrev pub lower : ℕ → ℕ
+unfoldable pub lower : ℕ → ℕ
 lower b = cond (leb 0x41 b && leb b 0x5A) (b + 32) b
 
 -- a byte in front of the first of these pieces
@@ -18,29 +19,53 @@ abbrev pub onto : ℕ → List (List ℕ) → List (List ℕ)
 onto b [] = (b ∷ []) ∷ []
 onto b (p ∷ ps) = (b ∷ p) ∷ ps
 
--- the text cut at each separator
-unfoldable pub pieces : List ℕ → List (List ℕ)
-pieces [] = [] ∷ []
-pieces (b ∷ bs) = cond (isSeparator b) ([] ∷ pieces bs) (onto b (pieces bs))
-
 -- empty pieces vanish
 unfoldable pub filled : List (List ℕ) → List (List ℕ)
 filled [] = []
 filled ([] ∷ ps) = filled ps
 filled ((b ∷ p) ∷ ps) = (b ∷ p) ∷ filled ps
 
--- the keywords of a text, in lower case, in order
-unfoldable pub keywordsOf : List ℕ → List (List ℕ)
-keywordsOf text = map (map lower) (filled (pieces text))
-
 -- how many elements at the front meet the test
 unfoldable pub leading : (ℕ → Bool) → List ℕ → ℕ
 leading f [] = 0
 leading f (x ∷ xs) = cond (f x) (suc (leading f xs)) 0
 
+-- the bytes that are separators; or, where this is false, the others
+abbrev pub matching : Bool → ℕ → Bool
+matching true b = isSeparator b
+matching false b = not (isSeparator b)
+
+-- for any test of a separator
+module _ (separates : ℕ → Bool) where
+  -- the text cut at each separator
+  unfoldable pub pieces : List ℕ → List (List ℕ)
+  pieces [] = [] ∷ []
+  pieces (b ∷ bs) = cond (separates b) ([] ∷ pieces bs) (onto b (pieces bs))
+
+  -- where the first piece that is not empty begins, and where it ends; both the text's length where there is none
+  abbrev pub startBy : List ℕ → ℕ
+  startBy text = leading separates text
+
+  abbrev pub endBy : List ℕ → ℕ
+  endBy text = startBy text + leading (λ b. not (separates b)) (drop (startBy text) text)
+
+-- the keywords of a text, in lower case, in order
+unfoldable pub keywordsOf : List ℕ → List (List ℕ)
+keywordsOf text = map (map lower) (filled (pieces isSeparator text))
+
 -- where the first keyword of a text begins, and where it ends; both the text's length where there is none
 abbrev pub cutStart : List ℕ → ℕ
-cutStart text = leading isSeparator text
+cutStart = startBy isSeparator
 
 abbrev pub cutEnd : List ℕ → ℕ
-cutEnd text = cutStart text + leading (λ b. not (isSeparator b)) (drop (cutStart text) text)
+cutEnd = endBy isSeparator
+
+abbrev pub cutOf : List ℕ → Cut
+cutOf text = record { start = cutStart text; end = cutEnd text }
+
+-- the first keyword as the text has it, upper case and all, and the text behind it
+abbrev pub keywordAt : List ℕ → List ℕ
+keywordAt text = take (cutEnd text - cutStart text) (drop (cutStart text) text)
+
+abbrev pub textBehind : List ℕ → List ℕ
+textBehind text = drop (cutEnd text) text

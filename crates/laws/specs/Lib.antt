@@ -2,3 +2,4 @@
 pub mod Tests
 pub mod Bytes
 pub mod Parts
+pub mod Ring

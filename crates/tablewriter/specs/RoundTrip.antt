@@ -1,15 +1,15 @@
 -- Reading what was written: from the old table, settled and with room, or from anything where there was none, every message is answered 0
 -- and the new table stands, settled.
-use Prim.Native.Nat.{ℕ, _≤_}
+use Prim.Native.Nat.{ℕ, zero, suc, _+_, _≤_}
 use mathlib.Core.Path.{_≡_}
-use mathlib.Core.Bool.{Bool, true, false}
-use mathlib.Core.List.{List, [], _∷_}
-use lib.ListN.{length}
-use Rattle.wire.specs.Header.{ttlOf, hopsOf, payloadOf}
+use mathlib.Core.Bool.{Bool, true, false, cond}
+use mathlib.Core.List.{List, [], _∷_, _++_}
+use lib.ListN.{length, take, drop, replicate}
+use Rattle.wire.specs.Header.{ttlOf, hopsOf, sizeOf, payloadOf}
 use Rattle.tables.specs.declared.Table.{Table}
 use Rattle.tables.specs.Tables.{Held, settled}
 use Rattle.tables.specs.Updates.{updateAnswer, updated}
-use Rattle.tablewriter.specs.Writer.{messagesOf, writerAnswer}
+use Rattle.tablewriter.specs.Writer.{baseOf, bitsFor, dataOf, partsOf, resetPayload, patchPayload, joined, messagesOf, writerAnswer}
 
 -- a whole message handed to the table's rules
 abbrev pub answerTo : ℕ → Held → List ℕ → ℕ
@@ -27,6 +27,26 @@ unfoldable pub afterAll : ℕ → Held → List (List ℕ) → Held
 afterAll room h [] = h
 afterAll room h (m ∷ ms) = afterAll room (after room h m) ms
 
+-- the messages that stand one after another in some bytes, each 23 bytes and its payload; at most n of them
+unfoldable pub messagesIn : ℕ → List ℕ → List (List ℕ)
+messagesIn zero bytes = []
+messagesIn (suc n) [] = []
+messagesIn (suc n) (b ∷ bs) = take (23 + sizeOf (b ∷ bs)) (b ∷ bs) ∷ messagesIn n (drop (23 + sizeOf (b ∷ bs)) (b ∷ bs))
+
+-- the payloads of the writer's messages
+unfoldable pub runPayloads : ℕ → ℕ → ℕ → List (List ℕ) → List (List ℕ)
+runPayloads place size bits [] = []
+runPayloads place size bits (d ∷ ds) = patchPayload place size bits d ∷ runPayloads (suc place) size bits ds
+
+unfoldable pub payloadsOf : Bool → List ℕ → List ℕ → ℕ → ℕ → List (List ℕ)
+payloadsOf had old new infinity size =
+    cond had [] (resetPayload (length new) infinity ∷ [])
+    ++ runPayloads
+    1
+    (length (partsOf size (dataOf new (baseOf had old new infinity))))
+    (bitsFor new (baseOf had old new infinity))
+    (partsOf size (dataOf new (baseOf had old new infinity)))
+
 -- a settled table of these entries
 abbrev pub settledTable : ℕ → ℕ → Table
 settledTable n infinity = record { mark = settled; length = n; infinity = infinity; place = 1; size = 0; bits = 0; at = 0 }
@@ -42,3 +62,19 @@ pub record Stands (h : Held) (es : List ℕ) (infinity : ℕ) : Type 0 where
   pub place : h .table .place ≡ 1
   pub at : h .table .at ≡ 0
   pub entries : h .entries ≡ es
+
+-- every message is answered 0, and this is held at last
+pub record ReadAs (room : ℕ) (h : Held) (ms : List (List ℕ)) (last : Held) : Type 0 where
+  pub answers : answersTo room h ms ≡ replicate (length ms) 0
+  pub held : afterAll room h ms ≡ last
+
+-- document 01, "Updates": reading the writer's bytes from the old table, settled and with room, gives the new one; where there was no old
+-- table, from anything that is held
+abbrev pub RoundTrip : Type 0
+RoundTrip =
+    (number : List ℕ) (had : Bool) (old : List ℕ) (oldInfinity : ℕ) (new : List ℕ) (infinity size outLength room : ℕ) (h : Held)
+    → length number ≡ 16
+    → writerAnswer number had old oldInfinity new infinity size outLength ≡ 0
+    → length new ≤ room
+    → (had ≡ true → Stands h old infinity)
+    → ReadAs room h (messagesOf number had old new infinity size) (settledAs new infinity)

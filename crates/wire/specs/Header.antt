@@ -1,8 +1,11 @@
 -- The header of a message, as document 01 has it: number 16 bytes, type, TTL, Hops, payload length 4 bytes, little-endian; the payload from byte 23.
 use Prim.Native.Nat.{ℕ}
+use mathlib.Core.Bool.{cond}
 use mathlib.Core.List.{List, [], _∷_, _++_}
+use lib.Dec.{leb}
 use lib.ListN.{length, getD, take, drop}
 use Rattle.laws.specs.Bytes.{little, littleBytes}
+use Rattle.laws.specs.Parts.{over}
 
 -- read off a message
 abbrev pub numberOf : List ℕ → List ℕ
@@ -33,3 +36,7 @@ header number kind ttl hops n = number ++ (kind ∷ ttl ∷ hops ∷ littleBytes
 
 unfoldable pub message : List ℕ → ℕ → ℕ → ℕ → List ℕ → List ℕ
 message number kind ttl hops payload = header number kind ttl hops (length payload) ++ payload
+
+-- an area with a header written at its front; one that has no room for it stays as it is
+unfoldable pub withHeader : List ℕ → ℕ → ℕ → ℕ → ℕ → List ℕ → List ℕ
+withHeader number kind ttl hops n out = cond (leb 23 (length out)) (over 0 (header number kind ttl hops n) out) out

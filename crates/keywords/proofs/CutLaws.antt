@@ -1,0 +1,211 @@
+-- Laws of the cutter: the first piece that is not empty, and what is left of the text, are all the pieces. Over any test of a separator.
+use mathlib.Core.Path.{_≡_, refl, sym, ap, ap₂, _∙_}
+use mathlib.Core.Bool.{Bool, true, false, cond, not, _||_, _&&_, Bool·beq}
+use mathlib.Core.List.{List, [], _∷_, map}
+use mathlib.Core.Logic.{_↔_}
+use Prim.Native.Nat.{ℕ, suc, _+_, _-_, _≤_, _<_}
+use native.Mathlib.Numerals.{add-one}
+use native.Mathlib.Decide.{decLe}
+use native.Mathlib.Omega.{arith}
+use lib.Dec.{ltb}
+use lib.ListN.{length, getD, take, drop, length-take, length-drop, drop-of-length-le}
+use lib.Seq.{drop-cons, drop-drop}
+use borrow.Author.Tests.{lt-ltb, le-ltb}
+use Rattle.laws.specs.Tests.{any, all}
+use Rattle.keywords.specs.Keywords.{isSeparator, lower, onto, filled, leading, matching, pieces, startBy, endBy, keywordsOf, cutStart, cutEnd, keywordAt, textBehind}
+use Rattle.keywords.specs.Hash.{hashOf}
+use Rattle.keywords.proofs.HashLaws.{hash-lower}
+
+-- ---- runs at the front of a list
+
+module _ (f : ℕ → Bool) where
+  pub leading-within : (l : List ℕ) → leading f l ≤ length l
+  unfolding leading
+  leading-within [] = omega arith
+  leading-within (x ∷ xs) = by (f x) (leading-within xs)
+    where
+      by : (t : Bool) → leading f xs ≤ length xs → cond t (suc (leading f xs)) 0 ≤ suc (length xs)
+      by true h = omega arith
+      by false h = omega arith
+
+  on : (x : ℕ) (xs : List ℕ) → f x ≡ true → leading f (x ∷ xs) ≡ suc (leading f xs)
+  unfolding leading
+  on x xs e = rw e
+
+  off : (x : ℕ) (xs : List ℕ) → f x ≡ false → leading f (x ∷ xs) ≡ 0
+  unfolding leading
+  off x xs e = rw e
+
+  -- a run goes on by an element that meets the test, and stops at one that does not
+  pub leading-on : (l : List ℕ) (i : ℕ) → i < length l → f (getD l i 0) ≡ true → leading f (drop i l) ≡ suc (leading f (drop (i + 1) l))
+  leading-on l i h e =
+      ap (leading f) (drop-cons l i 0 h)
+      ∙ on (getD l i 0) (drop (suc i) l) e
+      ∙ ap (λ (n : ℕ). suc (leading f (drop n l))) (sym (add-one i))
+
+  pub leading-off : (l : List ℕ) (i : ℕ) → i < length l → f (getD l i 0) ≡ false → leading f (drop i l) ≡ 0
+  leading-off l i h e = ap (leading f) (drop-cons l i 0 h) ∙ off (getD l i 0) (drop (suc i) l) e
+
+-- ---- the pieces of a text, for any test of a separator
+
+-- only what is not empty among the pieces behind the first counts
+filled-behind : (p : List ℕ) (ps qs : List (List ℕ)) → filled ps ≡ filled qs → filled (p ∷ ps) ≡ filled (p ∷ qs)
+unfolding filled
+filled-behind [] ps qs e = e
+filled-behind (b ∷ p) ps qs e = ap (λ (r : List (List ℕ)). (b ∷ p) ∷ r) e
+
+filled-full : (p : List ℕ) (ps : List (List ℕ)) → 0 < length p → filled (p ∷ ps) ≡ p ∷ filled ps
+unfolding filled
+filled-full [] ps h = absurd (omega arith)
+filled-full (b ∷ p) ps h = refl
+
+module _ (s : ℕ → Bool) where
+  abbrev other : ℕ → Bool
+  other b = not (s b)
+
+  -- separators at the front part empty pieces only
+  skip : (l : List ℕ) → filled (pieces s l) ≡ filled (pieces s (drop (leading s l) l))
+  unfolding filled pieces leading
+  skip [] = refl
+  skip (b ∷ bs) = by (s b) refl (skip bs)
+    where
+      by : (t : Bool) → s b ≡ t → filled (pieces s bs) ≡ filled (pieces s (drop (leading s bs) bs)) → filled (pieces s (b ∷ bs)) ≡ filled (pieces s (drop (leading s (b ∷ bs)) (b ∷ bs)))
+      by true e h = rw e h
+      by false e h = rw e (rw e)
+
+  -- the pieces behind the one that ends here
+  behind : List ℕ → List (List ℕ)
+  behind [] = []
+  behind (b ∷ bs) = pieces s bs
+
+  -- the first piece is what stands before the first separator
+  first : (l : List ℕ) → pieces s l ≡ take (leading other l) l ∷ behind (drop (leading other l) l)
+  unfolding pieces leading behind
+  first [] = refl
+  first (b ∷ bs) = by (s b) refl (first bs)
+    where
+      by : (t : Bool) → s b ≡ t → pieces s bs ≡ take (leading other bs) bs ∷ behind (drop (leading other bs) bs)
+          → pieces s (b ∷ bs) ≡ take (leading other (b ∷ bs)) (b ∷ bs) ∷ behind (drop (leading other (b ∷ bs)) (b ∷ bs))
+      by true e h = rw e
+      by false e h = rw e (ap (onto b) h)
+
+  -- the separator behind a piece adds an empty piece at most
+  rest : (l : List ℕ) → filled (behind (drop (leading other l) l)) ≡ filled (pieces s (drop (leading other l) l))
+  unfolding filled pieces leading behind
+  rest [] = refl
+  rest (b ∷ bs) = by (s b) refl (rest bs)
+    where
+      by : (t : Bool) → s b ≡ t → filled (behind (drop (leading other bs) bs)) ≡ filled (pieces s (drop (leading other bs) bs))
+          → filled (behind (drop (leading other (b ∷ bs)) (b ∷ bs))) ≡ filled (pieces s (drop (leading other (b ∷ bs)) (b ∷ bs)))
+      by true e h = rw e (rw e)
+      by false e h = rw e h
+
+  -- where separators are followed by nothing else, the text ends
+  ends : (l : List ℕ) → leading other (drop (leading s l) l) ≡ 0 → leading s l ≡ length l
+  unfolding leading
+  ends [] h = refl
+  ends (b ∷ bs) h = by (s b) refl (ends bs) h
+    where
+      by : (t : Bool) → s b ≡ t → (leading other (drop (leading s bs) bs) ≡ 0 → leading s bs ≡ length bs)
+          → leading other (drop (leading s (b ∷ bs)) (b ∷ bs)) ≡ 0 → leading s (b ∷ bs) ≡ suc (length bs)
+      by true e ih g = rw e (ap suc (ih (rw e at g)))
+      by false e ih g = absurd (let z = rw e at (rw e at g) in omega arith)
+
+  -- a piece lies within the text
+  pub end-within : (l : List ℕ) → endBy s l ≤ length l
+  end-within l =
+      let a = leading-within s l in
+      let m = leading-within other (drop (leading s l) l) in
+      let d = length-drop (leading s l) l in
+      omega arith
+
+  -- the first piece that is not empty, and the pieces of what is left
+  pub pieces-cut : (l : List ℕ) → startBy s l < endBy s l
+      → filled (pieces s l) ≡ take (endBy s l - startBy s l) (drop (startBy s l) l) ∷ filled (pieces s (drop (endBy s l) l))
+  pieces-cut l h =
+      let a = startBy s l in
+      let t = drop a l in
+      let m = leading other t in
+      let some : 0 < length (take m t) = omega (arith, length-take m t, leading-within other t) in
+      let size : m ≡ endBy s l - startBy s l = omega arith in
+      skip l
+      ∙ ap filled (first t)
+      ∙ filled-behind (take m t) (behind (drop m t)) (pieces s (drop m t)) (rest t)
+      ∙ filled-full (take m t) (pieces s (drop m t)) some
+      ∙ ap₂ (λ (n : ℕ) (r : List ℕ). take n t ∷ filled (pieces s r)) size (drop-drop m a l)
+
+  pub pieces-end : (l : List ℕ) → startBy s l ≡ endBy s l → endBy s l ≡ length l
+  pieces-end l h = let e = ends l (omega arith) in omega arith
+
+  pub pieces-none : (l : List ℕ) → startBy s l ≡ endBy s l → filled (pieces s l) ≡ []
+  unfolding filled pieces
+  pieces-none l h =
+      let e = pieces-end l h in
+      let past : length l ≤ startBy s l = omega arith in
+      skip l ∙ ap (λ (r : List ℕ). filled (pieces s r)) (drop-of-length-le l past)
+
+-- ---- the keywords of a text
+
+pub keywords-cut : (text : List ℕ) → cutStart text < cutEnd text → keywordsOf text ≡ map lower (keywordAt text) ∷ keywordsOf (textBehind text)
+unfolding keywordsOf
+keywords-cut text h = ap (map (map lower)) (pieces-cut isSeparator text h)
+
+pub keywords-none : (text : List ℕ) → cutStart text ≡ cutEnd text → keywordsOf text ≡ []
+unfolding keywordsOf
+keywords-none text h = ap (map (map lower)) (pieces-none isSeparator text h)
+
+pub cut-end : (text : List ℕ) → cutStart text ≡ cutEnd text → cutEnd text ≡ length text
+cut-end = pieces-end isSeparator
+
+pub cut-within : (text : List ℕ) → (cutStart text ≤ cutEnd text) × (cutEnd text ≤ length text)
+cut-within text = (omega arith, end-within isSeparator text)
+
+-- a cut is empty exactly where the text has no keyword
+pub cut-empty : (text : List ℕ) → (cutStart text ≡ cutEnd text) ↔ (keywordsOf text ≡ [])
+cut-empty text = (keywords-none text, λ e. by e (decLe (suc (cutStart text)) (cutEnd text)))
+  where
+    by : keywordsOf text ≡ [] → Dec (cutStart text < cutEnd text) → cutStart text ≡ cutEnd text
+    by e (yes h) = let z : _≡_ {A = ℕ} 0 1 = cc (keywords-cut text h) in absurd (omega arith)
+    by e (no h) = omega arith
+
+-- one step of a loop over the keywords, seen through any function of them
+keywords-step : {B : Type 0} (g : List (List ℕ) → B) (text : List ℕ)
+    → g (keywordsOf text) ≡ cond (ltb (cutStart text) (cutEnd text)) (g (map lower (keywordAt text) ∷ keywordsOf (textBehind text))) (g [])
+keywords-step {B} g text = by (decLe (suc (cutStart text)) (cutEnd text))
+  where
+    by : Dec (cutStart text < cutEnd text)
+        → g (keywordsOf text) ≡ cond (ltb (cutStart text) (cutEnd text)) (g (map lower (keywordAt text) ∷ keywordsOf (textBehind text))) (g [])
+    by (yes h) = rw (lt-ltb (cutStart text) (cutEnd text) h) (ap g (keywords-cut text h))
+    by (no h) = rw (le-ltb (cutStart text) (cutEnd text) (omega arith)) (ap g (keywords-none text (omega arith)))
+
+-- the same for a test of the hashes, which are those of the bytes as they stand in the text
+module _ (f : ℕ → Bool) where
+  abbrev test : List ℕ → Bool
+  test k = f (hashOf k)
+
+  pub any-step : (text : List ℕ) → any (λ k. f (hashOf k)) (keywordsOf text)
+      ≡ cond (ltb (cutStart text) (cutEnd text)) (f (hashOf (keywordAt text)) || any (λ k. f (hashOf k)) (keywordsOf (textBehind text))) false
+  any-step text =
+      keywords-step (any test) text
+      ∙ ap (λ (h : ℕ). cond (ltb (cutStart text) (cutEnd text)) (f h || any test (keywordsOf (textBehind text))) false) (hash-lower (keywordAt text))
+
+  pub all-step : (text : List ℕ) → all (λ k. f (hashOf k)) (keywordsOf text)
+      ≡ cond (ltb (cutStart text) (cutEnd text)) (f (hashOf (keywordAt text)) && all (λ k. f (hashOf k)) (keywordsOf (textBehind text))) true
+  all-step text =
+      keywords-step (all test) text
+      ∙ ap (λ (h : ℕ). cond (ltb (cutStart text) (cutEnd text)) (f h && all test (keywordsOf (textBehind text))) true) (hash-lower (keywordAt text))
+
+-- ---- what the code tests
+
+-- a byte is passed where the answer of the separator test is the one wanted
+pub matching-is : (w s : Bool) (b : ℕ) → s ≡ isSeparator b → matching w b ≡ Bool·beq s w
+matching-is true s b e = sym e ∙ by s
+  where
+    by : (t : Bool) → t ≡ Bool·beq t true
+    by true = refl
+    by false = refl
+matching-is false s b e = ap not (sym e) ∙ by s
+  where
+    by : (t : Bool) → not t ≡ Bool·beq t false
+    by true = refl
+    by false = refl

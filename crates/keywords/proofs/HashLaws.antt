@@ -1,0 +1,212 @@
+-- Laws of the hash: lower case, the chunks joined at once and byte by byte, and places.
+use mathlib.Core.Path.{_≡_, refl, sym, ap, ap₂, _∙_}
+use mathlib.Core.List.{List, [], _∷_, map}
+use mathlib.Core.Logic.{_⊎_, inl, inr}
+use Prim.Native.Nat.{ℕ, zero, suc, _+_, _-_, _*_, _/_, _%_, _^_, _≤_, _<_}
+use native.Mathlib.Nat.{mul-div-mul-right, div-lt-iff-lt-mul, mul-lt-mul-of-pos-right, mul-comm}
+use native.Mathlib.Numerals.{add-one}
+use native.Mathlib.Decide.{decLe}
+use native.Mathlib.Omega.{arith}
+use lib.ListN.{length, getD, drop}
+use lib.Seq.{drop-cons}
+use lib.Pow.{pow-pos, pow-add, shr-lt, shr-shr}
+use lib.Bits.{bitXor}
+use borrow.Author.Tests.{le-leb, lt-leb}
+use Rattle.laws.specs.Bytes.{xor}
+use Rattle.laws.proofs.Bits.{xor-below, xor-regroup, xor-is, xor-none, xor-above, xor-swap}
+use Rattle.keywords.specs.Keywords.{lower}
+use Rattle.keywords.specs.Hash.{xor32, word, factor, hashOf, placeOf, scaled, placeIn, rolling}
+
+-- ---- lower case
+
+pub lower-under : (b : ℕ) → b < 0x41 → lower b ≡ b
+unfolding lower
+lower-under b h = simp (lt-leb 0x41 b h)
+
+pub lower-over : (b : ℕ) → 0x5A < b → lower b ≡ b
+unfolding lower
+lower-over b h = simp (le-leb 0x41 b (omega arith), lt-leb b 0x5A h)
+
+pub lower-letter : (b : ℕ) → 0x41 ≤ b → b ≤ 0x5A → lower b ≡ b + 32
+unfolding lower
+lower-letter b h g = simp (le-leb 0x41 b h, le-leb b 0x5A g)
+
+pub lower-again : (b : ℕ) → lower (lower b) ≡ lower b
+lower-again b = by (decLe 0x41 b) (decLe b 0x5A)
+  where
+    by : Dec (0x41 ≤ b) → Dec (b ≤ 0x5A) → lower (lower b) ≡ lower b
+    by (yes h) (yes g) = ap lower (lower-letter b h g) ∙ lower-over (b + 32) (omega arith) ∙ sym (lower-letter b h g)
+    by (yes h) (no g) = ap lower (lower-over b (omega arith))
+    by (no h) g = ap lower (lower-under b (omega arith))
+
+pub lower-byte : (b : ℕ) → b < 256 → lower b < 256
+lower-byte b l = by (decLe 0x41 b) (decLe b 0x5A)
+  where
+    by : Dec (0x41 ≤ b) → Dec (b ≤ 0x5A) → lower b < 256
+    by (yes h) (yes g) = rw (lower-letter b h g) (omega arith)
+    by (yes h) (no g) = rw (lower-over b (omega arith)) l
+    by (no h) g = rw (lower-under b (omega arith)) l
+
+pub lower-all : (k : List ℕ) → map lower (map lower k) ≡ map lower k
+lower-all [] = refl
+lower-all (b ∷ bs) = ap₂ (λ (x : ℕ) (l : List ℕ). x ∷ l) (lower-again b) (lower-all bs)
+
+pub lower-bytes : (k : List ℕ) → ((i : ℕ) → getD k i 0 < 256) → (i : ℕ) → getD (map lower k) i 0 < 256
+lower-bytes [] h i = h i
+lower-bytes (b ∷ bs) h zero = lower-byte b (h 0)
+lower-bytes (b ∷ bs) h (suc i) = lower-bytes bs (λ j. h (suc j)) i
+
+-- ---- exclusive or of 32 bits
+
+xor32-below : (a b : ℕ) → xor32 a b < 2 ^ 32
+unfolding xor32
+xor32-below = xor-below 32
+
+xor32-regroup : (a b c : ℕ) → xor32 (xor32 a b) c ≡ xor32 a (xor32 b c)
+unfolding xor32
+xor32-regroup = xor-regroup 32
+
+pub xor32-is : (a b : ℕ) → a < 2 ^ 32 → b < 2 ^ 32 → xor32 a b ≡ bitXor a b
+unfolding xor32
+xor32-is = xor-is 32
+
+xor32-none : (a : ℕ) → a < 2 ^ 32 → xor32 a 0 ≡ a
+unfolding xor32
+xor32-none = xor-none 32
+
+-- nothing on the left takes nothing away from what was joined
+xor32-from : (a b : ℕ) → xor32 0 (xor32 a b) ≡ xor32 a b
+unfolding xor32
+xor32-from a b = xor-swap 32 0 (xor 32 a b) ∙ xor-none 32 (xor 32 a b) (xor-below 32 a b)
+
+xor32-above : (j a b : ℕ) → a < 2 ^ j → a < 2 ^ 32 → b * 2 ^ j < 2 ^ 32 → xor32 a (b * 2 ^ j) ≡ a + b * 2 ^ j
+unfolding xor32
+xor32-above = xor-above 32
+
+-- ---- the chunks joined at once, and byte by byte
+
+-- what was joined before stays outside
+rolling-from : (n j : ℕ) (bs : List ℕ) → n < 2 ^ 32 → rolling n j bs ≡ xor32 n (rolling 0 j bs)
+unfolding rolling
+rolling-from n j [] h = sym (xor32-none n h)
+rolling-from n j (b ∷ bs) h =
+    rolling-from (xor32 n x) next bs (xor32-below n x)
+    ∙ xor32-regroup n x (rolling 0 next bs)
+    ∙ ap (xor32 n) (sym (rolling-from (xor32 0 x) next bs (xor32-below 0 x) ∙ xor32-regroup 0 x (rolling 0 next bs) ∙ xor32-from x (rolling 0 next bs)))
+  where
+    x : ℕ
+    x = b * 256 ^ j
+
+    next : ℕ
+    next = (j + 1) % 4
+
+-- one to four bytes joined one after the other are one little-endian number
+module _ (a b c d : ℕ) (ha : a < 256) (hb : b < 256) (hc : c < 256) (hd : d < 256) where
+  chunk1 : xor32 0 (a * 256 ^ 0) ≡ a
+  chunk1 = xor32-above 0 0 a (omega arith) (omega arith) (omega arith) ∙ omega arith
+
+  chunk2 : xor32 (xor32 0 (a * 256 ^ 0)) (b * 256 ^ 1) ≡ a + b * 256
+  chunk2 = ap (λ (x : ℕ). xor32 x (b * 256)) chunk1 ∙ xor32-above 8 a b (omega arith) (omega arith) (omega arith)
+
+  chunk3 : xor32 (xor32 (xor32 0 (a * 256 ^ 0)) (b * 256 ^ 1)) (c * 256 ^ 2) ≡ a + b * 256 + c * 65536
+  chunk3 = ap (λ (x : ℕ). xor32 x (c * 65536)) chunk2 ∙ xor32-above 16 (a + b * 256) c (omega arith) (omega arith) (omega arith)
+
+  chunk4 : xor32 (xor32 (xor32 (xor32 0 (a * 256 ^ 0)) (b * 256 ^ 1)) (c * 256 ^ 2)) (d * 256 ^ 3) ≡ a + b * 256 + c * 65536 + d * 16777216
+  chunk4 = ap (λ (x : ℕ). xor32 x (d * 16777216)) chunk3 ∙ xor32-above 24 (a + b * 256 + c * 65536) d (omega arith) (omega arith) (omega arith)
+
+-- document 01's chunks are what document 001's code joins byte by byte
+pub word-rolling : (k : List ℕ) → ((i : ℕ) → getD k i 0 < 256) → word k ≡ rolling 0 0 k
+unfolding word rolling
+word-rolling [] h = refl
+word-rolling (a ∷ []) h = sym (chunk1 a 0 0 0 (h 0) (omega arith) (omega arith) (omega arith) ∙ omega arith)
+word-rolling (a ∷ b ∷ []) h = sym (chunk2 a b 0 0 (h 0) (h 1) (omega arith) (omega arith) ∙ omega arith)
+word-rolling (a ∷ b ∷ c ∷ []) h = sym (chunk3 a b c 0 (h 0) (h 1) (h 2) (omega arith) ∙ omega arith)
+word-rolling (a ∷ b ∷ c ∷ d ∷ rest) h =
+    sym
+    (ap (λ (x : ℕ). rolling x 0 rest) (chunk4 a b c d (h 0) (h 1) (h 2) (h 3) ∙ omega arith)
+    ∙ rolling-from (a + 256 * (b + 256 * (c + 256 * (d + 256 * 0)))) 0 rest
+    (let ga = h 0 in let gb = h 1 in let gc = h 2 in let gd = h 3 in omega arith)
+    ∙ ap (xor32 (a + 256 * (b + 256 * (c + 256 * (d + 256 * 0))))) (sym (word-rolling rest (λ i. h (suc (suc (suc (suc i))))))))
+
+pub word-below : (k : List ℕ) → ((i : ℕ) → getD k i 0 < 256) → word k < 2 ^ 32
+unfolding word
+word-below [] h = omega arith
+word-below (a ∷ []) h = let ga = h 0 in omega arith
+word-below (a ∷ b ∷ []) h = let ga = h 0 in let gb = h 1 in omega arith
+word-below (a ∷ b ∷ c ∷ []) h = let ga = h 0 in let gb = h 1 in let gc = h 2 in omega arith
+word-below (a ∷ b ∷ c ∷ d ∷ rest) h = xor32-below (a + 256 * (b + 256 * (c + 256 * (d + 256 * 0)))) (word rest)
+
+-- a byte moved up within a chunk loses nothing
+pub moved-whole : (b j : ℕ) → b < 256 → j < 4 → b * 2 ^ (8 * j) % 2 ^ 32 ≡ b * 256 ^ j
+moved-whole b zero h l = omega arith
+moved-whole b (suc zero) h l = omega arith
+moved-whole b (suc (suc zero)) h l = omega arith
+moved-whole b (suc (suc (suc zero))) h l = omega arith
+moved-whole b (suc (suc (suc (suc j)))) h l = absurd (omega arith)
+
+-- the byte at place i of a keyword is joined next
+pub rolling-next : (k : List ℕ) (i n x : ℕ) → i < length k → n < 2 ^ 32 → x < 2 ^ 32 → x ≡ lower (getD k i 0) * 256 ^ (i % 4)
+    → rolling (bitXor n x) ((i + 1) % 4) (map lower (drop (i + 1) k)) ≡ rolling n (i % 4) (map lower (drop i k))
+unfolding rolling
+rolling-next k i n x l hn hx e =
+    sym
+    (ap (λ (t : List ℕ). rolling n (i % 4) (map lower t)) (drop-cons k i 0 l)
+    ∙ ap₂ (λ (y j : ℕ). rolling y j (map lower (drop (suc i) k))) (ap (xor32 n) (sym e) ∙ xor32-is n x hn hx) (omega arith)
+    ∙ ap (λ (m : ℕ). rolling (bitXor n x) ((i + 1) % 4) (map lower (drop m k))) (sym (add-one i)))
+
+-- ---- the hash and places
+
+pub hash-below : (k : List ℕ) → hashOf k < 2 ^ 32
+unfolding hashOf
+hash-below k = omega arith
+
+-- a hash does not tell upper from lower case
+pub hash-lower : (k : List ℕ) → hashOf (map lower k) ≡ hashOf k
+unfolding hashOf
+hash-lower k = ap (λ (l : List ℕ). word l * factor % 2 ^ 32) (lower-all k)
+
+pub place-lower : (b : ℕ) (k : List ℕ) → placeOf b (map lower k) ≡ placeOf b k
+place-lower b k = ap (λ (h : ℕ). h / 2 ^ (32 - b)) (hash-lower k)
+
+pub place-below : (b : ℕ) (k : List ℕ) → b ≤ 32 → placeOf b k < 2 ^ b
+place-below b k h =
+    let e : b + (32 - b) ≡ 32 = omega arith in
+    shr-lt b (32 - b) (rw e (hash-below k))
+
+-- no bits leave one place, and from 32 on the place is the whole hash
+pub place-none : (k : List ℕ) → placeOf 0 k ≡ 0
+place-none k = let h = hash-below k in omega arith
+
+pub place-whole : (b : ℕ) (k : List ℕ) → 32 ≤ b → placeOf b k ≡ hashOf k
+place-whole b k h =
+    let e : 32 - b ≡ 0 = omega arith in
+    rw e (omega arith)
+
+-- a place in a table is the place in a table with 2 to the power c times as many entries, cut down by as many
+pub place-cut : (b c : ℕ) (k : List ℕ) → b + c ≤ 32 → placeOf b k ≡ placeOf (b + c) k / 2 ^ c
+place-cut b c k h =
+    let e : 32 - (b + c) + c ≡ 32 - b = omega arith in
+    sym (rw e at (shr-shr (hashOf k) (32 - (b + c)) c))
+
+even-or-odd : (p q : ℕ) → q ≡ p / 2 → (p ≡ 2 * q) ⊎ (p ≡ 2 * q + 1)
+even-or-odd p q e = by (decLe p (2 * q))
+  where
+    by : Dec (p ≤ 2 * q) → (p ≡ 2 * q) ⊎ (p ≡ 2 * q + 1)
+    by (yes h) = inl (omega arith)
+    by (no h) = inr (omega arith)
+
+-- one bit more gives twice the place, or twice plus 1
+pub place-more : (b : ℕ) (k : List ℕ) → b < 32 → (placeOf (b + 1) k ≡ 2 * placeOf b k) ⊎ (placeOf (b + 1) k ≡ 2 * placeOf b k + 1)
+place-more b k h = even-or-odd (placeOf (b + 1) k) (placeOf b k) (place-cut b 1 k (omega arith))
+
+pub scaled-below : (n h : ℕ) → h < 2 ^ 32 → 0 < n → scaled n h < n
+scaled-below n h hh hn = div-lt-iff-lt-mul (pow-pos 32) .1 (rw (mul-comm n (2 ^ 32)) (mul-lt-mul-of-pos-right hh hn))
+
+scaled-power : (h d b : ℕ) → h * 2 ^ b / 2 ^ (d + b) ≡ h / 2 ^ d
+scaled-power h d b = rw (pow-add 2 d b) (mul-div-mul-right h (2 ^ d) (pow-pos b))
+
+-- a table whose length is a power of two
+pub place-scaled : (b : ℕ) (k : List ℕ) → b ≤ 32 → placeIn (2 ^ b) k ≡ placeOf b k
+place-scaled b k h =
+    let e : 32 - b + b ≡ 32 = omega arith in
+    rw e at (scaled-power (hashOf k) (32 - b) b)

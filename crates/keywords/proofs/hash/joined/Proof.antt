@@ -1,0 +1,68 @@
+-- What is left of the keyword, joined to what was joined already, is the whole.
+use Prim.Native.Nat.{_-_, _*_, _%_, _^_, _≤_, _<_}
+use mathlib.Core.Path.{_≡_, sym, ap, _∙_}
+use mathlib.Core.List.{map}
+use lib.ListN.{length, drop, drop-of-length-le}
+use lib.Bits.{xor-lt}
+use borrow.Author.Needs.{needs}
+use Rattle.keywords.specs.Keywords.{lower}
+use Rattle.keywords.specs.Hash.{rolling, word}
+use Rattle.keywords.proofs.HashLaws.{rolling-next, word-rolling, lower-bytes}
+use Rattle.keywords.proofs.hash.joined.Statement.{statement}
+use Rattle.keywords.proofs.hash.joined.Tie as tie
+
+abbrev Inv-loop : tie.InvT-loop
+Inv-loop keyword n₀ i₀ n i =
+    (i ≤ length keyword) × (n < 2 ^ 32) × (rolling n (i % 4) (map lower (drop i keyword)) ≡ word (map lower keyword))
+
+abbrev μ-loop : tie.MeasureT-loop
+μ-loop keyword n₀ i₀ n i = length keyword - i
+
+loop-holds : tie.Need-loop-holds Inv-loop μ-loop
+loop-holds c =
+    (search needs, search needs, sym (word-rolling (map lower (c .before .args .keyword .now)) (lower-bytes (c .before .args .keyword .now) (λ i. c .shared-slice-known .given i .fits))))
+
+shared-slice-read-lower-case : tie.Need-shared-slice-read-lower-case Inv-loop μ-loop
+shared-slice-read-lower-case c = search needs
+
+lower-case-requires : tie.Need-lower-case-requires Inv-loop μ-loop
+lower-case-requires c κs = search needs
+
+moved-requires : tie.Need-moved-requires Inv-loop μ-loop
+moved-requires c κs = search needs
+
+add-i : tie.Need-add-i Inv-loop μ-loop
+add-i c = search needs
+
+loop-less : tie.Need-loop-less Inv-loop μ-loop
+loop-less c = search needs
+
+loop-again : tie.Need-loop-again Inv-loop μ-loop
+loop-again c =
+    let at = c .before .before .before .before .loop in
+    let fits : c .moved .result < 2 ^ 32 = search needs in (
+      search needs,
+      xor-lt 32 (at .n) (c .moved .result) (at .inv .1) fits,
+      rolling-next (c .before .before .before .before .before .before .args .keyword .now) (at .i) (at .n) (c .moved .result) (search needs) (at .inv .1) fits
+          (c .moved .ensures ∙ ap (λ x. x * 256 ^ (at .i % 4)) (c .before .lower-case .ensures)) ∙ at .inv .2,
+    )
+
+returns : tie.Need-returns Inv-loop μ-loop
+unfolding rolling
+returns c =
+    rw (drop-of-length-le (c .before .before .before .args .keyword .now) (c .loop-test .left)) at (c .before .loop .inv .2)
+
+pub joined-spec : {M : Type 1} → statement M
+joined-spec =
+    tie.close
+    (tie.spec
+    Inv-loop
+    μ-loop
+    loop-holds
+    shared-slice-read-lower-case
+    lower-case-requires
+    moved-requires
+    add-i
+    loop-less
+    loop-again
+    returns)

@@ -1,0 +1,5 @@
+-- Facts on lists and numbers that several crates cite.
+pub mod Bits
+pub mod Parts
+pub mod Writing
+pub mod Chunks

@@ -1,0 +1,66 @@
+-- What a line's table is expected to be, from the calls alone: document 01's slate, a definition only. It is fed what the calls bring besides
+-- state and route area, the room, and whether an answer is 1 to 5. Nothing else reaches it.
+use Prim.Native.Nat.{ℕ}
+use mathlib.Core.Bool.{Bool, true, false, cond, _&&_}
+use mathlib.Core.List.{List, [], _∷_, map}
+use lib.Dec.{eqb}
+use Rattle.wire.specs.Header.{kindOf, ttlOf, hopsOf, payloadOf, routeUpdate}
+use Rattle.tables.specs.Tables.{Held, noTable}
+use Rattle.tables.specs.Updates.{updateAnswer, updated}
+use Rattle.protocol.specs.Outcomes.{unsent}
+use Rattle.protocol.specs.Runs.{Call, Open, Close, Message, Ask, Made}
+
+pub record Expected : Type 0 where
+  pub live : Bool
+  pub held : Held
+
+-- as after an opening (true) or a closing (false): mark none, and the rest wiped
+abbrev pub wiped : Bool → Expected
+wiped live = record { live = live; held = record { table = noTable; entries = [] } }
+
+-- what a call brings
+pub data Brought : Type 0 where
+  opens : (line : ℕ) → Brought
+  closes : (line : ℕ) → Brought
+  brings : (line : ℕ) (m : List ℕ) → Brought
+  asks : Brought
+
+abbrev pub brought : Call → Brought
+brought (Open l) = opens l
+brought (Close l) = closes l
+brought (Message l clock own m out a) = brings l m
+brought (Ask n text out a) = asks
+
+abbrev pub isUpdateOf : ℕ → ℕ → List ℕ → Bool
+isUpdateOf L l m = eqb l L && eqb (kindOf m) routeUpdate
+
+-- it answers an update itself, by the table's rules, and what it holds is then as they say
+abbrev pub expectedAnswer : ℕ → Expected → List ℕ → ℕ
+expectedAnswer room e m = updateAnswer room (e .held) (ttlOf m) (hopsOf m) (payloadOf m)
+
+abbrev pub hears : ℕ → List ℕ → Expected → Expected
+hears room m e = record { live = e .live; held = updated room (e .held) (ttlOf m) (hopsOf m) (payloadOf m) }
+
+-- an unsent call, and any but its line's openings, closings and updates, leaves it
+unfoldable pub feed : (L room : ℕ) → Brought → (refused : Bool) → Expected → Expected
+feed L room b true e = e
+feed L room (opens l) false e = cond (eqb l L) (wiped true) e
+feed L room (closes l) false e = cond (eqb l L) (wiped false) e
+feed L room (brings l m) false e = cond (isUpdateOf L l m) (hears room m e) e
+feed L room asks false e = e
+
+-- all that reaches it of a call
+pub record Fed : Type 0 where
+  pub call : Brought
+  pub refused : Bool
+
+abbrev pub fed : Made → Fed
+fed d = record { call = brought (d .call); refused = unsent (d .outcome .answer) }
+
+-- it begins as after a closing; the list has the newest first
+abbrev pub fedAll : (L room : ℕ) → List Fed → Expected
+fedAll L room [] = wiped false
+fedAll L room (f ∷ fs) = feed L room (f .call) (f .refused) (fedAll L room fs)
+
+abbrev pub expected : (L room : ℕ) → List Made → Expected
+expected L room log = fedAll L room (map fed log)

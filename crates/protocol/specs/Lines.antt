@@ -1,0 +1,120 @@
+-- Lines, their tables in the route area, and their stored pongs.
+use Prim.Native.Nat.{ℕ, _+_, _-_, _*_, _%_, _^_, min}
+use mathlib.Core.Bool.{Bool, true, false, cond, not}
+use mathlib.Core.List.{List, [], _∷_, map}
+use lib.Dec.{eqb}
+use lib.ListN.{length, getD, set, take, drop, replicate}
+use Rattle.laws.specs.Ring.{keptPlaces, onward}
+use Rattle.tables.specs.declared.Table.{Table}
+use Rattle.tables.specs.Tables.{Held, noTable, heldIn}
+use Rattle.protocol.specs.declared.Pong.{Pong}
+use Rattle.protocol.specs.declared.Line.{Line}
+use Rattle.protocol.specs.declared.Station.{Station}
+
+abbrev pub lineCount : ℕ
+lineCount = 8
+
+abbrev pub lineNumbers : List ℕ
+lineNumbers = 0 ∷ 1 ∷ 2 ∷ 3 ∷ 4 ∷ 5 ∷ 6 ∷ 7 ∷ []
+
+-- line k is another than the line l: where a query from l may go, and whose pongs answer a ping from l
+abbrev pub isOther : ℕ → ℕ → Bool
+isOther l k = not (eqb k l)
+
+abbrev pub noPong : Pong
+noPong = record { bytes = replicate 14 0; hops = 0; clock = 0 }
+
+-- an empty line: no table, no pongs, no accepted ping
+abbrev pub emptyLine : Bool → Line
+emptyLine live = record {
+  live = live;
+  pinged = false;
+  pingtime = 0;
+  pongcount = 0;
+  pongnext = 0;
+  pongs = replicate 10 noPong;
+  table = noTable;
+}
+
+-- what an index past the lines would read
+abbrev pub nowhere : Line
+nowhere = record {
+  live = false;
+  pinged = false;
+  pingtime = 0;
+  pongcount = 0;
+  pongnext = 0;
+  pongs = [];
+  table = noTable;
+}
+
+abbrev pub lineAt : Station → ℕ → Line
+lineAt s l = getD (s .lines) l nowhere
+
+abbrev pub withLine : Station → ℕ → Line → Station
+withLine s l x =
+    record {
+      room = s .room;
+      lines = set (s .lines) l x;
+      lo = s .lo;
+      hi = s .hi;
+      asker = s .asker;
+      count = s .count;
+      next = s .next;
+    }
+
+-- a line with another table, with another ping time, with one more pong
+abbrev pub withTable : Line → Table → Line
+withTable x t =
+    record {
+      live = x .live;
+      pinged = x .pinged;
+      pingtime = x .pingtime;
+      pongcount = x .pongcount;
+      pongnext = x .pongnext;
+      pongs = x .pongs;
+      table = t;
+    }
+
+abbrev pub pingedAt : Line → ℕ → Line
+pingedAt x clock =
+    record {
+      live = x .live;
+      pinged = true;
+      pingtime = clock;
+      pongcount = x .pongcount;
+      pongnext = x .pongnext;
+      pongs = x .pongs;
+      table = x .table;
+    }
+
+-- pongs kept for each line
+abbrev pub pongCapacity : ℕ
+pongCapacity = 10
+
+abbrev pub withPong : Line → Pong → Line
+withPong x p =
+    record {
+      live = x .live;
+      pinged = x .pinged;
+      pingtime = x .pingtime;
+      pongcount = min pongCapacity (x .pongcount + 1);
+      pongnext = onward pongCapacity (x .pongnext);
+      pongs = set (x .pongs) (x .pongnext) p;
+      table = x .table;
+    }
+
+-- the stored pongs of a line, the newest first
+unfoldable pub storedPongs : Line → List Pong
+storedPongs x = map (λ p. getD (x .pongs) p (record { bytes = []; hops = 0; clock = 0 })) (keptPlaces pongCapacity (x .pongnext) (x .pongcount))
+
+-- the part of the route area that belongs to line l, and the table with its entries there
+abbrev pub partOf : ℕ → ℕ → List ℕ → List ℕ
+partOf room l route = take room (drop (l * room) route)
+
+abbrev pub heldAt : Station → ℕ → List ℕ → Held
+heldAt s l route = heldIn (lineAt s l .table) (partOf (s .room) l route)
+
+-- document 01's elapsed time: the difference modulo 2 to the power 32
+abbrev pub elapsed : ℕ → ℕ → ℕ
+elapsed now then = (now + (2 ^ 32 - then)) % 2 ^ 32

@@ -1,0 +1,45 @@
+// Words, numbers and lists of a row, on standard output.
+
+pub fn word(text: &[u8]) {
+    if text.len() == 0 {
+        io::write_all(1, b"-");
+    } else {
+        io::write_all(1, text);
+    }
+}
+
+pub fn space() {
+    io::write_all(1, b" ");
+}
+
+pub fn end() {
+    io::write_all(1, b"\n");
+}
+
+pub fn number(n: u64) {
+    io::print_decimal(1, n);
+}
+
+// The bytes as numbers, with commas.
+pub fn list(bytes: &[u8]) {
+    let mut i = 0;
+    while i < bytes.len() {
+        if 0 < i {
+            io::write_all(1, b",");
+        }
+        number(bytes[i] as u64);
+        i += 1;
+    }
+}
+
+// The bytes in hexadecimal, or `-` for none.
+pub fn hex(bytes: &[u8]) {
+    if bytes.len() == 0 {
+        io::write_all(1, b"-");
+    }
+    let mut i = 0;
+    while i < bytes.len() {
+        io::print_hex(1, bytes[i] as u64, 2);
+        i += 1;
+    }
+}

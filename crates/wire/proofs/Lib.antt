@@ -1,0 +1,3 @@
+-- The laws of headers, and cases by computation.
+pub mod HeaderLaws
+pub mod Vectors

@@ -1,0 +1,171 @@
+//! The session program: the text that a session file gives.
+
+use crate::station::{OwnPong, State, LINES, OUTPUT};
+use std::io::Write;
+
+/// The longest session file.
+pub const FILE: usize = 32_768;
+/// The route area of a session.
+pub const ROUTE: usize = 16_384;
+
+const OWN: OwnPong = OwnPong { port: 6346, address: [127, 0, 0, 1], files: 0, kilobytes: 0, takes_calls: true };
+
+/// Bytes of an event before its message: kind, line, clock.
+const EVENT: usize = 6;
+
+fn number(bytes: &[u8], at: usize) -> Option<usize> {
+    let four = bytes.get(at..at.checked_add(4)?)?;
+    usize::try_from(u32::from_le_bytes(four.try_into().ok()?)).ok()
+}
+
+/// The events of a file, or none if the file is not a session file.
+fn events(file: &[u8]) -> Option<Vec<&[u8]>> {
+    if file.len() > FILE {
+        return None;
+    }
+    let count = number(file, 0)?;
+    let head = count.checked_mul(4)?.checked_add(8)?;
+    if head > file.len() || number(file, 4)? != head {
+        return None;
+    }
+    let mut events = Vec::with_capacity(count);
+    let mut from = head;
+    for offset in 1..=count {
+        let to = number(file, 4 + 4 * offset)?;
+        if to < from.checked_add(EVENT)? {
+            return None;
+        }
+        let event = file.get(from..to)?;
+        if event[0] > 2 {
+            return None;
+        }
+        events.push(event);
+        from = to;
+    }
+    (from == file.len()).then_some(events)
+}
+
+/// The text of a session: a heading, and a row for each event with its answer and the lines sent to.
+pub fn text(file: &[u8]) -> Vec<u8> {
+    let mut text = Vec::new();
+    match events(file) {
+        Some(events) => run(&events, &mut text),
+        None => text.extend(b"bad file\n"),
+    }
+    text
+}
+
+fn run(events: &[&[u8]], text: &mut Vec<u8>) {
+    let mut route = vec![0; ROUTE];
+    let mut out = vec![0; OUTPUT];
+    let (_, mut state) = State::fresh(&route);
+    text.extend(b"event answer to\n");
+    for (row, event) in events.iter().enumerate() {
+        let line = usize::from(event[1]);
+        let clock = u32::from_le_bytes([event[2], event[3], event[4], event[5]]);
+        let (answer, to) = match event[0] {
+            0 => (state.open(line), 0),
+            1 => (state.close(line), 0),
+            _ => {
+                let handled = state.message(line, clock, &OWN, &event[EVENT..], &mut out, &mut route);
+                (handled.answer, handled.to)
+            }
+        };
+        let lines: Vec<String> = (0..LINES).filter(|line| to & (1 << line) != 0).map(|line| line.to_string()).collect();
+        let to = if lines.is_empty() { "-".to_string() } else { lines.join(",") };
+        writeln!(text, "{row} {answer} {to}").expect("a vector takes every byte");
+    }
+}
+
+#[cfg(test)]
+mod tests {
+    use super::*;
+
+    /// A session file of these events.
+    fn file(events: &[Vec<u8>]) -> Vec<u8> {
+        let mut offset = 8 + 4 * events.len();
+        let mut bytes = (events.len() as u32).to_le_bytes().to_vec();
+        bytes.extend((offset as u32).to_le_bytes());
+        for event in events {
+            offset += event.len();
+            bytes.extend((offset as u32).to_le_bytes());
+        }
+        bytes.extend(events.concat());
+        bytes
+    }
+
+    fn event(kind: u8, line: u8, clock: u32, message: &[u8]) -> Vec<u8> {
+        let mut event = vec![kind, line];
+        event.extend(clock.to_le_bytes());
+        event.extend(message);
+        event
+    }
+
+    fn message(number: u8, kind: u8, ttl: u8, hops: u8, payload: &[u8]) -> Vec<u8> {
+        let mut message = vec![number; 16];
+        message.extend([kind, ttl, hops]);
+        message.extend((payload.len() as u32).to_le_bytes());
+        message.extend(payload);
+        message
+    }
+
+    fn shown(file: &[u8]) -> String {
+        String::from_utf8(text(file)).unwrap()
+    }
+
+    fn six_events() -> Vec<Vec<u8>> {
+        let query = message(7, 0x80, 3, 1, b"\0\0eb ebckl\0");
+        vec![
+            event(0, 0, 0, b""),
+            event(0, 1, 0, b""),
+            event(2, 1, 0, &message(1, 0x30, 1, 0, &[0, 4, 0, 0, 0, 8])),
+            event(2, 1, 0, &message(2, 0x30, 1, 0, &[1, 1, 1, 0, 4, 9, 9])),
+            event(2, 0, 0, &query),
+            event(2, 0, 0, &query),
+        ]
+    }
+
+    #[test]
+    fn the_six_events() {
+        assert_eq!(shown(&file(&six_events())), "event answer to\n0 0 -\n1 0 -\n2 0 -\n3 0 -\n4 0 1\n5 9 -\n");
+    }
+
+    #[test]
+    fn several_lines_and_a_ping() {
+        let mut events: Vec<_> = [5, 2, 7].map(|line| event(0, line, 9, b"trailing bytes")).into();
+        events.push(event(2, 5, 0, &message(1, 0x80, 7, 0, b"\0\0x\0")));
+        events.push(event(2, 2, 0, &message(1, 0x00, 7, 0, b"")));
+        events.push(event(1, 7, 0, b"more"));
+        events.push(event(1, 200, 0, b""));
+        events.push(event(2, 5, 0, &message(2, 0x80, 7, 0, b"\0\0x\0")));
+        assert_eq!(shown(&file(&events)), "event answer to\n0 0 -\n1 0 -\n2 0 -\n3 0 2,7\n4 0 2\n5 0 -\n6 3 -\n7 0 2\n");
+    }
+
+    /// C87: a bad file gives one line, whatever is good in it.
+    #[test]
+    fn bad_files() {
+        let bad = "bad file\n";
+        let good = file(&six_events());
+        assert_eq!(shown(&file(&[])), "event answer to\n");
+        for length in 0..good.len() {
+            assert_eq!(shown(&good[..length]), bad);
+        }
+        assert_eq!(shown(&[&good[..], &[0]].concat()), bad);
+        let mut events = six_events();
+        events.push(event(3, 0, 0, b""));
+        assert_eq!(shown(&file(&events)), bad);
+        events.pop();
+        events.push(vec![0, 0, 0, 0, 0]);
+        assert_eq!(shown(&file(&events)), bad);
+        assert_eq!(shown(&[0, 0, 0, 0x40, 8, 0, 0, 0]), bad);
+        assert_eq!(shown(&[0, 0, 0, 0, 8, 0, 0, 0, 0]), bad);
+        assert_eq!(shown(&[0, 0, 0, 0, 9, 0, 0, 0, 0]), bad);
+        assert_eq!(shown(&[0xFF; 100]), bad);
+        let longest = |length: usize| file(&[event(0, 0, 0, &vec![0; length - 18])]);
+        assert_eq!(shown(&longest(FILE)), "event answer to\n0 0 -\n");
+        assert_eq!(shown(&longest(FILE + 1)), bad);
+        let mut falling = good.clone();
+        falling.copy_within(8..12, 12);
+        assert_eq!(shown(&falling), bad);
+    }
+}
