@@ -3,3 +3,5 @@ pub mod Bits
 pub mod Parts
 pub mod Writing
 pub mod Chunks
+pub mod Text
+pub mod Decimal

@@ -1,0 +1,5 @@
+-- What contracts of the handshake reader cite.
+pub mod Text
+pub mod Lines
+pub mod Start
+pub mod Fields
