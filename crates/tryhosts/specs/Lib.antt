@@ -2,3 +2,5 @@
 pub mod Decimal
 pub mod Pairs
 pub mod Reading
+pub mod Groups
+pub mod Writing

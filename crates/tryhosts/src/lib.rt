@@ -1,6 +1,7 @@
 // Hosts to try, as a handshake's X-Try field lists them: address and port pairs read from a field's value, and the
 // three groups that the station writes.
 pub mod read;
+pub mod write;
 
 // The address of a host in network order, and its port.
 #[repr(C)]
@@ -21,4 +22,11 @@ pub struct Pairs {
 pub struct Tried {
     pub answer: u8,
     pub pairs: Pairs,
+}
+
+// What writing a group gives: the answer's number in document 01, and how many bytes were written (none where it is not 0).
+#[repr(C)]
+pub struct Wrote {
+    pub answer: u8,
+    pub written: usize,
 }
