@@ -2,3 +2,8 @@
 pub mod Tests
 pub mod TextLaws
 pub mod LineLaws
+pub mod FieldLaws
+pub mod GroupLaws
+pub mod Vectors
+pub mod Ends
+pub mod Behind

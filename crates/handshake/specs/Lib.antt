@@ -3,3 +3,6 @@ pub mod Text
 pub mod Lines
 pub mod Start
 pub mod Fields
+pub mod Step
+pub mod Group
+pub mod Claims

@@ -23,10 +23,6 @@ firstFrom f (suc k) i = cond (f i) i (firstFrom f k (i + 1))
 unfoldable pub groupLength : List ℕ → ℕ
 groupLength m = firstFrom (endsAt m) (min (length m) 4096 - 1) 2
 
--- the lines of a group without the empty one
-abbrev pub linesBytes : List ℕ → List ℕ
-linesBytes m = take (groupLength m - 2) m
-
 -- no CR and LF stand at the front
 abbrev pub inLine : List ℕ → Bool
 inLine s = not (pairAt s 0)
@@ -34,6 +30,10 @@ inLine s = not (pairAt s 0)
 -- how many bytes stand before the first CR and LF
 abbrev pub lineLength : List ℕ → ℕ
 lineLength s = run inLine s
+
+-- the line that starts at a place
+unfoldable pub lineAt : List ℕ → ℕ → List ℕ
+lineAt s at = take (lineLength (drop at s)) (drop at s)
 
 -- a byte more at the front of the first line
 abbrev pub onto : ℕ → List (List ℕ) → List (List ℕ)

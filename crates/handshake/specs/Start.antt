@@ -5,17 +5,16 @@ use mathlib.Core.List.{List, [], _∷_}
 use lib.Dec.{leb, eqb}
 use lib.ListN.{length, getD, drop}
 use Rattle.laws.specs.Tests.{every}
+use Rattle.laws.specs.Text.{codes}
 use Rattle.handshake.specs.declared.start.Version.{Version}
 use Rattle.handshake.specs.declared.start.Start.{Start}
 use Rattle.handshake.specs.Text.{startsWith, digitCount, digitValue}
 
--- `GNUTELLA CONNECT/`
 abbrev pub greetingText : List ℕ
-greetingText = 71 ∷ 78 ∷ 85 ∷ 84 ∷ 69 ∷ 76 ∷ 76 ∷ 65 ∷ 32 ∷ 67 ∷ 79 ∷ 78 ∷ 78 ∷ 69 ∷ 67 ∷ 84 ∷ 47 ∷ []
+greetingText = codes "GNUTELLA CONNECT/"
 
--- `GNUTELLA/`
 abbrev pub replyText : List ℕ
-replyText = 71 ∷ 78 ∷ 85 ∷ 84 ∷ 69 ∷ 76 ∷ 76 ∷ 65 ∷ 47 ∷ []
+replyText = codes "GNUTELLA/"
 
 abbrev pub oneToThree : ℕ → Bool
 oneToThree n = leb 1 n && leb n 3

@@ -1,9 +1,9 @@
 // Where a group ends, and its lines.
+use crate::text::after;
 use crate::text::front;
 ghost use mathlib.Core.Path.{_≡_};
 ghost use Prim.Native.Nat.{_≤_, min};
-ghost use lib.ListN.{take};
-ghost use Rattle.handshake.specs.Lines.{pairAt, endsAt, groupLength, lineLength};
+ghost use Rattle.handshake.specs.Lines.{pairAt, endsAt, groupLength, lineLength, lineAt};
 
 // CR and LF stand at place `at`.
 fn pair_at(m: &[u8], at: usize) -> bool
@@ -74,10 +74,10 @@ fn line_length(s: &[u8]) -> usize
     i
 }
 
-// The first line, without its end.
-pub fn first_line(s: &[u8]) -> &[u8]
-    ensures { λ r. ⌜ now r ≡ take (lineLength (now (s .entry))) (now (s .entry)) ⌝ }
+// The line that starts at a place, without its end.
+pub fn line_at(s: &[u8], at: usize) -> &[u8]
+    ensures { λ r. ⌜ now r ≡ lineAt (now (s .entry)) at ⌝ }
 {
-    let n = line_length(s);
-    front(s, n)
+    let rest = after(s, at);
+    front(rest, line_length(rest))
 }
