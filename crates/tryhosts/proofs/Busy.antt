@@ -8,8 +8,9 @@ use lib.Dec.{leb}
 use lib.ListN.{length, take, length-append, length-take}
 use borrow.Author.Tests.{lt-ltb, le-ltb, leb-true}
 use Rattle.laws.specs.Tests.{all}
+use Rattle.laws.specs.Text.{codes}
 use Rattle.tryhosts.specs.Pairs.{comma, space}
-use Rattle.tryhosts.specs.Groups.{crlf, busyLine, tryName, pairText, pairsText, tryLine, busyBytes, pairsIn, hasPort, canWrite, busyAnswer, wroteOf, areaOf}
+use Rattle.tryhosts.specs.Groups.{crlf, busyLine, pairText, pairsText, tryLine, busyBytes, pairsIn, hasPort, canWrite, busyAnswer, wroteOf, areaOf}
 use Rattle.tryhosts.specs.Writing.{led, Put}
 use Rattle.tryhosts.specs.declared.Pair.{Pair}
 use Rattle.tryhosts.specs.declared.Pairs.{Pairs}
@@ -30,7 +31,7 @@ led-size s t (p ∷ ps) = refl
 
 -- X-Try and a colon
 abbrev pub tryColon : List ℕ
-tryColon = 88 ∷ 45 ∷ 84 ∷ 114 ∷ 121 ∷ 58 ∷ []
+tryColon = codes "X-Try:"
 
 -- the reply's first line with its end
 abbrev pub busyHead : List ℕ

@@ -54,7 +54,7 @@ pub record Left (value : List ℕ) (at : ℕ) (pairs : Pairs) : Type 0 where
   pub good : all goodPair (itemsOf value) ≡ all goodPair (itemsOf (drop at value))
   pub kept : fill (pairsFrom []) (map pairIn (itemsOf value)) ≡ fill pairs (map pairIn (itemsOf (drop at value)))
 
-no-items : itemsOf [] ≡ []
+pub no-items : itemsOf [] ≡ []
 unfolding itemsOf pieces filled
 no-items = refl
 

@@ -8,3 +8,4 @@ pub mod Digits
 pub mod Putting
 pub mod Listing
 pub mod Busy
+pub mod ReadBack

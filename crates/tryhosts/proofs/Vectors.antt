@@ -1,106 +1,53 @@
--- Values of X-Try read by computation. Each text is given in its bytes.
+-- Values of X-Try read by computation, and replies written.
 use Prim.Native.Nat.{ℕ}
+use Prim.Native.String.{String}
 use mathlib.Core.Path.{_≡_, refl}
 use mathlib.Core.List.{List, [], _∷_, map}
+use Rattle.laws.specs.Text.{codes}
 use Rattle.tryhosts.specs.Decimal.{decimal}
 use Rattle.tryhosts.specs.Pairs.{itemsOf, pieces, bare, filled, upTo, past, goodPair, pairIn, pairsOf, readAnswer}
+use Rattle.tryhosts.specs.Groups.{pairText, pairsText, tryLine, busyBytes}
+use Rattle.tryhosts.specs.declared.Pair.{Pair}
 
--- 1.2.3.4:1234,10.11.12.13:20
-twoGood : readAnswer (49 ∷ 46 ∷ 50 ∷ 46 ∷ 51 ∷ 46 ∷ 52 ∷ 58 ∷ 49 ∷ 50 ∷ 51 ∷ 52 ∷ 44 ∷ 49 ∷ 48 ∷ 46 ∷ 49 ∷ 49 ∷ 46 ∷ 49 ∷ 50 ∷ 46 ∷ 49 ∷ 51 ∷ 58 ∷ 50 ∷ 48 ∷ []) ≡ 0
+-- the answers to these values
+abbrev answers : List String → List ℕ
+answers values = map (λ v. readAnswer (codes v)) values
+
+-- one pair and several, a space after a comma, leading zeros, empty items, and no item at all
+good : answers ("1.2.3.4:1234,10.11.12.13:20" ∷ "1.2.3.4:5, 6.7.8.9:1" ∷ "01.002.3.4:00080" ∷ ",1.2.3.4:5,, ,6.7.8.9:1," ∷ "255.255.255.255:65535" ∷ "" ∷ []) ≡ 0 ∷ 0 ∷ 0 ∷ 0 ∷ 0 ∷ 0 ∷ []
 unfolding readAnswer itemsOf pieces bare filled goodPair upTo past
-twoGood = refl
+good = refl
 
--- 1.2.3.4:1234, 10.11.12.13:20
-twoPairs : pairsOf (49 ∷ 46 ∷ 50 ∷ 46 ∷ 51 ∷ 46 ∷ 52 ∷ 58 ∷ 49 ∷ 50 ∷ 51 ∷ 52 ∷ 44 ∷ 32 ∷ 49 ∷ 48 ∷ 46 ∷ 49 ∷ 49 ∷ 46 ∷ 49 ∷ 50 ∷ 46 ∷ 49 ∷ 51 ∷ 58 ∷ 50 ∷ 48 ∷ []) ≡ record { address = 1 ∷ 2 ∷ 3 ∷ 4 ∷ []; port = 1234 } ∷ record { address = 10 ∷ 11 ∷ 12 ∷ 13 ∷ []; port = 20 } ∷ []
+-- ports: 0, over 65,535, six digits, none, two
+badPorts : answers ("1.2.3.4:0" ∷ "1.2.3.4:65536" ∷ "1.2.3.4:000080" ∷ "1.2.3.4" ∷ "1.2.3.4:" ∷ "1.2.3.4:5:6" ∷ []) ≡ 6 ∷ 6 ∷ 6 ∷ 6 ∷ 6 ∷ 6 ∷ []
+unfolding readAnswer itemsOf pieces bare filled goodPair upTo past
+badPorts = refl
+
+-- octets: over 255, four digits, none, three of them, five of them, a letter
+badOctets : answers ("1.2.256.4:80" ∷ "0001.2.3.4:80" ∷ "1..3.4:5" ∷ "1.2.3:4" ∷ "1.2.3.4.5:6" ∷ "1.2.x.4:5" ∷ []) ≡ 6 ∷ 6 ∷ 6 ∷ 6 ∷ 6 ∷ 6 ∷ []
+unfolding readAnswer itemsOf pieces bare filled goodPair upTo past
+badOctets = refl
+
+-- spaces: two after a comma, one in front of the first item, one before a comma, one at the end; and a bad pair after good ones
+badSpaces : answers ("1.2.3.4:5,  6.7.8.9:1" ∷ " 1.2.3.4:5" ∷ "1.2.3.4:5 ,6.7.8.9:1" ∷ "1.2.3.4:5 " ∷ "1.2.3.4:5,6.7.8.9:1,x" ∷ []) ≡ 6 ∷ 6 ∷ 6 ∷ 6 ∷ 6 ∷ []
+unfolding readAnswer itemsOf pieces bare filled goodPair upTo past
+badSpaces = refl
+
+abbrev host : ℕ → ℕ → ℕ → ℕ → ℕ → Pair
+host a b c d port = record { address = a ∷ b ∷ c ∷ d ∷ []; port = port }
+
+pairs : map (λ v. pairsOf (codes v)) ("1.2.3.4:1234, 10.11.12.13:20" ∷ "01.002.3.4:00080" ∷ ",1.2.3.4:5,, ,6.7.8.9:1," ∷ "" ∷ []) ≡ (host 1 2 3 4 1234 ∷ host 10 11 12 13 20 ∷ []) ∷ (host 1 2 3 4 80 ∷ []) ∷ (host 1 2 3 4 5 ∷ host 6 7 8 9 1 ∷ []) ∷ [] ∷ []
 unfolding pairsOf itemsOf pieces bare filled pairIn upTo past
-twoPairs = refl
+pairs = refl
 
--- 01.002.3.4:00080
-leadingZeros : pairsOf (48 ∷ 49 ∷ 46 ∷ 48 ∷ 48 ∷ 50 ∷ 46 ∷ 51 ∷ 46 ∷ 52 ∷ 58 ∷ 48 ∷ 48 ∷ 48 ∷ 56 ∷ 48 ∷ []) ≡ record { address = 1 ∷ 2 ∷ 3 ∷ 4 ∷ []; port = 80 } ∷ []
-unfolding pairsOf itemsOf pieces bare filled pairIn upTo past
-leadingZeros = refl
+numbers : map decimal (0 ∷ 7 ∷ 10 ∷ 255 ∷ 6346 ∷ 65535 ∷ []) ≡ map codes ("0" ∷ "7" ∷ "10" ∷ "255" ∷ "6346" ∷ "65535" ∷ [])
+unfolding decimal
+numbers = refl
 
--- 01.002.3.4:00080
-leadingZerosGood : readAnswer (48 ∷ 49 ∷ 46 ∷ 48 ∷ 48 ∷ 50 ∷ 46 ∷ 51 ∷ 46 ∷ 52 ∷ 58 ∷ 48 ∷ 48 ∷ 48 ∷ 56 ∷ 48 ∷ []) ≡ 0
-unfolding readAnswer itemsOf pieces bare filled goodPair upTo past
-leadingZerosGood = refl
+busyAlone : busyBytes [] ≡ codes "GNUTELLA/0.6 503 Busy\r\n\r\n"
+unfolding busyBytes tryLine
+busyAlone = refl
 
--- ,1.2.3.4:5,, ,6.7.8.9:1,
-emptyItems : readAnswer (44 ∷ 49 ∷ 46 ∷ 50 ∷ 46 ∷ 51 ∷ 46 ∷ 52 ∷ 58 ∷ 53 ∷ 44 ∷ 44 ∷ 32 ∷ 44 ∷ 54 ∷ 46 ∷ 55 ∷ 46 ∷ 56 ∷ 46 ∷ 57 ∷ 58 ∷ 49 ∷ 44 ∷ []) ≡ 0
-unfolding readAnswer itemsOf pieces bare filled goodPair upTo past
-emptyItems = refl
-
--- ,1.2.3.4:5,, ,6.7.8.9:1,
-emptyIgnored : pairsOf (44 ∷ 49 ∷ 46 ∷ 50 ∷ 46 ∷ 51 ∷ 46 ∷ 52 ∷ 58 ∷ 53 ∷ 44 ∷ 44 ∷ 32 ∷ 44 ∷ 54 ∷ 46 ∷ 55 ∷ 46 ∷ 56 ∷ 46 ∷ 57 ∷ 58 ∷ 49 ∷ 44 ∷ []) ≡ record { address = 1 ∷ 2 ∷ 3 ∷ 4 ∷ []; port = 5 } ∷ record { address = 6 ∷ 7 ∷ 8 ∷ 9 ∷ []; port = 1 } ∷ []
-unfolding pairsOf itemsOf pieces bare filled pairIn upTo past
-emptyIgnored = refl
-
---
-nothing : readAnswer ([]) ≡ 0
-unfolding readAnswer itemsOf pieces bare filled goodPair upTo past
-nothing = refl
-
--- 1.2.3.4:0
-portZero : readAnswer (49 ∷ 46 ∷ 50 ∷ 46 ∷ 51 ∷ 46 ∷ 52 ∷ 58 ∷ 48 ∷ []) ≡ 6
-unfolding readAnswer itemsOf pieces bare filled goodPair upTo past
-portZero = refl
-
--- 1.2.3.4:65536
-portOver : readAnswer (49 ∷ 46 ∷ 50 ∷ 46 ∷ 51 ∷ 46 ∷ 52 ∷ 58 ∷ 54 ∷ 53 ∷ 53 ∷ 51 ∷ 54 ∷ []) ≡ 6
-unfolding readAnswer itemsOf pieces bare filled goodPair upTo past
-portOver = refl
-
--- 1.2.3.4:000080
-portSixDigits : readAnswer (49 ∷ 46 ∷ 50 ∷ 46 ∷ 51 ∷ 46 ∷ 52 ∷ 58 ∷ 48 ∷ 48 ∷ 48 ∷ 48 ∷ 56 ∷ 48 ∷ []) ≡ 6
-unfolding readAnswer itemsOf pieces bare filled goodPair upTo past
-portSixDigits = refl
-
--- 1.2.256.4:80
-octetOver : readAnswer (49 ∷ 46 ∷ 50 ∷ 46 ∷ 50 ∷ 53 ∷ 54 ∷ 46 ∷ 52 ∷ 58 ∷ 56 ∷ 48 ∷ []) ≡ 6
-unfolding readAnswer itemsOf pieces bare filled goodPair upTo past
-octetOver = refl
-
--- 0001.2.3.4:80
-octetFourDigits : readAnswer (48 ∷ 48 ∷ 48 ∷ 49 ∷ 46 ∷ 50 ∷ 46 ∷ 51 ∷ 46 ∷ 52 ∷ 58 ∷ 56 ∷ 48 ∷ []) ≡ 6
-unfolding readAnswer itemsOf pieces bare filled goodPair upTo past
-octetFourDigits = refl
-
--- 1.2.3.4:5,  6.7.8.9:1
-twoSpaces : readAnswer (49 ∷ 46 ∷ 50 ∷ 46 ∷ 51 ∷ 46 ∷ 52 ∷ 58 ∷ 53 ∷ 44 ∷ 32 ∷ 32 ∷ 54 ∷ 46 ∷ 55 ∷ 46 ∷ 56 ∷ 46 ∷ 57 ∷ 58 ∷ 49 ∷ []) ≡ 6
-unfolding readAnswer itemsOf pieces bare filled goodPair upTo past
-twoSpaces = refl
-
---  1.2.3.4:5
-spaceFirst : readAnswer (32 ∷ 49 ∷ 46 ∷ 50 ∷ 46 ∷ 51 ∷ 46 ∷ 52 ∷ 58 ∷ 53 ∷ []) ≡ 6
-unfolding readAnswer itemsOf pieces bare filled goodPair upTo past
-spaceFirst = refl
-
--- 1.2.3.4:5
-spaceLast : readAnswer (49 ∷ 46 ∷ 50 ∷ 46 ∷ 51 ∷ 46 ∷ 52 ∷ 58 ∷ 53 ∷ 32 ∷ []) ≡ 6
-unfolding readAnswer itemsOf pieces bare filled goodPair upTo past
-spaceLast = refl
-
--- 1.2.3.4.5:6
-fiveOctets : readAnswer (49 ∷ 46 ∷ 50 ∷ 46 ∷ 51 ∷ 46 ∷ 52 ∷ 46 ∷ 53 ∷ 58 ∷ 54 ∷ []) ≡ 6
-unfolding readAnswer itemsOf pieces bare filled goodPair upTo past
-fiveOctets = refl
-
--- 1.2.3:4
-threeOctets : readAnswer (49 ∷ 46 ∷ 50 ∷ 46 ∷ 51 ∷ 58 ∷ 52 ∷ []) ≡ 6
-unfolding readAnswer itemsOf pieces bare filled goodPair upTo past
-threeOctets = refl
-
--- 1.2.3.4
-noPort : readAnswer (49 ∷ 46 ∷ 50 ∷ 46 ∷ 51 ∷ 46 ∷ 52 ∷ []) ≡ 6
-unfolding readAnswer itemsOf pieces bare filled goodPair upTo past
-noPort = refl
-
--- 1..3.4:5
-emptyOctet : readAnswer (49 ∷ 46 ∷ 46 ∷ 51 ∷ 46 ∷ 52 ∷ 58 ∷ 53 ∷ []) ≡ 6
-unfolding readAnswer itemsOf pieces bare filled goodPair upTo past
-emptyOctet = refl
-
--- 1.2.3.4:5:6
-twoPorts : readAnswer (49 ∷ 46 ∷ 50 ∷ 46 ∷ 51 ∷ 46 ∷ 52 ∷ 58 ∷ 53 ∷ 58 ∷ 54 ∷ []) ≡ 6
-unfolding readAnswer itemsOf pieces bare filled goodPair upTo past
-twoPorts = refl
+busyWithTwo : busyBytes (host 1 2 3 4 1234 ∷ host 10 0 255 13 20 ∷ []) ≡ codes "GNUTELLA/0.6 503 Busy\r\nX-Try: 1.2.3.4:1234,10.0.255.13:20\r\n\r\n"
+unfolding busyBytes tryLine pairsText pairText decimal
+busyWithTwo = refl

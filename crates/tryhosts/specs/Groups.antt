@@ -5,6 +5,7 @@ use mathlib.Core.List.{List, [], _∷_, _++_, map}
 use lib.Dec.{eqb, leb, ltb}
 use lib.ListN.{length, take, getD}
 use Rattle.laws.specs.Tests.{firstOf, all}
+use Rattle.laws.specs.Text.{codes}
 use Rattle.laws.specs.Parts.{over}
 use Rattle.tryhosts.specs.Decimal.{decimal}
 use Rattle.tryhosts.specs.Pairs.{comma, dot, colon}
@@ -12,25 +13,24 @@ use Rattle.tryhosts.specs.declared.Pair.{Pair}
 use Rattle.tryhosts.specs.declared.Pairs.{Pairs}
 use Rattle.tryhosts.specs.declared.Wrote.{Wrote}
 
--- CR LF
 abbrev pub crlf : List ℕ
-crlf = 13 ∷ 10 ∷ []
+crlf = codes "\r\n"
 
--- GNUTELLA CONNECT/0.6
 abbrev pub greetingLine : List ℕ
-greetingLine = 71 ∷ 78 ∷ 85 ∷ 84 ∷ 69 ∷ 76 ∷ 76 ∷ 65 ∷ 32 ∷ 67 ∷ 79 ∷ 78 ∷ 78 ∷ 69 ∷ 67 ∷ 84 ∷ 47 ∷ 48 ∷ 46 ∷ 54 ∷ []
+greetingLine = codes "GNUTELLA CONNECT/0.6"
 
--- GNUTELLA/0.6 200 OK
 abbrev pub okLine : List ℕ
-okLine = 71 ∷ 78 ∷ 85 ∷ 84 ∷ 69 ∷ 76 ∷ 76 ∷ 65 ∷ 47 ∷ 48 ∷ 46 ∷ 54 ∷ 32 ∷ 50 ∷ 48 ∷ 48 ∷ 32 ∷ 79 ∷ 75 ∷ []
+okLine = codes "GNUTELLA/0.6 200 OK"
 
--- GNUTELLA/0.6 503 Busy
 abbrev pub busyLine : List ℕ
-busyLine = 71 ∷ 78 ∷ 85 ∷ 84 ∷ 69 ∷ 76 ∷ 76 ∷ 65 ∷ 47 ∷ 48 ∷ 46 ∷ 54 ∷ 32 ∷ 53 ∷ 48 ∷ 51 ∷ 32 ∷ 66 ∷ 117 ∷ 115 ∷ 121 ∷ []
+busyLine = codes "GNUTELLA/0.6 503 Busy"
 
--- X-Try, a colon and a space
+-- the name of the field, and what stands in front of its value
 abbrev pub tryName : List ℕ
-tryName = 88 ∷ 45 ∷ 84 ∷ 114 ∷ 121 ∷ 58 ∷ 32 ∷ []
+tryName = codes "X-Try"
+
+abbrev pub tryFront : List ℕ
+tryFront = tryName ++ codes ": "
 
 unfoldable pub greetingBytes : List ℕ
 greetingBytes = greetingLine ++ (crlf ++ crlf)
@@ -62,7 +62,7 @@ pairsText ps = joined comma (map pairText ps)
 -- one line for the pairs, and none where there is no pair
 unfoldable pub tryLine : List Pair → List ℕ
 tryLine [] = []
-tryLine (p ∷ ps) = tryName ++ (pairsText (p ∷ ps) ++ crlf)
+tryLine (p ∷ ps) = tryFront ++ (pairsText (p ∷ ps) ++ crlf)
 
 unfoldable pub busyBytes : List Pair → List ℕ
 busyBytes ps = busyLine ++ (crlf ++ (tryLine ps ++ crlf))

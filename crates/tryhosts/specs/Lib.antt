@@ -4,3 +4,4 @@ pub mod Pairs
 pub mod Reading
 pub mod Groups
 pub mod Writing
+pub mod Claims
