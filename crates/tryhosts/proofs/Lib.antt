@@ -9,3 +9,4 @@ pub mod Putting
 pub mod Listing
 pub mod Busy
 pub mod ReadBack
+pub mod Asking

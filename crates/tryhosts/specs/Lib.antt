@@ -5,3 +5,4 @@ pub mod Reading
 pub mod Groups
 pub mod Writing
 pub mod Claims
+pub mod Tried

@@ -1,5 +1,6 @@
 // Hosts to try, as a handshake's X-Try field lists them: address and port pairs read from a field's value, and the
 // three groups that the station writes.
+pub mod group;
 pub mod read;
 pub mod write;
 
@@ -21,6 +22,14 @@ pub struct Pairs {
 #[repr(C)]
 pub struct Tried {
     pub answer: u8,
+    pub pairs: Pairs,
+}
+
+// What asking a group for its hosts gives: `used` is the group's length where the group was understood.
+#[repr(C)]
+pub struct TriedGroup {
+    pub answer: u8,
+    pub used: usize,
     pub pairs: Pairs,
 }
 

@@ -198,7 +198,7 @@ fn skip(text: &[u8], end: usize) -> usize
     next
 }
 
-fn no_pairs() -> Pairs
+pub(crate) fn no_pairs() -> Pairs
     ensures { λ r. ⌜ r ≡ pairsFrom [] ⌝ }
 {
     let none = Pair {
