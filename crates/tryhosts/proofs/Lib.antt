@@ -10,3 +10,4 @@ pub mod Listing
 pub mod Busy
 pub mod ReadBack
 pub mod Asking
+pub mod ReadGroups

@@ -23,7 +23,7 @@ use Rattle.tryhosts.proofs.Parsing.{and-left, and-right}
 
 -- ---- lists
 
-all-append : (f : ℕ → Bool) (xs ys : List ℕ) → all f xs ≡ true → all f ys ≡ true → all f (xs ++ ys) ≡ true
+pub all-append : (f : ℕ → Bool) (xs ys : List ℕ) → all f xs ≡ true → all f ys ≡ true → all f (xs ++ ys) ≡ true
 all-append f [] ys h k = k
 all-append f (x ∷ xs) ys h k = rw (and-left (f x) (all f xs) h) (all-append f xs ys (and-right (f x) (all f xs) h) k)
 
@@ -52,7 +52,7 @@ digits-number (suc k) n h = go (ltb n 10) refl (digits-number k (n / 10) (tenth-
     go true e h = omega arith
     go false e h = numberFrom-append 0 (digitsOf (suc k) (n / 10)) ((48 + n % 10) ∷ []) ∙ rw h (omega arith)
 
-decimal-all : (n : ℕ) → all isDigit (decimal n) ≡ true
+pub decimal-all : (n : ℕ) → all isDigit (decimal n) ≡ true
 unfolding decimal
 decimal-all n = digits-all 5 n
 
@@ -65,7 +65,7 @@ pub record Digits (n widest : ℕ) : Type 0 where
   pub some : 1 ≤ length (decimal n)
   pub few : length (decimal n) ≤ widest
 
-below-thousand : (n : ℕ) → n < 1000 → Digits n 3
+pub below-thousand : (n : ℕ) → n < 1000 → Digits n 3
 below-thousand n h = go (ltb n 10) (ltb n 100) refl refl
   where
     go : (a b : Bool) → ltb n 10 ≡ a → ltb n 100 ≡ b → Digits n 3
@@ -73,7 +73,7 @@ below-thousand n h = go (ltb n 10) (ltb n 100) refl refl
     go false true e f = let s = size-two n (ltb-false n 10 e) (ltb-true n 100 f) in record { some = omega arith; few = omega arith }
     go false false e f = let s = size-three n (ltb-false n 100 f) h in record { some = omega arith; few = omega arith }
 
-below-most : (n : ℕ) → n < 100000 → Digits n 5
+pub below-most : (n : ℕ) → n < 100000 → Digits n 5
 below-most n h = go (ltb n 1000) (ltb n 10000) refl refl
   where
     go : (a b : Bool) → ltb n 1000 ≡ a → ltb n 10000 ≡ b → Digits n 5
@@ -84,7 +84,7 @@ below-most n h = go (ltb n 1000) (ltb n 10000) refl refl
 number-is : (n widest : ℕ) → Digits n widest → isNumber widest (decimal n) ≡ true
 number-is n widest d = rw (le-leb 1 (length (decimal n)) (d .some), le-leb (length (decimal n)) widest (d .few), decimal-all n)
 
-octet-is : (n : ℕ) → n ≤ 255 → isOctet (decimal n) ≡ true
+pub octet-is : (n : ℕ) → n ≤ 255 → isOctet (decimal n) ≡ true
 octet-is n h = rw (number-is n 3 (below-thousand n (omega arith)), decimal-number n (omega arith), le-leb n 255 h)
 
 port-is : (n : ℕ) → 1 ≤ n → n ≤ 65535 → isPort (decimal n) ≡ true
@@ -92,10 +92,10 @@ port-is n h k = rw (number-is n 5 (below-most n (omega arith)), decimal-number n
 
 -- ---- a text without a separator
 
-abbrev clean : ℕ → List ℕ → Bool
+abbrev pub clean : ℕ → List ℕ → Bool
 clean s text = all (λ b. not (eqb b s)) text
 
-digit-clean : (s : ℕ) → isDigit s ≡ false → (xs : List ℕ) → all isDigit xs ≡ true → clean s xs ≡ true
+pub digit-clean : (s : ℕ) → isDigit s ≡ false → (xs : List ℕ) → all isDigit xs ≡ true → clean s xs ≡ true
 digit-clean s d [] h = refl
 digit-clean s d (x ∷ xs) h = go (eqb x s) refl (digit-clean s d xs (and-right (isDigit x) (all isDigit xs) h))
   where
@@ -137,10 +137,10 @@ module _ (s : ℕ) where
 -- ---- a pair
 
 module _ (p : Pair) where
-  abbrev part : ℕ → List ℕ
+  abbrev pub part : ℕ → List ℕ
   part k = decimal (octetOf p k)
 
-  abbrev port : List ℕ
+  abbrev pub port : List ℕ
   port = decimal (p .port)
 
   -- the text behind each separator
@@ -150,10 +150,10 @@ module _ (p : Pair) where
   abbrev behind₂ : List ℕ
   behind₂ = part 2 ++ (dot ∷ behind₃)
 
-  abbrev behind₁ : List ℕ
+  abbrev pub behind₁ : List ℕ
   behind₁ = part 1 ++ (dot ∷ behind₂)
 
-  pair-split : pairText p ≡ part 0 ++ (dot ∷ behind₁)
+  pub pair-split : pairText p ≡ part 0 ++ (dot ∷ behind₁)
   unfolding pairText
   pair-split = simp append-assoc
 
@@ -165,7 +165,7 @@ module _ (p : Pair) where
       rw (pair-split, upTo-clean dot (part 0) behind₁ (part-clean dot 0 refl), past-clean dot (part 0) behind₁ (part-clean dot 0 refl), upTo-clean dot (part 1) behind₂ (part-clean dot 1 refl), past-clean dot (part 1) behind₂ (part-clean dot 1 refl), upTo-clean dot (part 2) behind₃ (part-clean dot 2 refl), past-clean dot (part 2) behind₃ (part-clean dot 2 refl), upTo-clean colon (part 3) port (part-clean colon 3 refl), past-clean colon (part 3) port (part-clean colon 3 refl))
 
   -- no separator of items stands in it
-  pair-clean : (s : ℕ) → isDigit s ≡ false → eqb dot s ≡ false → eqb colon s ≡ false → clean s (pairText p) ≡ true
+  pub pair-clean : (s : ℕ) → isDigit s ≡ false → eqb dot s ≡ false → eqb colon s ≡ false → clean s (pairText p) ≡ true
   pair-clean s d e f =
       let f₃ : clean s behind₃ ≡ true = all-append notS (part 3) (colon ∷ port) (part-clean s 3 d) (rw f (digit-clean s d port (decimal-all (p .port)))) in
       let f₂ : clean s behind₂ ≡ true = all-append notS (part 2) (dot ∷ behind₃) (part-clean s 2 d) (rw e f₃) in
@@ -176,11 +176,11 @@ module _ (p : Pair) where
       notS b = not (eqb b s)
 
 -- a host's octets
-record Host (p : Pair) : Type 0 where
-  address : p .address ≡ octetOf p 0 ∷ octetOf p 1 ∷ octetOf p 2 ∷ octetOf p 3 ∷ []
-  octet : (k : ℕ) → octetOf p k ≤ 255
-  least : 1 ≤ p .port
-  most : p .port ≤ 65535
+pub record Host (p : Pair) : Type 0 where
+  pub address : p .address ≡ octetOf p 0 ∷ octetOf p 1 ∷ octetOf p 2 ∷ octetOf p 3 ∷ []
+  pub octet : (k : ℕ) → octetOf p k ≤ 255
+  pub least : 1 ≤ p .port
+  pub most : p .port ≤ 65535
 
 four : (a : List ℕ) → length a ≡ 4 → a ≡ getD a 0 0 ∷ getD a 1 0 ∷ getD a 2 0 ∷ getD a 3 0 ∷ []
 four [] h = absurd (omega arith)
@@ -236,7 +236,7 @@ item-some : (xs ys : List ℕ) (items : List (List ℕ)) → 1 ≤ length xs →
 item-some [] ys items l = absurd (omega arith)
 item-some (x ∷ xs) ys items l = refl
 
-pair-bare : (p : Pair) (ys : List ℕ) → Host p → bare (pairText p ++ ys) ≡ pairText p ++ ys
+pub pair-bare : (p : Pair) (ys : List ℕ) → Host p → bare (pairText p ++ ys) ≡ pairText p ++ ys
 pair-bare p ys h =
     rw (pair-split p, append-assoc (part p 0) (dot ∷ behind₁ p) ys)
     (bare-digits (part p 0) ((dot ∷ behind₁ p) ++ ys) (below-thousand (octetOf p 0) (omega (arith, h .octet 0)) .some) (decimal-all (octetOf p 0)))
@@ -254,14 +254,14 @@ pairs-bare p (q ∷ qs) h = pair-bare p (comma ∷ pairsText (q ∷ qs)) h
 pair-commas : (p : Pair) → clean comma (pairText p) ≡ true
 pair-commas p = pair-clean p comma refl refl refl
 
-host-first : (p : Pair) (ps : List Pair) → all isHost (p ∷ ps) ≡ true → Host p
+pub host-first : (p : Pair) (ps : List Pair) → all isHost (p ∷ ps) ≡ true → Host p
 host-first p ps h = host p (and-left (isHost p) (all isHost ps) h)
 
 none-left : itemsOf (bare []) ≡ []
 unfolding itemsOf pieces filled bare
 none-left = refl
 
-pairs-items : (ps : List Pair) → all isHost ps ≡ true → itemsOf (pairsText ps) ≡ map pairText ps
+pub pairs-items : (ps : List Pair) → all isHost ps ≡ true → itemsOf (pairsText ps) ≡ map pairText ps
 unfolding pairsText
 pairs-items [] h = no-items
 pairs-items (p ∷ []) h =
@@ -275,11 +275,11 @@ pairs-items (p ∷ q ∷ qs) h =
     ∙ rw (upTo-clean comma (pairText p) rest (pair-commas p), past-clean comma (pairText p) rest (pair-commas p), pairs-bare q qs (host-first q qs k), pairs-items (q ∷ qs) k)
     (pair-item p (map pairText (q ∷ qs)) (host-first p (q ∷ qs) h))
 
-pairs-good : (ps : List Pair) → all isHost ps ≡ true → all goodPair (map pairText ps) ≡ true
+pub pairs-good : (ps : List Pair) → all isHost ps ≡ true → all goodPair (map pairText ps) ≡ true
 pairs-good [] h = refl
 pairs-good (p ∷ ps) h = rw (pair-good p (host-first p ps h)) (pairs-good ps (and-right (isHost p) (all isHost ps) h))
 
-pairs-same : (ps : List Pair) → all isHost ps ≡ true → map pairIn (map pairText ps) ≡ ps
+pub pairs-same : (ps : List Pair) → all isHost ps ≡ true → map pairIn (map pairText ps) ≡ ps
 pairs-same [] h = refl
 pairs-same (p ∷ ps) h = ap₂ (λ x xs. x ∷ xs) (pair-in p (host-first p ps h)) (pairs-same ps (and-right (isHost p) (all isHost ps) h))
 
