@@ -1,8 +1,8 @@
 -- Laws of the X-Try field of a group: what asking for it gives, as the answer with its pairs.
-use Prim.Native.Nat.{ℕ, suc, _+_, _≤_, _<_}
+use Prim.Native.Nat.{ℕ, _+_, _≤_}
 use mathlib.Core.Path.{_≡_, refl, sym, ap, _∙_}
 use mathlib.Core.Bool.{Bool, true, false, cond, not, _&&_, _||_}
-use mathlib.Core.List.{List, [], _∷_, _++_}
+use mathlib.Core.List.{List, [], _∷_}
 use native.Mathlib.Omega.{arith}
 use lib.Dec.{eqb, leb, ltb}
 use lib.ListN.{length, take, drop}
@@ -13,7 +13,7 @@ use Rattle.laws.specs.Parts.{over}
 use Rattle.laws.proofs.Text.{over-length}
 use Rattle.handshake.specs.Lines.{groupLength}
 use Rattle.handshake.specs.Fields.{isNone, commaBetween, fieldsOf, valuesOf, isAbsent, valueFor}
-use Rattle.handshake.specs.Group.{understood, fieldsIn, valueIn, askedFrom, askedNumber, askedWith, askField, askedOut}
+use Rattle.handshake.specs.Group.{understood, fieldsIn, askedFrom, askedNumber, askedWith, askField, askedOut}
 use Rattle.handshake.specs.declared.Asked.{Asked}
 use Rattle.handshake.proofs.Behind.{value-most}
 use Rattle.tryhosts.specs.Pairs.{itemsOf, goodPair, pairsFrom, pairsOf, readAnswer, triedOf}

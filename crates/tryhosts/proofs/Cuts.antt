@@ -1,19 +1,15 @@
 -- Laws of texts cut at a separator, by which the loops go.
-use Prim.Native.Nat.{ℕ, zero, suc, _+_, _-_, _≤_, _<_, zero-le, suc-le-suc, min}
+use Prim.Native.Nat.{ℕ, suc, _+_, _≤_, _<_, zero-le, suc-le-suc, min}
 use mathlib.Core.Path.{_≡_, refl, sym, ap, _∙_}
 use mathlib.Core.Bool.{Bool, true, false, cond}
-use mathlib.Core.List.{List, [], _∷_, _++_, map}
+use mathlib.Core.List.{List, [], _∷_, map}
 use native.Mathlib.Numerals.{add-one}
 use native.Mathlib.Omega.{arith}
 use lib.Dec.{eqb, leb}
-use lib.ListN.{length, getD, take, drop, length-drop, drop-of-length-le}
-use lib.Seq.{drop-cons, drop-length, take-all}
+use lib.ListN.{length, getD, take, drop, drop-of-length-le}
+use lib.Seq.{drop-cons, drop-length}
 use borrow.Author.Tests.{eq-eqb, ne-eqb, eqb-true, leb-true, leb-false}
 use Rattle.tryhosts.specs.Pairs.{comma, space, onto, pieces, bare, afterCommas, filled, itemsOf, upTo, past}
-
--- the part `&text[a..]` is what is left after a bytes
-pub rest-of : (text : List ℕ) (a : ℕ) → take (length text - a) (drop a text) ≡ drop a text
-rest-of text a = take-all (length text - a) (drop a text) (simp length-drop (omega arith))
 
 -- ---- a turn of the search for s
 

@@ -1,22 +1,22 @@
 -- Laws of the loop over a value's items: what is left to do gives what the whole value gives.
 use Prim.Native.Nat.{ℕ, suc, _+_, _-_, _≤_, _<_, zero-le}
 use mathlib.Core.Path.{_≡_, refl, sym, ap, _∙_}
-use mathlib.Core.Bool.{Bool, true, false, cond, _&&_}
+use mathlib.Core.Bool.{Bool, true, false, cond}
 use mathlib.Core.List.{List, [], _∷_, _++_, map, append-nil}
-use native.Mathlib.Numerals.{add-one}
 use native.Mathlib.Omega.{arith}
 use lib.Dec.{leb, lit≤}
-use lib.ListN.{length, take, drop, set, replicate, length-append, length-drop, drop-of-length-le}
+use lib.ListN.{length, take, drop, replicate, length-append, length-drop, drop-of-length-le}
 use lib.Seq.{drop-drop, set-at, take-append-le, take-all, append-snoc, length-take-le}
 use borrow.Author.Tests.{lt-ltb, le-ltb, leb-true, leb-false}
 use Rattle.laws.specs.Tests.{all}
+use Rattle.laws.proofs.Parts.{part-tail}
 use Rattle.tryhosts.specs.Pairs.{comma, bare, pieces, filled, itemsOf, upTo, past, goodPair, pairIn, noPair, pairsFrom, pairsOf, readAnswer, triedOf}
 use Rattle.tryhosts.specs.Reading.{kept, takenOf, Skips}
 use Rattle.tryhosts.specs.declared.Pair.{Pair}
 use Rattle.tryhosts.specs.declared.Pairs.{Pairs}
 use Rattle.tryhosts.specs.declared.Tried.{Tried}
 use Rattle.tryhosts.specs.declared.read.Taken.{Taken}
-use Rattle.tryhosts.proofs.Cuts.{itemOnto, items-step, rest-of, upTo-take, upTo-le}
+use Rattle.tryhosts.proofs.Cuts.{itemOnto, items-step, upTo-take, upTo-le}
 
 -- the pairs of these, one after the other, among those that are kept
 abbrev pub fill : Pairs → List Pair → Pairs
@@ -121,7 +121,7 @@ module _ (value : List ℕ) (at : ℕ) (ps : Pairs) (l : Left value at ps) where
       rw f (ap (λ x. record { answer = 0; pairs = x }) (sym k ∙ fill-first [] (map pairIn (itemsOf value)) (lit≤ tt)))
 
 pub rest-length : (value : List ℕ) (at : ℕ) → length (take (length value - at) (drop at value)) ≡ length value - at
-rest-length value at = ap length (rest-of value at) ∙ length-drop at value
+rest-length value at = ap length (part-tail at value) ∙ length-drop at value
 
 -- a turn of the loop, with the parts that the code lends
 module _ (value : List ℕ) (at : ℕ) (ps : Pairs) (l : Left value at ps) (end : ℕ) (e : end ≡ length (upTo comma (take (length value - at) (drop at value)))) where
@@ -132,14 +132,14 @@ module _ (value : List ℕ) (at : ℕ) (ps : Pairs) (l : Left value at ps) (end 
   turn-count = sym (length-take-le end rest (omega (arith, upTo-le comma rest)))
 
   item-is : take end rest ≡ upTo comma (drop at value)
-  item-is = ap (λ k. take k rest) e ∙ sym (upTo-take comma rest) ∙ ap (upTo comma) (rest-of value at)
+  item-is = ap (λ k. take k rest) e ∙ sym (upTo-take comma rest) ∙ ap (upTo comma) (part-tail at value)
 
   module _ (t : Taken) (h : t ≡ takenOf ps (take end rest)) where
     taken-is : t ≡ takenOf ps (upTo comma (drop at value))
     taken-is = h ∙ ap (takenOf ps) item-is
 
     pub turn-on : (k : ℕ) → t .good ≡ true → Skips rest k → Left value (at + k) (t .pairs)
-    turn-on k g s = rw taken-is (left-on value at ps l k (rw taken-is at g) (rw (rest-of value at) at s))
+    turn-on k g s = rw taken-is (left-on value at ps l k (rw taken-is at g) (rw (part-tail at value) at s))
 
     pub turn-bad : t .good ≡ false → _≡_ {A = Tried} (record { answer = 6; pairs = pairsFrom [] }) (triedOf value)
     turn-bad g = left-bad value at ps l (rw taken-is at g)

@@ -1,16 +1,16 @@
 -- Laws of the loops over the pairs in use.
-use Prim.Native.Nat.{ℕ, zero, suc, _+_, _*_, _≤_, _<_}
+use Prim.Native.Nat.{ℕ, suc, _+_, _*_, _≤_, _<_}
 use mathlib.Core.Path.{_≡_, refl, sym, ap, _∙_}
-use mathlib.Core.Bool.{Bool, true, false, cond, not, _&&_}
+use mathlib.Core.Bool.{true, false}
 use mathlib.Core.List.{List, [], _∷_, _++_}
 use native.Mathlib.Numerals.{add-one}
 use native.Mathlib.Omega.{arith}
 use borrow.Author.Tests.{eq-eqb, ne-eqb, le-leb, lt-leb}
-use lib.ListN.{length, getD, take, drop, length-append, length-take, drop-of-length-le}
+use lib.ListN.{length, getD, drop, length-append, length-take, drop-of-length-le}
 use lib.Seq.{drop-cons, getD-take, length-take-le}
 use Rattle.laws.specs.Tests.{all}
 use Rattle.laws.specs.Parts.{over}
-use Rattle.laws.proofs.Text.{over-none, over-append, over-length}
+use Rattle.laws.proofs.Text.{over-none, over-append}
 use Rattle.tryhosts.specs.Pairs.{comma, space}
 use Rattle.tryhosts.specs.Groups.{pairText, pairsIn, hasPort, canWrite}
 use Rattle.tryhosts.specs.Writing.{led, Put}

@@ -1,5 +1,5 @@
 -- Laws of an item read as a pair.
-use Prim.Native.Nat.{ℕ, zero, suc, _+_, _-_, _≤_, _<_, min}
+use Prim.Native.Nat.{ℕ, _+_, _-_, min}
 use mathlib.Core.Path.{_≡_, refl, sym, ap, _∙_}
 use mathlib.Core.Bool.{Bool, true, false, cond, _&&_, and-true}
 use mathlib.Core.List.{List, [], _∷_}
@@ -8,6 +8,7 @@ use lib.Dec.{leb}
 use lib.ListN.{length, take, drop}
 use lib.Seq.{length-take-le}
 use Rattle.laws.specs.Tests.{all}
+use Rattle.laws.proofs.Parts.{part-tail}
 use Rattle.tryhosts.specs.Decimal.{isNumber, number}
 use Rattle.tryhosts.specs.Pairs.{dot, colon, upTo, past, isOctet, isPort, goodPair, pairIn}
 use Rattle.tryhosts.specs.Reading.{numberOr, OctetIn, noParse, parsedFrom, parsedOf, kept, takenOf}
@@ -15,7 +16,7 @@ use Rattle.tryhosts.specs.declared.Pairs.{Pairs}
 use Rattle.tryhosts.specs.declared.read.Octet.{Octet}
 use Rattle.tryhosts.specs.declared.read.Parsed.{Parsed}
 use Rattle.tryhosts.specs.declared.read.Taken.{Taken}
-use Rattle.tryhosts.proofs.Cuts.{rest-of, upTo-take, upTo-le, past-min}
+use Rattle.tryhosts.proofs.Cuts.{upTo-take, upTo-le, past-min}
 
 -- ---- an octet
 
@@ -33,7 +34,7 @@ module _ (s : ℕ) (text : List ℕ) (end : ℕ) (e : end ≡ length (upTo s tex
 
 -- what the code lends after an octet
 pub octet-rest : (s : ℕ) (text : List ℕ) (o : Octet) → OctetIn s text o → take (length text - o .next) (drop (o .next) text) ≡ past s text
-octet-rest s text o h = rest-of text (o .next) ∙ h .left
+octet-rest s text o h = part-tail (o .next) text ∙ h .left
 
 -- ---- a pair
 

@@ -1,13 +1,13 @@
 -- Laws of texts put over an area, by which the loops go.
-use Prim.Native.Nat.{ℕ, zero, suc, _+_, _-_, _/_, _%_, _≤_, _<_}
+use Prim.Native.Nat.{ℕ, suc, _+_, _-_, _/_, _%_, _≤_, _<_}
 use mathlib.Core.Path.{_≡_, refl, sym, ap, _∙_}
 use mathlib.Core.List.{List, [], _∷_, _++_, append-assoc}
 use native.Mathlib.Nat.{add-zero}
 use native.Mathlib.Numerals.{add-one}
 use native.Mathlib.Omega.{arith}
 use borrow.Author.Tests.{lt-ltb, le-ltb}
-use lib.ListN.{length, getD, take, drop, set, length-set, length-append, drop-of-length-le}
-use lib.Seq.{drop-cons, drop-length}
+use lib.ListN.{length, getD, drop, set, length-set, length-append, drop-of-length-le}
+use lib.Seq.{drop-cons}
 use Rattle.laws.specs.Parts.{over}
 use Rattle.laws.proofs.Text.{over-none, over-set, over-append, over-length}
 use Rattle.laws.proofs.Decimal.{over-byte, over-last}

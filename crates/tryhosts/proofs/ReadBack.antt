@@ -5,17 +5,16 @@ use mathlib.Core.Bool.{Bool, true, false, cond, not, _&&_}
 use mathlib.Core.List.{List, [], _∷_, _++_, map, append-assoc, append-nil}
 use native.Mathlib.Omega.{arith}
 use lib.Dec.{eqb, leb, ltb}
-use lib.ListN.{length, length-append, take, getD}
+use lib.ListN.{length, take, getD}
 use lib.Seq.{take-all}
 use borrow.Author.Tests.{le-leb, lt-ltb, eq-eqb, eqb-true, leb-true, ltb-true, ltb-false, not-true}
-use Rattle.laws.specs.Tests.{every, all}
+use Rattle.laws.specs.Tests.{all}
 use Rattle.laws.proofs.Decimal.{tenth-below}
 use Rattle.tryhosts.specs.Decimal.{isDigit, isNumber, number, numberFrom, digitsOf, decimal}
-use Rattle.tryhosts.specs.Pairs.{comma, dot, colon, space, pieces, bare, filled, itemsOf, upTo, past, textsOf, isOctet, isPort, goodPair, pairIn, pairsFrom, pairsOf, readAnswer, triedOf}
+use Rattle.tryhosts.specs.Pairs.{comma, dot, colon, space, pieces, bare, filled, itemsOf, upTo, past, textsOf, isOctet, isPort, goodPair, pairIn, pairsOf, readAnswer, triedOf}
 use Rattle.tryhosts.specs.Groups.{octetOf, pairText, pairsText}
 use Rattle.tryhosts.specs.Claims.{isHost, ReadBack}
 use Rattle.tryhosts.specs.declared.Pair.{Pair}
-use Rattle.tryhosts.specs.declared.Tried.{Tried}
 use Rattle.tryhosts.proofs.Cuts.{itemOnto, items-step}
 use Rattle.tryhosts.proofs.Items.{no-items}
 use Rattle.tryhosts.proofs.Digits.{size-one, size-two, size-three, size-four, size-five}

@@ -2,21 +2,21 @@
 use Prim.Native.Nat.{ℕ, zero, suc, _+_, _-_, _*_, _≤_, _<_}
 use mathlib.Core.Path.{_≡_, refl, sym, ap, ap₂, subst, _∙_}
 use mathlib.Core.Logic.{_⊎_, inl, inr, ⊎-elim}
-use mathlib.Core.Bool.{Bool, true, false, cond, not, _&&_, _||_}
+use mathlib.Core.Bool.{Bool, true, false, not, _&&_}
 use mathlib.Core.List.{List, [], _∷_, _++_, map, append-assoc, append-nil}
 use native.Mathlib.Omega.{arith}
 use lib.Dec.{eqb, leb, ltb}
-use lib.ListN.{length, length-append, take, drop, getD, List·getD-append}
+use lib.ListN.{length, length-append, take, getD, List·getD-append}
 use lib.Seq.{take-all, take-append-seam, getD-append-add, getD-append-seam}
-use borrow.Author.Tests.{eqb-true, eqb-false, ltb-true, ltb-false, leb-true, le-leb, eq-eqb, ne-eqb, not-true}
-use Rattle.laws.specs.Tests.{every, all}
+use borrow.Author.Tests.{eqb-true, eqb-false, ltb-true, ltb-false, leb-true, le-leb, ne-eqb, not-true}
+use Rattle.laws.specs.Tests.{all}
 use Rattle.handshake.specs.Text.{isText, isBlank, leading, lower, compared, digitOf, digitValue}
 use Rattle.handshake.specs.Lines.{endsAt, groupLength, linesOf, firstLine, otherLines, onto}
 use Rattle.handshake.specs.Start.{versionLength, statusOk, greetingFrom, replyFrom, startOf}
 use Rattle.handshake.specs.Fields.{linesOk, isAbsent, valueFor}
 use Rattle.handshake.specs.Group.{linesIn, startIn, understood, groupFrom, readGroup}
 use Rattle.handshake.specs.declared.start.Start.{Start}
-use Rattle.handshake.specs.Claims.{EmptyLineAt, EndsIn}
+use Rattle.handshake.specs.Claims.{EmptyLineAt}
 use Rattle.handshake.proofs.Ends.{end-is-first}
 use Rattle.tryhosts.specs.Decimal.{isDigit}
 use Rattle.tryhosts.specs.Pairs.{comma, dot, colon, pieces, bare, filled, itemsOf, goodPair, pairIn, pairsFrom, pairsOf}
@@ -108,9 +108,9 @@ module _ (l r : List ℕ) (some : 1 ≤ length l) (t : all isText l ≡ true) wh
       ⊎-elim
       (λ w. absurd (omega arith))
       (λ w.
-        let z : length l + 2 + suc zero - 2 ≡ length l + 1 = omega arith in
-        let c : getD whole (length l + 2 + suc zero - 2) 0 ≡ 10 = ap (λ n. getD whole n 0) z ∙ at-lf in
-        absurd (omega (arith, w .1)))
+      let z : length l + 2 + suc zero - 2 ≡ length l + 1 = omega arith in
+      let c : getD whole (length l + 2 + suc zero - 2) 0 ≡ 10 = ap (λ n. getD whole n 0) z ∙ at-lf in
+      absurd (omega (arith, w .1)))
       (e .2)
   rest-place (suc (suc i)) e =
       ⊎-elim
@@ -128,12 +128,16 @@ none-before (l ∷ ls) h k b e = go (ltb k (length l + 2)) refl (none-before ls 
   where
     here : isLine l ≡ true
     here = and-left (isLine l) (all isLine ls) h
+
     some : 1 ≤ length l
     some = leb-true 1 (length l) (and-left (leb 1 (length l)) (all isText l) here)
+
     text : all isText l ≡ true
     text = and-right (leb 1 (length l)) (all isText l) here
+
     split : rows (l ∷ ls) ++ crlf ≡ l ++ (13 ∷ 10 ∷ (rows ls ++ crlf))
     split = append-assoc l (13 ∷ 10 ∷ rows ls) crlf
+
     go : (t : Bool) → ltb k (length l + 2) ≡ t → ((j : ℕ) → j < length (rows ls) → EmptyLineAt (rows ls ++ crlf) j → ⊥) → ⊥
     go true p f = line-empty l (rows ls ++ crlf) some text k (ltb-true k (length l + 2) p) (rw split at e)
     go false p f =
@@ -160,10 +164,11 @@ tail-pair y x e =
     (omega arith, ap₂ (λ z k. getD z k 0) w a ∙ getD-append-add x (13 ∷ 10 ∷ crlf) 0 0, ap₂ (λ z k. getD z k 0) w b ∙ getD-append-add x (13 ∷ 10 ∷ crlf) 1 0)
 
 last-pair : (ls : List (List ℕ)) → EmptyLineAt (rows ls ++ crlf) (length (rows ls))
-last-pair ls =
-    (getD-append-seam (rows ls) 13 (10 ∷ []) 0,
-    getD-append-add (rows ls) crlf 1 0,
-    ⊎-elim (λ e. inl (ap length e)) (λ w. inr (tail-pair (rows ls) (w .0) (w .1))) (rows-end ls))
+last-pair ls = (
+  getD-append-seam (rows ls) 13 (10 ∷ []) 0,
+  getD-append-add (rows ls) crlf 1 0,
+  ⊎-elim (λ e. inl (ap length e)) (λ w. inr (tail-pair (rows ls) (w .0) (w .1))) (rows-end ls),
+)
 
 ends-there : (ls : List (List ℕ)) → all isLine ls ≡ true → length (rows ls) + 2 ≤ 4096 → groupLength (rows ls ++ crlf) ≡ length (rows ls) + 2
 ends-there ls h b =
@@ -326,8 +331,9 @@ module _ (p : Pair) (ps : List Pair) (hs : all isHost (p ∷ ps) ≡ true) where
       (record {
         group = read-two busyLine line line-is (line-small n) busyStart busy-start refl line-ok;
         hosts =
-          tried-two busyLine line line-is (line-small n) busyStart busy-start refl line-ok value (line-value f) value-good
-          ∙ ap (λ x. record { answer = 0; used = length (rows (busyLine ∷ line ∷ []) ++ crlf); pairs = pairsFrom x }) (value-pairs n) })
+            tried-two busyLine line line-is (line-small n) busyStart busy-start refl line-ok value (line-value f) value-good
+            ∙ ap (λ x. record { answer = 0; used = length (rows (busyLine ∷ line ∷ []) ++ crlf); pairs = pairsFrom x }) (value-pairs n);
+      })
 
 value-front : (p : Pair) (ps : List Pair) → all isHost (p ∷ ps) ≡ true → leading isBlank (pairsText (p ∷ ps)) ≡ 0
 unfolding pairsText

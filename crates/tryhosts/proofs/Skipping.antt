@@ -1,13 +1,13 @@
 -- Laws of the way from one item to the next.
-use Prim.Native.Nat.{ℕ, suc, _+_, _≤_, _<_}
-use mathlib.Core.Path.{_≡_, refl, sym, ap, _∙_}
-use mathlib.Core.List.{List, [], _∷_}
+use Prim.Native.Nat.{ℕ, _+_, _≤_, _<_}
+use mathlib.Core.Path.{_≡_, sym, ap, _∙_}
+use mathlib.Core.List.{List}
 use native.Mathlib.Numerals.{add-one}
 use native.Mathlib.Omega.{arith}
 use lib.ListN.{length, getD, drop, drop-of-length-le}
 use lib.Seq.{drop-cons}
 use borrow.Author.Tests.{eq-eqb, ne-eqb}
-use Rattle.tryhosts.specs.Pairs.{comma, space, bare, upTo, past}
+use Rattle.tryhosts.specs.Pairs.{comma, bare, upTo, past}
 use Rattle.tryhosts.specs.Reading.{Skips}
 use Rattle.tryhosts.proofs.Cuts.{past-drop}
 

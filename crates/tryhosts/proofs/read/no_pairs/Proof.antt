@@ -1,6 +1,5 @@
 use mathlib.Core.Path.{refl}
 use Rattle.tryhosts.specs.Pairs.{pairsFrom}
-use borrow.Author.Needs.{needs}
 use Rattle.tryhosts.proofs.read.no_pairs.Statement.{statement}
 use Rattle.tryhosts.proofs.read.no_pairs.Tie as tie
 
