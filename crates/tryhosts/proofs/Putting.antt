@@ -116,9 +116,6 @@ put-then at x y area mid after i j p q h =
       moved = omega (arith, p .moved, q .moved, length-append x y);
     }
 
-pub put-size : (at : ℕ) (x area mid : List ℕ) (i : ℕ) → Put at x area mid i → i ≤ length area → length mid ≡ length area
-put-size at x area mid i p h = ap length (p .written) ∙ over-length at x area (omega (arith, p .moved))
-
 -- a text that is written whole, or not at all
 module _ (text area : List ℕ) where
   pub whole-short : length area < length text → (_≡_ {A = Wrote} (record { answer = 2; written = 0 }) (wroteOf (textAnswer (length area) text) text)) × (area ≡ areaOf (textAnswer (length area) text) text area)

@@ -15,25 +15,41 @@ field-requires : tie.Need-field-requires
 field-requires c κs = search needs
 
 array-share-prefix-value : tie.Need-array-share-prefix-value
-array-share-prefix-value c = ask-fits (c .before .before .before .before .before .before .args .bytes .now) (replicate 4096 0) (length-replicate {A = ℕ} 4096 0) (c .before .before .field .result) (c .before .before .field .last .1 .1 .0) (c .before .before .field .ensures .0) (c .before .before .field .ensures .1) (c .if1 .taken)
+array-share-prefix-value c =
+    let args = c .before .before .before .before .before .before .args in
+    let field = c .before .before .field in
+    ask-fits (args .bytes .now) (replicate 4096 0) (length-replicate {A = ℕ} 4096 0) (field .result) (field .last .1 .1 .0) (field .ensures .0) (field .ensures .1) (c .if1 .taken)
 
 slice-aggregate-read-pairs : tie.Need-slice-aggregate-read-pairs
-slice-aggregate-read-pairs c = ask-count (c .before .before .before .before .before .before .before .args .bytes .now) (replicate 4096 0) (length-replicate {A = ℕ} 4096 0) (c .before .before .before .field .result) (c .before .before .before .field .last .1 .1 .0) (c .before .before .before .field .ensures .0) (c .before .before .before .field .ensures .1) (c .before .if1 .taken)
+slice-aggregate-read-pairs c =
+    let args = c .before .before .before .before .before .before .before .args in
+    let field = c .before .before .before .field in
+    ask-count (args .bytes .now) (replicate 4096 0) (length-replicate {A = ℕ} 4096 0) (field .result) (field .last .1 .1 .0) (field .ensures .0) (field .ensures .1) (c .before .if1 .taken)
 
 read-pairs-requires : tie.Need-read-pairs-requires
 read-pairs-requires c κs = search needs
 
 returns : tie.Need-returns
-returns c = ask-done (c .before .before .before .before .before .before .before .before .before .args .bytes .now) (replicate 4096 0) (length-replicate {A = ℕ} 4096 0) (c .before .before .before .before .before .field .result) (c .before .before .before .before .before .field .last .1 .1 .0) (c .before .before .before .before .before .field .ensures .0) (c .before .before .before .before .before .field .ensures .1) (c .before .before .before .if1 .taken) (c .before .read-pairs .result) (c .before .read-pairs .ensures)
+returns c =
+    let args = c .before .before .before .before .before .before .before .before .before .args in
+    let field = c .before .before .before .before .before .field in
+    let read-pairs = c .before .read-pairs in
+    ask-done (args .bytes .now) (replicate 4096 0) (length-replicate {A = ℕ} 4096 0) (field .result) (field .last .1 .1 .0) (field .ensures .0) (field .ensures .1) (c .before .before .before .if1 .taken) (read-pairs .result) (read-pairs .ensures)
 
 no-pairs-requires : tie.Need-no-pairs-requires
 no-pairs-requires c κs = search needs
 
 returns-2 : tie.Need-returns-2
-returns-2 c = rw (c .before .no-pairs .ensures) (ask-absent (c .before .before .before .before .before .before .before .before .args .bytes .now) (replicate 4096 0) (length-replicate {A = ℕ} 4096 0) (c .before .before .before .before .field .result) (c .before .before .before .before .field .last .1 .1 .0) (c .before .before .before .before .field .ensures .0) (c .before .before .before .before .field .ensures .1) (c .if2 .taken))
+returns-2 c =
+    let args = c .before .before .before .before .before .before .before .before .args in
+    let field = c .before .before .before .before .field in
+    rw (c .before .no-pairs .ensures) (ask-absent (args .bytes .now) (replicate 4096 0) (length-replicate {A = ℕ} 4096 0) (field .result) (field .last .1 .1 .0) (field .ensures .0) (field .ensures .1) (c .if2 .taken))
 
 returns-3 : tie.Need-returns-3
-returns-3 c = rw (c .before .no-pairs .ensures) (ask-refused (c .before .before .before .before .before .before .before .before .args .bytes .now) (replicate 4096 0) (length-replicate {A = ℕ} 4096 0) (c .before .before .before .before .field .result) (c .before .before .before .before .field .last .1 .1 .0) (c .before .before .before .before .field .ensures .0) (c .before .before .before .before .field .ensures .1) (c .before .before .if1 .left) (c .if2 .left))
+returns-3 c =
+    let args = c .before .before .before .before .before .before .before .before .args in
+    let field = c .before .before .before .before .field in
+    rw (c .before .no-pairs .ensures) (ask-refused (args .bytes .now) (replicate 4096 0) (length-replicate {A = ℕ} 4096 0) (field .result) (field .last .1 .1 .0) (field .ensures .0) (field .ensures .1) (c .before .before .if1 .left) (c .if2 .left))
 
 pub try-pairs-spec : {M : Type 1} → statement M
 try-pairs-spec =

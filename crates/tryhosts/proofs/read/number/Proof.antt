@@ -27,19 +27,33 @@ shared-slice-read-b : tie.Need-shared-slice-read-b Inv-loop μ-loop
 shared-slice-read-b c = search needs
 
 returns-3 : tie.Need-returns-3 Inv-loop μ-loop
-returns-3 c = number-bad (c .before .before .before .before .before .before .before .args .widest) (c .before .before .before .before .before .before .before .args .text .now) (c .before .before .before .before .before .if1 .left) (c .before .before .before .before .if2 .left) (reads-low (c .before .before .before .before .before .before .before .args .text .now) (c .before .before .before .loop .i) (c .before .before .before .loop .n) (c .before .before .before .loop .inv) (c .before .before .loop-test .taken) (c .if3 .taken))
+returns-3 c =
+    let args = c .before .before .before .before .before .before .before .args in
+    let if1 = c .before .before .before .before .before .if1 in
+    let if2 = c .before .before .before .before .if2 in
+    let loop = c .before .before .before .loop in
+    number-bad (args .widest) (args .text .now) (if1 .left) (if2 .left) (reads-low (args .text .now) (loop .i) (loop .n) (loop .inv) (c .before .before .loop-test .taken) (c .if3 .taken))
 
 returns-4 : tie.Need-returns-4 Inv-loop μ-loop
-returns-4 c = number-bad (c .before .before .before .before .before .before .before .before .args .widest) (c .before .before .before .before .before .before .before .before .args .text .now) (c .before .before .before .before .before .before .if1 .left) (c .before .before .before .before .before .if2 .left) (reads-high (c .before .before .before .before .before .before .before .before .args .text .now) (c .before .before .before .before .loop .i) (c .before .before .before .before .loop .n) (c .before .before .before .before .loop .inv) (c .before .before .before .loop-test .taken) (c .if4 .taken))
+returns-4 c =
+    let args = c .before .before .before .before .before .before .before .before .args in
+    let if1 = c .before .before .before .before .before .before .if1 in
+    let if2 = c .before .before .before .before .before .if2 in
+    let loop = c .before .before .before .before .loop in
+    number-bad (args .widest) (args .text .now) (if1 .left) (if2 .left) (reads-high (args .text .now) (loop .i) (loop .n) (loop .inv) (c .before .before .before .loop-test .taken) (c .if4 .taken))
 
 mul-n : tie.Need-mul-n Inv-loop μ-loop
-mul-n c = omega (arith, five-digits (c .before .before .before .before .loop .n) (c .before .before .before .before .loop .i) (c .before .before .before .before .loop .inv .small) (search needs))
+mul-n c =
+    let loop = c .before .before .before .before .loop in
+    omega (arith, five-digits (loop .n) (loop .i) (loop .inv .small) (search needs))
 
 wide-requires : tie.Need-wide-requires Inv-loop μ-loop
 wide-requires c κs = search needs
 
 add-n : tie.Need-add-n Inv-loop μ-loop
-add-n c = omega (arith, five-digits (c .before .before .before .before .before .loop .n) (c .before .before .before .before .before .loop .i) (c .before .before .before .before .before .loop .inv .small) (search needs))
+add-n c =
+    let loop = c .before .before .before .before .before .loop in
+    omega (arith, five-digits (loop .n) (loop .i) (loop .inv .small) (search needs))
 
 add-i : tie.Need-add-i Inv-loop μ-loop
 add-i c = search needs
@@ -48,10 +62,17 @@ loop-less : tie.Need-loop-less Inv-loop μ-loop
 loop-less c = search needs
 
 loop-again : tie.Need-loop-again Inv-loop μ-loop
-loop-again c = rw (c .wide .ensures) (reads-on (c .before .before .before .before .before .before .before .before .before .args .text .now) (c .before .before .before .before .before .loop .i) (c .before .before .before .before .before .loop .n) (c .before .before .before .before .before .loop .inv) (c .before .before .before .before .loop-test .taken) (c .before .before .if3 .left) (c .before .if4 .left))
+loop-again c =
+    let args = c .before .before .before .before .before .before .before .before .before .args in
+    let loop = c .before .before .before .before .before .loop in
+    let loop-test = c .before .before .before .before .loop-test in
+    rw (c .wide .ensures) (reads-on (args .text .now) (loop .i) (loop .n) (loop .inv) (loop-test .taken) (c .before .before .if3 .left) (c .before .if4 .left))
 
 returns-5 : tie.Need-returns-5 Inv-loop μ-loop
-returns-5 c = number-read (c .before .before .before .before .before .args .widest) (c .before .before .before .before .before .args .text .now) (c .before .before .before .if1 .left) (c .before .before .if2 .left) (c .before .loop .i) (c .before .loop .n) (c .before .loop .inv) (c .loop-test .left)
+returns-5 c =
+    let args = c .before .before .before .before .before .args in
+    let loop = c .before .loop in
+    number-read (args .widest) (args .text .now) (c .before .before .before .if1 .left) (c .before .before .if2 .left) (loop .i) (loop .n) (loop .inv) (c .loop-test .left)
 
 pub number-spec : {M : Type 1} → statement M
 number-spec =

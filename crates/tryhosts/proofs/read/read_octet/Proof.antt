@@ -7,7 +7,10 @@ find-requires : tie.Need-find-requires
 find-requires c κs = search needs
 
 slice-aggregate-number : tie.Need-slice-aggregate-number
-slice-aggregate-number c = octet-count (c .before .before .before .args .s) (c .before .before .before .args .text .now) (c .before .find .result) (c .before .find .ensures)
+slice-aggregate-number c =
+    let args = c .before .before .before .args in
+    let find = c .before .find in
+    octet-count (args .s) (args .text .now) (find .result) (find .ensures)
 
 number-requires : tie.Need-number-requires
 number-requires c κs = search needs
@@ -16,7 +19,11 @@ after-requires : tie.Need-after-requires
 after-requires c κs = search needs
 
 returns : tie.Need-returns
-returns c = octet-in (c .before .before .before .before .before .args .s) (c .before .before .before .before .before .args .text .now) (c .before .before .before .find .result) (c .before .before .before .find .ensures) (c .before .number .result) (c .after .result) (c .before .number .ensures) (c .after .ensures)
+returns c =
+    let args = c .before .before .before .before .before .args in
+    let find = c .before .before .before .find in
+    let number = c .before .number in
+    octet-in (args .s) (args .text .now) (find .result) (find .ensures) (number .result) (c .after .result) (number .ensures) (c .after .ensures)
 
 pub read-octet-spec : {M : Type 1} → statement M
 read-octet-spec =

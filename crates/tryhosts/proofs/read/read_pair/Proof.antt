@@ -63,7 +63,9 @@ pair-of-requires c κs = search needs
 
 returns : tie.Need-returns
 returns c =
-    let t₁ = c .before .before .before .before .before .before .before .before .before .before .before .args .item .now in
+    let args = c .before .before .before .before .before .before .before .before .before .before .before .args in
+    let number = c .before .number in
+    let t₁ = args .item .now in
     let o₁ = c .before .before .before .before .before .before .before .before .before .read-octet in
     let t₂ = take (length t₁ - o₁ .result .next) (drop (o₁ .result .next) t₁) in
     let o₂ = c .before .before .before .before .before .before .before .read-octet2 in
@@ -73,7 +75,7 @@ returns c =
     let o₄ = c .before .before .before .read-octet4 in
     let t₅ = take (length t₄ - o₄ .result .next) (drop (o₄ .result .next) t₄) in
     c .pair-of .ensures
-    ∙ parse-item t₁ t₂ t₃ t₄ t₅ (o₁ .result) (o₂ .result) (o₃ .result) (o₄ .result) (c .before .number .result) (o₁ .ensures) (octet-rest dot t₁ (o₁ .result) (o₁ .ensures)) (o₂ .ensures) (octet-rest dot t₂ (o₂ .result) (o₂ .ensures)) (o₃ .ensures) (octet-rest dot t₃ (o₃ .result) (o₃ .ensures)) (o₄ .ensures) (octet-rest colon t₄ (o₄ .result) (o₄ .ensures)) (c .before .number .ensures)
+    ∙ parse-item t₁ t₂ t₃ t₄ t₅ (o₁ .result) (o₂ .result) (o₃ .result) (o₄ .result) (number .result) (o₁ .ensures) (octet-rest dot t₁ (o₁ .result) (o₁ .ensures)) (o₂ .ensures) (octet-rest dot t₂ (o₂ .result) (o₂ .ensures)) (o₃ .ensures) (octet-rest dot t₃ (o₃ .result) (o₃ .ensures)) (o₄ .ensures) (octet-rest colon t₄ (o₄ .result) (o₄ .ensures)) (number .ensures)
 
 pub read-pair-spec : {M : Type 1} → statement M
 read-pair-spec =

@@ -32,7 +32,11 @@ find-requires : tie.Need-find-requires Inv-loop μ-loop
 find-requires c κs = search needs
 
 slice-aggregate-take-item : tie.Need-slice-aggregate-take-item Inv-loop μ-loop
-slice-aggregate-take-item c = turn-count (c .before .before .before .before .before .before .before .args .value .now) (c .before .before .before .before .loop .at) (c .before .before .before .before .loop .pairs) (c .before .before .before .before .loop .inv) (c .before .find .result) (c .before .find .ensures)
+slice-aggregate-take-item c =
+    let args = c .before .before .before .before .before .before .before .args in
+    let loop = c .before .before .before .before .loop in
+    let find = c .before .find in
+    turn-count (args .value .now) (loop .at) (loop .pairs) (loop .inv) (find .result) (find .ensures)
 
 take-item-requires : tie.Need-take-item-requires Inv-loop μ-loop
 take-item-requires c κs = search needs
@@ -41,22 +45,45 @@ no-pairs-requires-2 : tie.Need-no-pairs-requires-2 Inv-loop μ-loop
 no-pairs-requires-2 c κs = search needs
 
 returns : tie.Need-returns Inv-loop μ-loop
-returns c = rw (c .no-pairs2 .ensures) (turn-bad (c .before .before .before .before .before .before .before .before .before .before .before .args .value .now) (c .before .before .before .before .before .before .before .before .loop .at) (c .before .before .before .before .before .before .before .before .loop .pairs) (c .before .before .before .before .before .before .before .before .loop .inv) (c .before .before .before .before .before .find .result) (c .before .before .before .before .before .find .ensures) (c .before .before .before .take-item .result) (c .before .before .before .take-item .ensures) (not-true _ (c .before .if1 .taken)))
+returns c =
+    let args = c .before .before .before .before .before .before .before .before .before .before .before .args in
+    let loop = c .before .before .before .before .before .before .before .before .loop in
+    let find = c .before .before .before .before .before .find in
+    let take-item = c .before .before .before .take-item in
+    rw (c .no-pairs2 .ensures) (turn-bad (args .value .now) (loop .at) (loop .pairs) (loop .inv) (find .result) (find .ensures) (take-item .result) (take-item .ensures) (not-true _ (c .before .if1 .taken)))
 
 skip-requires : tie.Need-skip-requires Inv-loop μ-loop
-skip-requires c κs = ((c .before .before .before .before .before .find .ensures), omega (arith, rest-length (c .before .before .before .before .before .before .before .before .before .before .before .args .value .now) (c .before .before .before .before .before .before .before .before .loop .at)))
+skip-requires c κs =
+    let args = c .before .before .before .before .before .before .before .before .before .before .before .args in
+    let loop = c .before .before .before .before .before .before .before .before .loop in
+    let find = c .before .before .before .before .before .find in
+    ((find .ensures), omega (arith, rest-length (args .value .now) (loop .at)))
 
 add-at : tie.Need-add-at Inv-loop μ-loop
-add-at c = omega (arith, rest-length (c .before .before .before .before .before .before .before .before .before .before .before .before .args .value .now) (c .before .before .before .before .before .before .before .before .before .loop .at))
+add-at c =
+    let args = c .before .before .before .before .before .before .before .before .before .before .before .before .args in
+    let loop = c .before .before .before .before .before .before .before .before .before .loop in
+    omega (arith, rest-length (args .value .now) (loop .at))
 
 loop-less : tie.Need-loop-less Inv-loop μ-loop
-loop-less c = omega (arith, rest-length (c .before .before .before .before .before .before .before .before .before .before .before .before .args .value .now) (c .before .before .before .before .before .before .before .before .before .loop .at))
+loop-less c =
+    let args = c .before .before .before .before .before .before .before .before .before .before .before .before .args in
+    let loop = c .before .before .before .before .before .before .before .before .before .loop in
+    omega (arith, rest-length (args .value .now) (loop .at))
 
 loop-again : tie.Need-loop-again Inv-loop μ-loop
-loop-again c = turn-on (c .before .before .before .before .before .before .before .before .before .before .before .before .args .value .now) (c .before .before .before .before .before .before .before .before .before .loop .at) (c .before .before .before .before .before .before .before .before .before .loop .pairs) (c .before .before .before .before .before .before .before .before .before .loop .inv) (c .before .before .before .before .before .before .find .result) (c .before .before .before .before .before .before .find .ensures) (c .before .before .before .before .take-item .result) (c .before .before .before .before .take-item .ensures) (c .skip .result) (not-false _ (c .before .before .if1 .left)) (c .skip .ensures)
+loop-again c =
+    let args = c .before .before .before .before .before .before .before .before .before .before .before .before .args in
+    let loop = c .before .before .before .before .before .before .before .before .before .loop in
+    let find = c .before .before .before .before .before .before .find in
+    let take-item = c .before .before .before .before .take-item in
+    turn-on (args .value .now) (loop .at) (loop .pairs) (loop .inv) (find .result) (find .ensures) (take-item .result) (take-item .ensures) (c .skip .result) (not-false _ (c .before .before .if1 .left)) (c .skip .ensures)
 
 returns-2 : tie.Need-returns-2 Inv-loop μ-loop
-returns-2 c = left-end (c .before .before .before .before .args .value .now) (c .before .loop .at) (c .before .loop .pairs) (c .before .loop .inv) (c .loop-test .left)
+returns-2 c =
+    let args = c .before .before .before .before .args in
+    let loop = c .before .loop in
+    left-end (args .value .now) (loop .at) (loop .pairs) (loop .inv) (c .loop-test .left)
 
 pub read-pairs-spec : {M : Type 1} → statement M
 read-pairs-spec =

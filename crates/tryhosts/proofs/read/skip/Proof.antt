@@ -10,7 +10,10 @@ add-next : tie.Need-add-next
 add-next c = search needs
 
 returns-2 : tie.Need-returns-2
-returns-2 c = skip-last (c .before .before .args .text .now) (c .before .before .args .end) (c .before .before .pre .0) (c .before .before .pre .1) (search needs) (search needs)
+returns-2 c =
+    let args = c .before .before .args in
+    let pre = c .before .before .pre in
+    skip-last (args .text .now) (args .end) (pre .0) (pre .1) (search needs) (search needs)
 
 shared-slice-read-if3 : tie.Need-shared-slice-read-if3
 shared-slice-read-if3 c = search needs
@@ -19,10 +22,16 @@ add-result : tie.Need-add-result
 add-result c = search needs
 
 returns-3 : tie.Need-returns-3
-returns-3 c = skip-space (c .before .before .before .before .args .text .now) (c .before .before .before .before .args .end) (c .before .before .before .before .pre .0) (c .before .before .before .before .pre .1) (search needs) (c .if3 .taken)
+returns-3 c =
+    let args = c .before .before .before .before .args in
+    let pre = c .before .before .before .before .pre in
+    skip-space (args .text .now) (args .end) (pre .0) (pre .1) (search needs) (c .if3 .taken)
 
 returns-4 : tie.Need-returns-4
-returns-4 c = skip-plain (c .before .before .before .before .args .text .now) (c .before .before .before .before .args .end) (c .before .before .before .before .pre .0) (c .before .before .before .before .pre .1) (search needs) (c .if3 .left)
+returns-4 c =
+    let args = c .before .before .before .before .args in
+    let pre = c .before .before .before .before .pre in
+    skip-plain (args .text .now) (args .end) (pre .0) (pre .1) (search needs) (c .if3 .left)
 
 pub skip-spec : {M : Type 1} → statement M
 skip-spec =

@@ -13,10 +13,17 @@ keep-requires : tie.Need-keep-requires
 keep-requires c κs = search needs
 
 returns-2 : tie.Need-returns-2
-returns-2 c = taken-good (c .before .before .before .before .before .before .args .pairs) (c .before .before .before .before .before .before .args .item .now) (c .before .before .before .read-pair .result) (c .keep .result) (c .before .before .before .before .if1 .left) (c .before .before .before .read-pair .ensures) (c .before .if2 .taken) (c .keep .ensures)
+returns-2 c =
+    let args = c .before .before .before .before .before .before .args in
+    let if1 = c .before .before .before .before .if1 in
+    let read-pair = c .before .before .before .read-pair in
+    taken-good (args .pairs) (args .item .now) (read-pair .result) (c .keep .result) (if1 .left) (read-pair .ensures) (c .before .if2 .taken) (c .keep .ensures)
 
 returns-3 : tie.Need-returns-3
-returns-3 c = taken-bad (c .before .before .before .before .before .args .pairs) (c .before .before .before .before .before .args .item .now) (c .before .before .read-pair .result) (c .before .before .before .if1 .left) (c .before .before .read-pair .ensures) (c .if2 .left)
+returns-3 c =
+    let args = c .before .before .before .before .before .args in
+    let read-pair = c .before .before .read-pair in
+    taken-bad (args .pairs) (args .item .now) (read-pair .result) (c .before .before .before .if1 .left) (read-pair .ensures) (c .if2 .left)
 
 pub take-item-spec : {M : Type 1} → statement M
 take-item-spec = tie.close (tie.spec returns read-pair-requires keep-requires returns-2 returns-3)

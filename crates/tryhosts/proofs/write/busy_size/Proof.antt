@@ -18,8 +18,10 @@ add-result : tie.Need-add-result
 add-result c = omega (arith, c .pairs-size .ensures .1)
 
 returns-2 : tie.Need-returns-2
-returns-2 c = let k : length (c .before .before .before .args .pairs .pairs) ≡ 32 = sym (length-map (c .before .before .before .args .pairs .pairs) _) ∙ (c .before .before .before .good .0 .1 .1 .1 .0 .1 .0 .1) in
-    omega (arith, c .pairs-size .ensures .0, led-size comma space (pairsIn (c .before .before .before .args .pairs)), some-size (c .before .before .before .args .pairs) k (c .before .if1 .left))
+returns-2 c =
+    let args = c .before .before .before .args in
+    let k : length (args .pairs .pairs) ≡ 32 = sym (length-map (args .pairs .pairs) _) ∙ (c .before .before .before .good .0 .1 .1 .1 .0 .1 .0 .1) in
+    omega (arith, c .pairs-size .ensures .0, led-size comma space (pairsIn (args .pairs)), some-size (args .pairs) k (c .before .if1 .left))
 
 pub busy-size-spec : {M : Type 1} → statement M
 busy-size-spec = tie.close (tie.spec returns pairs-size-requires add-result returns-2)

@@ -27,8 +27,13 @@ element-copy-out-p : tie.Need-element-copy-out-p Inv-loop μ-loop
 element-copy-out-p c = search needs
 
 returns-2 : tie.Need-returns-2 Inv-loop μ-loop
-returns-2 c = let k : length (c .before .before .before .before .before .before .args .t1 .pairs) ≡ 32 = sym (length-map (c .before .before .before .before .before .before .args .t1 .pairs) _) ∙ (c .before .before .before .before .before .before .good .0 .1 .1 .1 .0 .1 .0 .1) in
-    ported-not (c .before .before .before .before .before .before .args .t1) (c .before .before .before .before .loop .i) (c .before .before .before .before .before .if1 .left) (c .before .before .before .before .loop .inv) (record { address = []; port = 0 }) (c .before .before .before .loop-test .taken) (omega arith) (c .if2 .taken)
+returns-2 c =
+    let args = c .before .before .before .before .before .before .args in
+    let good = c .before .before .before .before .before .before .good in
+    let if1 = c .before .before .before .before .before .if1 in
+    let loop = c .before .before .before .before .loop in
+    let k : length (args .t1 .pairs) ≡ 32 = sym (length-map (args .t1 .pairs) _) ∙ (good .0 .1 .1 .1 .0 .1 .0 .1) in
+    ported-not (args .t1) (loop .i) (if1 .left) (loop .inv) (record { address = []; port = 0 }) (c .before .before .before .loop-test .taken) (omega arith) (c .if2 .taken)
 
 add-i : tie.Need-add-i Inv-loop μ-loop
 add-i c = search needs
@@ -37,11 +42,18 @@ loop-less : tie.Need-loop-less Inv-loop μ-loop
 loop-less c = search needs
 
 loop-again : tie.Need-loop-again Inv-loop μ-loop
-loop-again c = let k : length (c .before .before .before .before .before .before .args .t1 .pairs) ≡ 32 = sym (length-map (c .before .before .before .before .before .before .args .t1 .pairs) _) ∙ (c .before .before .before .before .before .before .good .0 .1 .1 .1 .0 .1 .0 .1) in
-    ported-on (c .before .before .before .before .before .before .args .t1) (c .before .before .before .before .loop .i) (c .before .before .before .before .before .if1 .left) (c .before .before .before .before .loop .inv) (record { address = []; port = 0 }) (c .before .before .before .loop-test .taken) (omega arith) (c .if2 .left)
+loop-again c =
+    let args = c .before .before .before .before .before .before .args in
+    let good = c .before .before .before .before .before .before .good in
+    let if1 = c .before .before .before .before .before .if1 in
+    let loop = c .before .before .before .before .loop in
+    let k : length (args .t1 .pairs) ≡ 32 = sym (length-map (args .t1 .pairs) _) ∙ (good .0 .1 .1 .1 .0 .1 .0 .1) in
+    ported-on (args .t1) (loop .i) (if1 .left) (loop .inv) (record { address = []; port = 0 }) (c .before .before .before .loop-test .taken) (omega arith) (c .if2 .left)
 
 returns-3 : tie.Need-returns-3 Inv-loop μ-loop
-returns-3 c = ported-end (c .before .before .before .args .t1) (c .before .loop .i) (c .before .before .if1 .left) (c .before .loop .inv) (c .loop-test .left)
+returns-3 c =
+    let loop = c .before .loop in
+    ported-end (c .before .before .before .args .t1) (loop .i) (c .before .before .if1 .left) (loop .inv) (c .loop-test .left)
 
 pub can-write-spec : {M : Type 1} → statement M
 can-write-spec =

@@ -47,7 +47,10 @@ add-result-3 : tie.Need-add-result-3
 add-result-3 c = search needs
 
 returns : tie.Need-returns
-returns c = omega (arith, pair-size 0 (c .before .before .before .before .before .before .args .p), (c .before .before .before .before .octet-digits .ensures .0), (c .before .before .before .octet-digits2 .ensures .0), (c .before .before .octet-digits3 .ensures .0), (c .before .octet-digits4 .ensures .0), (c .digits .ensures .0))
+returns c =
+    let args = c .before .before .before .before .before .before .args in
+    let octet-digits = c .before .before .before .before .octet-digits in
+    omega (arith, pair-size 0 (args .p), (octet-digits .ensures .0), (c .before .before .before .octet-digits2 .ensures .0), (c .before .before .octet-digits3 .ensures .0), (c .before .octet-digits4 .ensures .0), (c .digits .ensures .0))
 
 pub pair-size-spec : {M : Type 1} → statement M
 pair-size-spec =

@@ -39,13 +39,18 @@ loop-less : tie.Need-loop-less Inv-loop μ-loop
 loop-less c = search needs
 
 loop-again : tie.Need-loop-again Inv-loop μ-loop
-loop-again c = let k : length (c .before .before .before .before .args .t1 .pairs) ≡ 32 = sym (length-map (c .before .before .before .before .args .t1 .pairs) _) ∙ (c .before .before .before .before .good .0 .1 .1 .1 .0 .1 .0 .1) in
-    sized-on (c .before .before .before .before .args .t1) (c .before .before .before .loop .i) (c .before .before .before .loop .size) (c .before .before .before .loop .inv) (record { address = []; port = 0 }) (c .pair-size .result) (c .before .before .loop-test .taken) (omega arith) (c .pair-size .ensures .0) (c .pair-size .ensures .1)
+loop-again c =
+    let args = c .before .before .before .before .args in
+    let good = c .before .before .before .before .good in
+    let loop = c .before .before .before .loop in
+    let k : length (args .t1 .pairs) ≡ 32 = sym (length-map (args .t1 .pairs) _) ∙ (good .0 .1 .1 .1 .0 .1 .0 .1) in
+    sized-on (args .t1) (loop .i) (loop .size) (loop .inv) (record { address = []; port = 0 }) (c .pair-size .result) (c .before .before .loop-test .taken) (omega arith) (c .pair-size .ensures .0) (c .pair-size .ensures .1)
 
 returns : tie.Need-returns Inv-loop μ-loop
 returns c =
-    let s = (c .before .loop .inv) in
-    (sized-end (c .before .before .args .t1) (c .before .loop .i) (c .before .loop .size) s (c .loop-test .left), omega (arith, s .small, s .within))
+    let loop = c .before .loop in
+    let s = (loop .inv) in
+    (sized-end (c .before .before .args .t1) (loop .i) (loop .size) s (c .loop-test .left), omega (arith, s .small, s .within))
 
 pub pairs-size-spec : {M : Type 1} → statement M
 pairs-size-spec =

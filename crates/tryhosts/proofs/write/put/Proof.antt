@@ -30,7 +30,10 @@ loop-less : tie.Need-loop-less Inv-loop μ-loop
 loop-less c = search needs
 
 loop-again : tie.Need-loop-again Inv-loop μ-loop
-loop-again c = putting-on (c .before .before .before .args .text .now) (c .before .before .before .args .out .now) (c .before .before .before .args .at) (c .before .before .loop .out) (c .before .before .loop .i) (c .before .before .loop .inv) (c .before .before .before .pre) (c .before .loop-test .taken)
+loop-again c =
+    let args = c .before .before .before .args in
+    let loop = c .before .before .loop in
+    putting-on (args .text .now) (args .out .now) (args .at) (loop .out) (loop .i) (loop .inv) (c .before .before .before .pre) (c .before .loop-test .taken)
 
 add-result : tie.Need-add-result Inv-loop μ-loop
 add-result c = search needs
@@ -39,7 +42,10 @@ same-length : tie.Need-same-length Inv-loop μ-loop
 same-length c = c .before .loop .inv .size
 
 returns : tie.Need-returns Inv-loop μ-loop
-returns c = putting-end (c .before .before .args .text .now) (c .before .before .args .out .now) (c .before .before .args .at) (c .before .loop .out) (c .before .loop .i) (c .before .loop .inv) (c .before .before .pre) (c .loop-test .left)
+returns c =
+    let args = c .before .before .args in
+    let loop = c .before .loop in
+    putting-end (args .text .now) (args .out .now) (args .at) (loop .out) (loop .i) (loop .inv) (c .before .before .pre) (c .loop-test .left)
 
 pub put-spec : {M : Type 1} → statement M
 put-spec =

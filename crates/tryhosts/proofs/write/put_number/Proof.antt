@@ -20,7 +20,9 @@ add-i : tie.Need-add-i Inv-loop μ-loop
 add-i c = search needs
 
 loop-holds : tie.Need-loop-holds Inv-loop μ-loop
-loop-holds c = rw (c .digits .ensures .0) (spelling-start (c .before .before .args .out .now) (c .before .before .args .at) (c .before .before .args .lead) (c .before .before .args .n) (search needs) (c .before .before .pre))
+loop-holds c =
+    let args = c .before .before .args in
+    rw (c .digits .ensures .0) (spelling-start (args .out .now) (args .at) (args .lead) (args .n) (search needs) (c .before .before .pre))
 
 digit-requires : tie.Need-digit-requires Inv-loop μ-loop
 digit-requires c κs = search needs
@@ -29,13 +31,19 @@ slice-write-out-2 : tie.Need-slice-write-out-2 Inv-loop μ-loop
 slice-write-out-2 c = search needs
 
 sub-i : tie.Need-sub-i Inv-loop μ-loop
-sub-i c = spelling-back (set (c .before .before .before .before .before .args .out .now) (c .before .before .before .before .before .args .at) (c .before .before .before .before .before .args .lead)) (c .before .before .before .before .before .args .at) (c .before .before .before .before .before .args .n) (c .before .before .loop .out) (c .before .before .loop .m) (c .before .before .loop .i) (c .before .before .loop .inv) (c .before .loop-test .taken)
+sub-i c =
+    let args = c .before .before .before .before .before .args in
+    let loop = c .before .before .loop in
+    spelling-back (set (args .out .now) (args .at) (args .lead)) (args .at) (args .n) (loop .out) (loop .m) (loop .i) (loop .inv) (c .before .loop-test .taken)
 
 loop-less : tie.Need-loop-less Inv-loop μ-loop
 loop-less c = search needs
 
 loop-again : tie.Need-loop-again Inv-loop μ-loop
-loop-again c = rw (c .digit .ensures) (spelling-on (set (c .before .before .before .before .before .args .out .now) (c .before .before .before .before .before .args .at) (c .before .before .before .before .before .args .lead)) (c .before .before .before .before .before .args .at) (c .before .before .before .before .before .args .n) (c .before .before .loop .out) (c .before .before .loop .m) (c .before .before .loop .i) (c .before .before .loop .inv) (c .before .loop-test .taken))
+loop-again c =
+    let args = c .before .before .before .before .before .args in
+    let loop = c .before .before .loop in
+    rw (c .digit .ensures) (spelling-on (set (args .out .now) (args .at) (args .lead)) (args .at) (args .n) (loop .out) (loop .m) (loop .i) (loop .inv) (c .before .loop-test .taken))
 
 digit-requires-2 : tie.Need-digit-requires-2 Inv-loop μ-loop
 digit-requires-2 c κs = search needs
@@ -53,7 +61,10 @@ same-length : tie.Need-same-length Inv-loop μ-loop
 same-length c = simp length-set (simp length-set at (c .before .before .loop .inv .size))
 
 returns : tie.Need-returns Inv-loop μ-loop
-returns c = rw (c .digit2 .ensures, (c .before .before .before .digits .ensures .0)) (spelling-end (c .before .before .before .before .before .args .out .now) (c .before .before .before .before .before .args .at) (c .before .before .before .before .before .args .lead) (c .before .before .before .before .before .args .n) (c .before .before .loop .out) (c .before .before .loop .m) (c .before .before .loop .i) (c .before .before .loop .inv) (c .before .before .before .before .before .pre) (c .before .loop-test .left))
+returns c =
+    let args = c .before .before .before .before .before .args in
+    let loop = c .before .before .loop in
+    rw (c .digit2 .ensures, (c .before .before .before .digits .ensures .0)) (spelling-end (args .out .now) (args .at) (args .lead) (args .n) (loop .out) (loop .m) (loop .i) (loop .inv) (c .before .before .before .before .before .pre) (c .before .loop-test .left))
 
 pub put-number-spec : {M : Type 1} → statement M
 put-number-spec =

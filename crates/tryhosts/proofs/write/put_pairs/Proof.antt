@@ -24,8 +24,13 @@ element-copy-out-p : tie.Need-element-copy-out-p Inv-loop μ-loop
 element-copy-out-p c = search needs
 
 put-pair-requires : tie.Need-put-pair-requires Inv-loop μ-loop
-put-pair-requires c κs = let k : length (c .before .before .before .before .before .args .t3 .pairs) ≡ 32 = sym (length-map (c .before .before .before .before .before .args .t3 .pairs) _) ∙ (c .before .before .before .before .before .good .1 .1 .0 .1 .1 .1 .0 .1 .0 .1) in
-    listing-room (c .before .before .before .before .before .args .t3) (c .before .before .before .before .before .args .out .now) (c .before .before .before .before .before .args .at) (c .before .before .before .loop .out) (c .before .before .before .loop .to) (c .before .before .before .loop .lead) (c .before .before .before .loop .i) (c .before .before .before .loop .inv) (c .before .before .before .before .before .pre .1) (record { address = []; port = 0 }) (c .before .before .loop-test .taken) (omega arith)
+put-pair-requires c κs =
+    let args = c .before .before .before .before .before .args in
+    let good = c .before .before .before .before .before .good in
+    let pre = c .before .before .before .before .before .pre in
+    let loop = c .before .before .before .loop in
+    let k : length (args .t3 .pairs) ≡ 32 = sym (length-map (args .t3 .pairs) _) ∙ (good .1 .1 .0 .1 .1 .1 .0 .1 .0 .1) in
+    listing-room (args .t3) (args .out .now) (args .at) (loop .out) (loop .to) (loop .lead) (loop .i) (loop .inv) (pre .1) (record { address = []; port = 0 }) (c .before .before .loop-test .taken) (omega arith)
 
 add-i : tie.Need-add-i Inv-loop μ-loop
 add-i c = search needs
@@ -34,14 +39,24 @@ loop-less : tie.Need-loop-less Inv-loop μ-loop
 loop-less c = search needs
 
 loop-again : tie.Need-loop-again Inv-loop μ-loop
-loop-again c = let k : length (c .before .before .before .before .before .before .before .before .args .t3 .pairs) ≡ 32 = sym (length-map (c .before .before .before .before .before .before .before .before .args .t3 .pairs) _) ∙ (c .before .before .before .before .before .before .before .before .good .1 .1 .0 .1 .1 .1 .0 .1 .0 .1) in
-    listing-on (c .before .before .before .before .before .before .before .before .args .t3) (c .before .before .before .before .before .before .before .before .args .out .now) (c .before .before .before .before .before .before .before .before .args .at) (c .before .before .before .before .before .before .loop .out) (c .before .before .before .before .before .before .loop .to) (c .before .before .before .before .before .before .loop .lead) (c .before .before .before .before .before .before .loop .i) (c .before .before .before .before .before .before .loop .inv) (c .before .before .before .before .before .before .before .before .pre .1) (record { address = []; port = 0 }) (c .before .before .before .before .before .loop-test .taken) (omega arith) (c .before .before .put-pair .last .0) (c .before .before .put-pair .result) (c .before .before .put-pair .kept .0) (c .before .before .put-pair .ensures)
+loop-again c =
+    let args = c .before .before .before .before .before .before .before .before .args in
+    let good = c .before .before .before .before .before .before .before .before .good in
+    let pre = c .before .before .before .before .before .before .before .before .pre in
+    let loop = c .before .before .before .before .before .before .loop in
+    let loop-test = c .before .before .before .before .before .loop-test in
+    let put-pair = c .before .before .put-pair in
+    let k : length (args .t3 .pairs) ≡ 32 = sym (length-map (args .t3 .pairs) _) ∙ (good .1 .1 .0 .1 .1 .1 .0 .1 .0 .1) in
+    listing-on (args .t3) (args .out .now) (args .at) (loop .out) (loop .to) (loop .lead) (loop .i) (loop .inv) (pre .1) (record { address = []; port = 0 }) (loop-test .taken) (omega arith) (put-pair .last .0) (put-pair .result) (put-pair .kept .0) (put-pair .ensures)
 
 same-length : tie.Need-same-length Inv-loop μ-loop
 same-length c = (c .before .loop .inv .size)
 
 returns : tie.Need-returns Inv-loop μ-loop
-returns c = listing-end (c .before .before .before .args .t3) (c .before .before .before .args .out .now) (c .before .before .before .args .at) (c .before .loop .out) (c .before .loop .to) (c .before .loop .lead) (c .before .loop .i) (c .before .loop .inv) (c .before .before .before .pre .1) (c .loop-test .left)
+returns c =
+    let args = c .before .before .before .args in
+    let loop = c .before .loop in
+    listing-end (args .t3) (args .out .now) (args .at) (loop .out) (loop .to) (loop .lead) (loop .i) (loop .inv) (c .before .before .before .pre .1) (c .loop-test .left)
 
 pub put-pairs-spec : {M : Type 1} → statement M
 put-pairs-spec =
