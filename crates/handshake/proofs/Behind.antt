@@ -1,8 +1,8 @@
 -- Bytes behind a group are not read, and a value is never longer than 4,096 bytes.
 use mathlib.Core.Path.{_≡_, refl, sym, ap, ap₂, _∙_}
-use mathlib.Core.Bool.{Bool, true, false, cond, not, _&&_, _||_}
+use mathlib.Core.Bool.{Bool, true, false, not, _&&_, _||_}
 use mathlib.Core.List.{List, [], _∷_, _++_}
-use Prim.Native.Nat.{ℕ, zero, suc, _+_, _-_, _≤_, _<_, min}
+use Prim.Native.Nat.{ℕ, _+_, _-_, _≤_, _<_, min}
 use native.Mathlib.Omega.{arith}
 use native.Mathlib.Decide.{decLt}
 use lib.Dec.{eqb, leb, ltb}
@@ -11,17 +11,15 @@ use lib.Seq.{getD-take, take-take, take-append-le}
 use borrow.Author.Tests.{ne-eqb, le-ltb, leb-true}
 use Rattle.laws.specs.Tests.{firstOf, all}
 use Rattle.handshake.specs.declared.start.Start.{Start}
-use Rattle.handshake.specs.declared.Group.{Group}
-use Rattle.handshake.specs.declared.Asked.{Asked}
 use Rattle.handshake.specs.Text.{isText}
 use Rattle.handshake.specs.Lines.{pairAt, endsAt, groupLength, linesOf, lineLength, firstLine, otherLines}
 use Rattle.handshake.specs.Start.{startOf}
 use Rattle.handshake.specs.Fields.{linesOk, valueFor, isAbsent}
-use Rattle.handshake.specs.Group.{linesIn, startIn, fieldsIn, understood, groupFrom, readGroup, valueIn, askedFrom, askedNumber, askedWith, askField, askedOut}
+use Rattle.handshake.specs.Group.{linesIn, startIn, fieldsIn, understood, groupFrom, readGroup, valueIn, askedFrom, askedNumber}
 use Rattle.handshake.specs.Claims.{SameAnswers, NotReadBehind, GroupAlone, RoomEnough}
 use Rattle.handshake.proofs.LineLaws.{lines-others}
 use Rattle.handshake.proofs.FieldLaws.{value-short}
-use Rattle.handshake.proofs.Ends.{Found, found-some, found-is}
+use Rattle.handshake.proofs.Ends.{found-some, found-is}
 
 -- the group's length is in the bytes and at most 4,096
 pub length-in : (m : List ℕ) → 0 < groupLength m → (2 ≤ groupLength m) × (groupLength m ≤ length m) × (groupLength m ≤ 4096)

@@ -1,21 +1,21 @@
 -- Laws of the lines behind the first, and of going through them for the value of a name.
-use mathlib.Core.Path.{_≡_, refl, sym, ap, ap₂, _∙_}
+use mathlib.Core.Path.{_≡_, refl, sym, ap, _∙_}
 use mathlib.Core.Bool.{Bool, true, false, cond, not, _&&_, _||_}
-use mathlib.Core.List.{List, [], _∷_, _++_, append-assoc, append-nil}
-use Prim.Native.Nat.{ℕ, zero, suc, _+_, _-_, _≤_, _<_}
+use mathlib.Core.List.{List, [], _∷_, _++_, append-assoc}
+use Prim.Native.Nat.{ℕ, suc, _+_, _≤_, _<_}
 use native.Mathlib.Nat.{add-assoc}
 use native.Mathlib.Omega.{arith}
-use lib.Dec.{eqb, ltb}
-use lib.ListN.{length, getD, take, drop, length-take, length-drop, length-append, drop-of-length-le}
+use lib.Dec.{eqb}
+use lib.ListN.{length, drop, length-drop, length-append, drop-of-length-le}
 use lib.Seq.{drop-drop, drop-length, length-take-le}
 use borrow.Author.Tests.{eq-eqb, ne-eqb}
 use Rattle.laws.specs.Tests.{all}
 use Rattle.laws.specs.Parts.{over}
 use Rattle.laws.proofs.Text.{over-append}
-use Rattle.handshake.specs.Text.{run, leading, isBlank, sameName}
+use Rattle.handshake.specs.Text.{leading, isBlank, sameName}
 use Rattle.handshake.specs.Lines.{inLine, lineLength, lineAt, linesOf, onto, firstLine, otherLines}
 use Rattle.handshake.specs.Fields.{continues, nameOf, nameLength, valueOf, withoutBlanks, continued, fieldsOf, valuesOf, commaEach, commaBetween, isNone, isAbsent, valueFor, lineOk, linesOk}
-use Rattle.handshake.specs.Step.{passed, stepFrom, stepOf, valueStart, separated, addedBy}
+use Rattle.handshake.specs.Step.{stepFrom, stepOf, valueStart, separated, addedBy}
 use Rattle.handshake.specs.declared.fields.Step.{Step}
 use Rattle.handshake.proofs.TextLaws.{run-length}
 use Rattle.handshake.proofs.LineLaws.{lines-step, lines-first, lines-others}

@@ -1,9 +1,9 @@
 -- The fields of a group: lines of a name, a colon and a value, with the lines that go on with a value, and the value of a name.
 use Prim.Native.Nat.{ℕ, _+_}
-use mathlib.Core.Bool.{Bool, true, false, cond, not, _&&_, _||_}
+use mathlib.Core.Bool.{Bool, true, false, cond, _&&_, _||_}
 use mathlib.Core.List.{List, [], _∷_, _++_}
 use lib.Dec.{ltb, eqb}
-use lib.ListN.{length, getD, take, drop}
+use lib.ListN.{getD, take, drop}
 use Rattle.laws.specs.Tests.{all}
 use Rattle.handshake.specs.Text.{isBlank, isName, isText, leading, sameName}
 

@@ -1,9 +1,9 @@
 -- Text as a handshake has it: classes of bytes, runs, numbers, and names that are equal but for the case of letters.
-use Prim.Native.Nat.{ℕ, zero, suc, _+_, _-_, _*_}
+use Prim.Native.Nat.{ℕ, suc, _+_, _-_, _*_}
 use mathlib.Core.Bool.{Bool, true, false, cond, not, _&&_, _||_}
 use mathlib.Core.List.{List, [], _∷_}
 use lib.Dec.{leb, eqb}
-use lib.ListN.{length, getD, take, drop}
+use lib.ListN.{length, getD, take}
 use Rattle.handshake.specs.declared.text.Decimal.{Decimal}
 
 -- a blank: space or tab

@@ -6,6 +6,7 @@ use crate::text::TEXT;
 use crate::text::after;
 use crate::text::byte_at;
 use crate::text::front;
+use crate::text::is_blank;
 use crate::text::leading;
 use crate::text::same;
 ghost use mathlib.Core.Path.{_≡_};
@@ -16,17 +17,13 @@ ghost use lib.ListN.{length};
 ghost use Rattle.laws.specs.Parts.{over};
 ghost use Rattle.handshake.specs.Lines.{linesOf};
 ghost use Rattle.handshake.specs.Fields.{continues, isField, lineOk, linesOk, valueFor};
-ghost use Rattle.handshake.specs.Step.{stepFrom, stepOf, separated, foundIn};
+ghost use Rattle.handshake.specs.Step.{passed, stepFrom, stepOf, separated, foundIn};
 
 // A line that begins with a blank goes on with the value before it.
 fn continues(line: &[u8]) -> bool
     ensures { λ r. ⌜ r ≡ continues (now (line .entry)) ⌝ }
 {
-    let b = byte_at(line, 0);
-    if b == b' ' {
-        return true;
-    }
-    b == b'\t'
+    is_blank(byte_at(line, 0))
 }
 
 // A name of one byte or more, and a colon right behind it.
@@ -89,6 +86,20 @@ fn comma(found: bool) -> u8
     if found { b',' } else { 0 }
 }
 
+// The line adds nothing.
+fn passed(found: bool, length: usize) -> Step
+    ensures { λ r. ⌜ r ≡ passed found length ⌝ }
+{
+    Step {
+        mine: false,
+        found,
+        separator: 0,
+        from: length,
+    }
+}
+
+// A line that goes on adds to the value where the last field has the name, behind a space; a field of the name does, behind a comma where
+// it is not the first.
 fn step_from(
     goes_on: bool,
     named: bool,
@@ -109,12 +120,7 @@ fn step_from(
                 from: blanks,
             };
         }
-        return Step {
-            mine: false,
-            found,
-            separator: 0,
-            from: length,
-        };
+        return passed(found, length);
     }
     if named {
         return Step {
@@ -124,12 +130,7 @@ fn step_from(
             from: start,
         };
     }
-    Step {
-        mine: false,
-        found,
-        separator: 0,
-        from: length,
-    }
+    passed(found, length)
 }
 
 fn line_step(name: &[u8], mine: bool, found: bool, line: &[u8]) -> Step

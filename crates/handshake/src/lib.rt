@@ -76,7 +76,7 @@ fn is_understood(m: &[u8], n: usize) -> bool
     ensures { λ r. ⌜ r ≡ understood (now (m .entry)) n ⌝ }
 {
     let first = line_at(lines_part(m, n), 0);
-    let s = start_of(m, n);
+    let s = read_start(first);
     let kind = s.kind;
     if leading(first, TEXT) != first.len() {
         return false;

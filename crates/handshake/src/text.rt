@@ -13,7 +13,7 @@ pub const TEXT: u8 = 2;
 
 pub const DIGIT: u8 = 3;
 
-fn is_blank(b: u8) -> bool
+pub fn is_blank(b: u8) -> bool
     ensures { λ r. ⌜ r ≡ isBlank b ⌝ }
 {
     if b == b' ' {

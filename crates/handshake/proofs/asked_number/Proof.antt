@@ -1,6 +1,5 @@
 use borrow.Author.Tests.{eq-eqb, ne-eqb, lt-ltb, le-ltb, le-leb, lt-leb}
 use Rattle.handshake.specs.Group.{askedFrom}
-use borrow.Author.Needs.{needs}
 use Rattle.handshake.proofs.asked_number.Statement.{statement}
 use Rattle.handshake.proofs.asked_number.Tie as tie
 

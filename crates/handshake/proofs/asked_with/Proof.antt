@@ -1,6 +1,5 @@
-use borrow.Author.Tests.{eq-eqb, ne-eqb, lt-ltb, le-ltb, le-leb, lt-leb}
+use borrow.Author.Tests.{eq-eqb, ne-eqb}
 use Rattle.handshake.specs.Group.{askedWith}
-use borrow.Author.Needs.{needs}
 use Rattle.handshake.proofs.asked_with.Statement.{statement}
 use Rattle.handshake.proofs.asked_with.Tie as tie
 

@@ -1,4 +1,4 @@
-use mathlib.Core.Path.{_≡_, refl, sym, ap, ap₂, _∙_}
+use mathlib.Core.Path.{ap, ap₂, _∙_}
 use Prim.Native.Nat.{_+_}
 use lib.ListN.{length, drop}
 use Rattle.handshake.specs.Lines.{linesOf, lineAt}

@@ -1,4 +1,4 @@
-use borrow.Author.Tests.{eq-eqb, ne-eqb, lt-ltb, le-ltb, le-leb, lt-leb}
+use borrow.Author.Tests.{eq-eqb, ne-eqb, le-leb, lt-leb}
 use Rattle.handshake.specs.Group.{groupFrom}
 use borrow.Author.Needs.{needs}
 use Rattle.handshake.proofs.group_from.Statement.{statement}

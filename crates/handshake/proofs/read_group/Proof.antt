@@ -1,4 +1,3 @@
-use mathlib.Core.Path.{_≡_, refl, sym, ap, ap₂, _∙_}
 use borrow.Author.Needs.{needs}
 use Rattle.handshake.proofs.read_group.Statement.{statement}
 use Rattle.handshake.proofs.read_group.Tie as tie

@@ -1,6 +1,5 @@
-use mathlib.Core.Path.{_≡_, refl, sym, ap, ap₂, _∙_}
-use lib.ListN.{take}
-use Rattle.handshake.specs.Lines.{linesOf, firstLine, lineAt}
+use mathlib.Core.Path.{ap, _∙_}
+use Rattle.handshake.specs.Lines.{lineAt}
 use Rattle.handshake.specs.Start.{startOf}
 use Rattle.handshake.proofs.FieldLaws.{first-at}
 use borrow.Author.Needs.{needs}

@@ -1,5 +1,5 @@
-use mathlib.Core.Path.{_≡_, refl, sym, ap, ap₂, _∙_}
-use borrow.Author.Tests.{eq-eqb, ne-eqb, le-ltb, lt-ltb, not-true, not-false}
+use mathlib.Core.Path.{ap, _∙_}
+use Rattle.handshake.specs.Text.{isBlank}
 use borrow.Author.Needs.{needs}
 use Rattle.handshake.proofs.fields.continues.Statement.{statement}
 use Rattle.handshake.proofs.fields.continues.Tie as tie
@@ -7,11 +7,11 @@ use Rattle.handshake.proofs.fields.continues.Tie as tie
 byte-at-requires : tie.Need-byte-at-requires
 byte-at-requires c κs = search needs
 
-returns : tie.Need-returns
-returns c = rw (sym (c .before .byte-at .ensures), eq-eqb _ _ (c .if1 .taken))
+is-blank-requires : tie.Need-is-blank-requires
+is-blank-requires c κs = search needs
 
-returns-2 : tie.Need-returns-2
-returns-2 c = rw (sym (c .before .byte-at .ensures), ne-eqb _ _ (c .if1 .left))
+returns : tie.Need-returns
+returns c = c .is-blank .ensures ∙ ap isBlank (c .before .byte-at .ensures)
 
 pub continues-spec : {M : Type 1} → statement M
-continues-spec = tie.close (tie.spec byte-at-requires returns returns-2)
+continues-spec = tie.close (tie.spec byte-at-requires is-blank-requires returns)

@@ -1,14 +1,14 @@
 -- What was counted and what is still to be added make the value's length.
-use Prim.Native.Nat.{ℕ, _+_, _-_, _≤_, _<_}
-use mathlib.Core.Path.{_≡_, refl, sym, ap, ap₂, _∙_}
+use Prim.Native.Nat.{ℕ, _+_, _-_}
+use mathlib.Core.Path.{_≡_, sym, ap, ap₂, _∙_}
 use native.Mathlib.Omega.{arith}
-use mathlib.Core.Bool.{Bool, true, false, not}
+use mathlib.Core.Bool.{Bool, not}
+use mathlib.Core.List.{List}
 use lib.ListN.{length, drop}
 use Rattle.handshake.specs.Lines.{linesOf}
 use Rattle.handshake.specs.Fields.{isAbsent, valueFor}
-use Rattle.handshake.specs.Step.{addedBy, separated}
 use Rattle.handshake.specs.declared.fields.Found.{Found}
-use Rattle.handshake.proofs.FieldLaws.{line-fits, line-none, streamed, foundAfter, streamed-on, found-on, streamed-all, found-all, value-short, count-on}
+use Rattle.handshake.proofs.FieldLaws.{line-fits, line-none, streamed, foundAfter, found-on, streamed-all, found-all, value-short, count-on}
 use borrow.Author.Needs.{needs}
 use Rattle.handshake.proofs.fields.find.Statement.{statement}
 use Rattle.handshake.proofs.fields.find.Tie as tie
@@ -41,10 +41,15 @@ after-requires c κs = search needs
 separator-length-requires : tie.Need-separator-length-requires Inv-loop μ-loop
 separator-length-requires c κs = search needs
 
--- what is counted after the line
+-- what is left to be added behind the line
+abbrev left : tie.After-line-step Inv-loop μ-loop → List ℕ
+left c =
+    streamed (c .before .before .before .before .before .before .args .name .now) (c .line-step .result .mine) (c .line-step .result .found)
+    (linesOf (drop (c .before .before .before .loop .next + length (c .before .line-at .result .now) + 2) (c .before .before .before .before .before .before .args .s .now)))
+
+-- what is counted with the line, and what is left
 turn : (c : tie.After-separator-length Inv-loop μ-loop)
-    → c .before .before .before .before .before .loop .total + c .separator-length .result + length (c .before .after .result .now)
-    + length (streamed (c .before .before .before .before .before .before .before .before .args .name .now) (c .before .before .line-step .result .mine) (c .before .before .line-step .result .found) (linesOf (drop (c .before .before .before .before .before .loop .next + length (c .before .before .before .line-at .result .now) + 2) (c .before .before .before .before .before .before .before .before .args .s .now))))
+    → c .before .before .before .before .before .loop .total + c .separator-length .result + length (c .before .after .result .now) + length (left (c .before .before))
     ≡ length (valueFor (c .before .before .before .before .before .before .before .before .args .name .now) (linesOf (c .before .before .before .before .before .before .before .before .args .s .now)))
 turn c =
     let x = c .before .before .before .before .before .before .before .before .args in

@@ -1,5 +1,5 @@
-use mathlib.Core.Path.{_≡_, refl, sym, ap, ap₂, _∙_}
-use borrow.Author.Tests.{eq-eqb, ne-eqb, le-ltb, lt-ltb, not-true, not-false}
+use mathlib.Core.Path.{sym}
+use borrow.Author.Tests.{le-ltb, lt-ltb}
 use borrow.Author.Needs.{needs}
 use Rattle.handshake.proofs.fields.is_field.Statement.{statement}
 use Rattle.handshake.proofs.fields.is_field.Tie as tie

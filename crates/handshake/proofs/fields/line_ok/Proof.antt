@@ -1,5 +1,4 @@
-use mathlib.Core.Path.{_≡_, refl, sym, ap, ap₂, _∙_}
-use borrow.Author.Tests.{eq-eqb, ne-eqb, le-ltb, lt-ltb, not-true, not-false}
+use mathlib.Core.Path.{sym, _∙_}
 use Rattle.handshake.specs.Text.{isText}
 use Rattle.handshake.proofs.FieldLaws.{all-run, not-all-run}
 use borrow.Author.Needs.{needs}

@@ -1,12 +1,12 @@
 -- The lines from the next one on are right exactly where all are.
-use Prim.Native.Nat.{ℕ, _+_, _-_, _≤_, _<_}
-use mathlib.Core.Path.{_≡_, refl, sym, ap, ap₂, _∙_}
+use Prim.Native.Nat.{_-_}
+use mathlib.Core.Path.{_≡_, refl, sym, ap, _∙_}
 use native.Mathlib.Omega.{arith}
-use mathlib.Core.Bool.{Bool, true, false}
+use mathlib.Core.Bool.{false}
 use lib.ListN.{length, drop}
 use borrow.Author.Tests.{not-true, not-false}
 use Rattle.handshake.specs.Lines.{linesOf}
-use Rattle.handshake.specs.Fields.{linesOk, lineOk}
+use Rattle.handshake.specs.Fields.{linesOk}
 use Rattle.handshake.proofs.FieldLaws.{line-fits, line-none, ok-on, ok-not}
 use borrow.Author.Needs.{needs}
 use Rattle.handshake.proofs.fields.lines_ok.Statement.{statement}

@@ -1,5 +1,5 @@
 -- What is still to be written makes the whole value.
-use Prim.Native.Nat.{ℕ, _+_, _-_, _≤_, _<_}
+use Prim.Native.Nat.{ℕ, _+_, _-_, _≤_}
 use mathlib.Core.Path.{_≡_, refl, sym, ap, ap₂, _∙_}
 use native.Mathlib.Omega.{arith}
 use mathlib.Core.List.{List, _++_}
@@ -38,14 +38,20 @@ line-step-requires c κs = search needs
 after-requires : tie.Need-after-requires Inv-loop μ-loop
 after-requires c κs = search needs
 
--- what is left to be written after the line
+-- what is left to be written behind the line
+abbrev left : tie.After-line-step Inv-loop μ-loop → List ℕ
+left c =
+    streamed (c .before .before .before .before .before .before .before .args .name .now) (c .line-step .result .mine) (c .line-step .result .found)
+    (linesOf (drop (c .before .before .before .loop .next + length (c .before .line-at .result .now) + 2) (c .before .before .before .before .before .before .before .args .s .now)))
+
+-- what is written of the line
+abbrev added : tie.After-after Inv-loop μ-loop → List ℕ
+added c = separated (c .before .line-step .result .separator) ++ c .after .result .now
+
+-- the line and what is left have room, and make what was left before
 turn : (c : tie.After-put-arg Inv-loop μ-loop)
-    → (c .before .before .before .before .before .loop .at + length (separated (c .before .before .line-step .result .separator) ++ c .before .after .result .now)
-    + length (streamed (c .before .before .before .before .before .before .before .before .before .args .name .now) (c .before .before .line-step .result .mine) (c .before .before .line-step .result .found) (linesOf (drop (c .before .before .before .before .before .loop .next + length (c .before .before .before .line-at .result .now) + 2) (c .before .before .before .before .before .before .before .before .before .args .s .now))))
-    ≤ length (c .before .before .before .before .before .loop .out))
-    × (over (c .before .before .before .before .before .loop .at + length (separated (c .before .before .line-step .result .separator) ++ c .before .after .result .now))
-    (streamed (c .before .before .before .before .before .before .before .before .before .args .name .now) (c .before .before .line-step .result .mine) (c .before .before .line-step .result .found) (linesOf (drop (c .before .before .before .before .before .loop .next + length (c .before .before .before .line-at .result .now) + 2) (c .before .before .before .before .before .before .before .before .before .args .s .now))))
-    (over (c .before .before .before .before .before .loop .at) (separated (c .before .before .line-step .result .separator) ++ c .before .after .result .now) (c .before .before .before .before .before .loop .out))
+    → (c .before .before .before .before .before .loop .at + length (added (c .before)) + length (left (c .before .before)) ≤ length (c .before .before .before .before .before .loop .out))
+    × (over (c .before .before .before .before .before .loop .at + length (added (c .before))) (left (c .before .before)) (over (c .before .before .before .before .before .loop .at) (added (c .before)) (c .before .before .before .before .before .loop .out))
     ≡ over (c .before .before .before .before .before .loop .at) (streamed (c .before .before .before .before .before .before .before .before .before .args .name .now) (c .before .before .before .before .before .loop .mine) (c .before .before .before .before .before .loop .there) (linesOf (drop (c .before .before .before .before .before .loop .next) (c .before .before .before .before .before .before .before .before .before .args .s .now)))) (c .before .before .before .before .before .loop .out))
 turn c =
     let x = c .before .before .before .before .before .before .before .before .before .args in
@@ -67,11 +73,8 @@ loop-less c = search needs
 
 loop-again : tie.Need-loop-again Inv-loop μ-loop
 loop-again c =
-    let x = c .before .before .before .before .before .before .before .before .before .before .before .before .args in
-    let st = c .before .before .before .before .before .line-step .result in
-    let rest = streamed (x .name .now) (st .mine) (st .found) (linesOf (drop (c .before .before .before .before .before .before .before .before .loop .next + length (c .before .before .before .before .before .before .line-at .result .now) + 2) (x .s .now))) in
     let t = turn (c .before .before .before) in (
-      ap₂ (λ a o. over a rest o) (c .before .before .put .ensures .0) (c .before .before .put .ensures .1) ∙ t .1 ∙ c .before .before .before .before .before .before .before .before .loop .inv .0,
+      ap₂ (λ a o. over a (left (c .before .before .before .before .before)) o) (c .before .before .put .ensures .0) (c .before .before .put .ensures .1) ∙ t .1 ∙ c .before .before .before .before .before .before .before .before .loop .inv .0,
       omega (arith, c .before .before .put .ensures .0, c .before .before .put .kept .0, t .0),
       c .before .before .put .kept .0 ∙ c .before .before .before .before .before .before .before .before .loop .inv .2,
     )

@@ -1,8 +1,7 @@
 -- The first end from n on is the first of all.
-use Prim.Native.Nat.{ℕ, _+_, _-_, _≤_, _<_}
-use mathlib.Core.Path.{_≡_, refl, sym, ap, _∙_}
+use Prim.Native.Nat.{_+_, _-_, _≤_}
+use mathlib.Core.Path.{_≡_, sym, _∙_}
 use native.Mathlib.Omega.{arith}
-use lib.ListN.{length}
 use Rattle.handshake.specs.Lines.{endsAt, firstFrom, groupLength}
 use Rattle.handshake.proofs.LineLaws.{first-here, first-on, first-end}
 use borrow.Author.Needs.{needs}

@@ -1,4 +1,3 @@
-use mathlib.Core.Path.{_≡_, refl, sym, ap, ap₂, _∙_}
 use Rattle.handshake.specs.Lines.{lineAt}
 use borrow.Author.Needs.{needs}
 use Rattle.handshake.proofs.lines.line_at.Statement.{statement}

@@ -1,4 +1,4 @@
-use mathlib.Core.Path.{_≡_, refl, sym, ap, ap₂, _∙_}
+use mathlib.Core.Path.{_∙_}
 use borrow.Author.Needs.{needs}
 use Rattle.handshake.proofs.start.read_reply.Statement.{statement}
 use Rattle.handshake.proofs.start.read_reply.Tie as tie

@@ -1,8 +1,6 @@
-use mathlib.Core.Path.{_≡_, refl, sym, ap, ap₂, _∙_}
+use mathlib.Core.Path.{ap}
 use native.Mathlib.Omega.{arith}
-use lib.ListN.{getD, take, length-take}
 use Rattle.handshake.specs.declared.text.Decimal.{Decimal}
-use Rattle.handshake.specs.Text.{isDigit, digitCount, numberOf}
 use Rattle.handshake.proofs.TextLaws.{digit-count}
 use borrow.Author.Needs.{needs}
 use Rattle.handshake.proofs.start.read_version.Statement.{statement}

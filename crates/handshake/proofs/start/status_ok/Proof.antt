@@ -1,6 +1,5 @@
 use Rattle.handshake.specs.Start.{statusOk}
 use Rattle.handshake.proofs.Tests.{tests}
-use borrow.Author.Needs.{needs}
 use Rattle.handshake.proofs.start.status_ok.Statement.{statement}
 use Rattle.handshake.proofs.start.status_ok.Tie as tie
 

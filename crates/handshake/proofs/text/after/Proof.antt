@@ -8,35 +8,27 @@ use Rattle.handshake.proofs.text.after.Tie as tie
 use Rattle.handshake.proofs.text.after.Reads as reads
 use Rattle.handshake.proofs.text.after.Lts as lts
 
--- src/text.rt:78:9
 sub-result : tie.Need-sub-result
 sub-result c = search needs
 
--- src/text.rt:78:9
 part-result-start : tie.Need-part-result-start
 part-result-start c = search needs
 
--- src/text.rt:78:9
 part-result-end : tie.Need-part-result-end
 part-result-end c = search needs
 
--- src/text.rt:80:9
 sub-result-2 : tie.Need-sub-result-2
 sub-result-2 c = search needs
 
--- src/text.rt:80:9
 part-result-start-2 : tie.Need-part-result-start-2
 part-result-start-2 c = search needs
 
--- src/text.rt:80:9
 part-result-end-2 : tie.Need-part-result-end-2
 part-result-end-2 c = search needs
 
--- src/text.rt:74:1
 returns : tie.Need-returns
 returns c = rest-part (c .before .before .args .s .now) (c .before .before .args .at)
 
--- src/text.rt:74:1
 returns-2 : tie.Need-returns-2
 returns-2 c =
     let s = c .before .before .args .s .now in

@@ -6,15 +6,12 @@ use Rattle.handshake.proofs.text.byte_at.Tie as tie
 use Rattle.handshake.proofs.text.byte_at.Reads as reads
 use Rattle.handshake.proofs.text.byte_at.Lts as lts
 
--- src/text.rt:95:23
 shared-slice-read-result : tie.Need-shared-slice-read-result
 shared-slice-read-result c = search needs
 
--- src/text.rt:92:1
 returns : tie.Need-returns
 returns c = search needs
 
--- src/text.rt:92:1
 returns-2 : tie.Need-returns-2
 returns-2 c = sym (List·getD-eq-default (c .before .args .s .now) 0 (c .if1 .left))
 

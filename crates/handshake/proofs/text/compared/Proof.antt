@@ -1,22 +1,18 @@
 use borrow.Author.Needs.{needs}
 use Rattle.handshake.specs.Text.{compared}
-use Rattle.handshake.proofs.Tests.{tests}
 use Rattle.handshake.proofs.text.compared.Statement.{statement}
 use Rattle.handshake.proofs.text.compared.Tie as tie
 use Rattle.handshake.proofs.text.compared.Reads as reads
 use Rattle.handshake.proofs.text.compared.Lts as lts
 use Rattle.handshake.proofs.text.lower.Reads as lower-reads
 
--- src/text.rt:98:15
 lower-requires : tie.Need-lower-requires
 lower-requires c κs = search needs
 
--- src/text.rt:95:1
 returns : tie.Need-returns
 unfolding compared
 returns c = rw (c .before .if1 .taken) (c .lower .ensures)
 
--- src/text.rt:95:1
 returns-2 : tie.Need-returns-2
 unfolding compared
 returns-2 c = rw (c .if1 .left)

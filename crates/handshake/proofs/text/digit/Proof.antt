@@ -6,21 +6,17 @@ use Rattle.handshake.proofs.text.digit.Tie as tie
 use Rattle.handshake.proofs.text.digit.Reads as reads
 use Rattle.handshake.proofs.text.digit.Lts as lts
 
--- src/text.rt:153:9
 returns : tie.Need-returns
 unfolding digitOf
 returns c = search tests
 
--- src/text.rt:156:9
 returns-2 : tie.Need-returns-2
 unfolding digitOf
 returns-2 c = search tests
 
--- src/text.rt:158:5
 cast-result : tie.Need-cast-result
 cast-result c = search needs
 
--- src/text.rt:149:1
 returns-3 : tie.Need-returns-3
 unfolding digitOf
 returns-3 c = search tests

@@ -6,15 +6,12 @@ use Rattle.handshake.proofs.text.front.Tie as tie
 use Rattle.handshake.proofs.text.front.Reads as reads
 use Rattle.handshake.proofs.text.front.Lts as lts
 
--- src/text.rt:88:22
 slice-aggregate-result : tie.Need-slice-aggregate-result
 slice-aggregate-result c = sym (length-take-le (c .before .before .args .n) (c .before .before .args .s .now) (search needs))
 
--- src/text.rt:85:1
 returns : tie.Need-returns
 returns c = search needs
 
--- src/text.rt:85:1
 returns-2 : tie.Need-returns-2
 returns-2 c = sym (take-all (c .before .args .n) (c .before .args .s .now) (c .if1 .left))
 

@@ -9,35 +9,27 @@ use Rattle.handshake.proofs.text.is_digit.Reads as is-digit-reads
 use Rattle.handshake.proofs.text.is_name.Reads as is-name-reads
 use Rattle.handshake.proofs.text.is_text.Reads as is-text-reads
 
--- src/text.rt:53:9
 is-blank-requires : tie.Need-is-blank-requires
 is-blank-requires c κs = search needs
 
--- src/text.rt:53:9
 returns : tie.Need-returns
 returns c = search tests
 
--- src/text.rt:56:9
 is-name-requires : tie.Need-is-name-requires
 is-name-requires c κs = search needs
 
--- src/text.rt:56:9
 returns-2 : tie.Need-returns-2
 returns-2 c = search tests
 
--- src/text.rt:59:9
 is-text-requires : tie.Need-is-text-requires
 is-text-requires c κs = search needs
 
--- src/text.rt:59:9
 returns-3 : tie.Need-returns-3
 returns-3 c = search tests
 
--- src/text.rt:61:5
 is-digit-requires : tie.Need-is-digit-requires
 is-digit-requires c κs = search needs
 
--- src/text.rt:49:1
 returns-4 : tie.Need-returns-4
 returns-4 c = search tests
 

@@ -1,15 +1,12 @@
-use borrow.Author.Needs.{needs}
 use Rattle.handshake.proofs.Tests.{tests}
 use Rattle.handshake.proofs.text.is_digit.Statement.{statement}
 use Rattle.handshake.proofs.text.is_digit.Tie as tie
 use Rattle.handshake.proofs.text.is_digit.Reads as reads
 use Rattle.handshake.proofs.text.is_digit.Lts as lts
 
--- src/text.rt:44:9
 returns : tie.Need-returns
 returns c = search tests
 
--- src/text.rt:40:1
 returns-2 : tie.Need-returns-2
 returns-2 c = search tests
 

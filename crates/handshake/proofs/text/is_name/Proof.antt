@@ -1,19 +1,15 @@
-use borrow.Author.Needs.{needs}
 use Rattle.handshake.proofs.Tests.{tests}
 use Rattle.handshake.proofs.text.is_name.Statement.{statement}
 use Rattle.handshake.proofs.text.is_name.Tie as tie
 use Rattle.handshake.proofs.text.is_name.Reads as reads
 use Rattle.handshake.proofs.text.is_name.Lts as lts
 
--- src/text.rt:26:9
 returns : tie.Need-returns
 returns c = search tests
 
--- src/text.rt:29:9
 returns-2 : tie.Need-returns-2
 returns-2 c = search tests
 
--- src/text.rt:22:1
 returns-3 : tie.Need-returns-3
 returns-3 c = search tests
 

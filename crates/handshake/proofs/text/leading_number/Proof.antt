@@ -17,26 +17,21 @@ use Rattle.handshake.proofs.text.value_of.Reads as value-of-reads
 abbrev number-of : ℕ → ℕ → Decimal
 number-of n v = record { count = n; value = v }
 
--- src/text.rt:184:25
 front-requires : tie.Need-front-requires
 front-requires c κs = search needs
 
--- src/text.rt:184:9
 leading-requires : tie.Need-leading-requires
 leading-requires c κs = search needs
 
--- src/text.rt:187:25
 front-requires-2 : tie.Need-front-requires-2
 front-requires-2 c κs = search needs
 
--- src/text.rt:187:16
 value-of-requires : tie.Need-value-of-requires
 value-of-requires c κs =
     let s = c .before .before .before .before .args .s .now in
     let e : c .before .leading .result ≡ digitCount s = c .before .leading .ensures ∙ ap (leading isDigit) (c .before .before .front .ensures) in
     rw (c .front2 .ensures) (simp length-take (omega (arith, run-length (λ t. isDigit (getD t 0 0)) (take 6 s), length-take 6 s)))
 
--- src/text.rt:181:1
 returns : tie.Need-returns
 unfolding digitValue
 returns c =

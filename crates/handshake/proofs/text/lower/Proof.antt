@@ -6,21 +6,17 @@ use Rattle.handshake.proofs.text.lower.Tie as tie
 use Rattle.handshake.proofs.text.lower.Reads as reads
 use Rattle.handshake.proofs.text.lower.Lts as lts
 
--- src/text.rt:83:9
 returns : tie.Need-returns
 unfolding lower
 returns c = search tests
 
--- src/text.rt:86:9
 returns-2 : tie.Need-returns-2
 unfolding lower
 returns-2 c = search tests
 
--- src/text.rt:88:5
 add-result : tie.Need-add-result
 add-result c = search needs
 
--- src/text.rt:79:1
 returns-3 : tie.Need-returns-3
 unfolding lower
 returns-3 c = search tests

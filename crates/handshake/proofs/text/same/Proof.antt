@@ -1,7 +1,7 @@
 -- What is left to compare is the same exactly where the whole is.
-use Prim.Native.Nat.{ℕ, _+_, _-_, _≤_, _<_}
-use mathlib.Core.Path.{_≡_, refl, sym, ap, _∙_}
-use lib.ListN.{length, getD, drop}
+use Prim.Native.Nat.{_-_, _≤_}
+use mathlib.Core.Path.{_≡_, refl, sym, _∙_}
+use lib.ListN.{length, drop}
 use borrow.Author.Needs.{needs}
 use Rattle.handshake.specs.Text.{same}
 use Rattle.handshake.proofs.TextLaws.{same-lengths, same-on, same-not, same-end}

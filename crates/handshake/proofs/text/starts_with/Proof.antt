@@ -9,15 +9,12 @@ use Rattle.handshake.proofs.text.starts_with.Lts as lts
 use Rattle.handshake.proofs.text.front.Reads as front-reads
 use Rattle.handshake.proofs.text.same.Reads as same-reads
 
--- src/text.rt:146:20
 front-requires : tie.Need-front-requires
 front-requires c κs = search needs
 
--- src/text.rt:146:5
 same-requires : tie.Need-same-requires
 same-requires c κs = search needs
 
--- src/text.rt:143:1
 returns : tie.Need-returns
 returns c = c .same .ensures ∙ ap (same false (c .before .before .before .before .args .p .now)) (c .before .front .ensures)
 
