@@ -13,3 +13,4 @@ pub mod InPlace
 pub mod Truth
 -- Laws on lists and numbers that proofs of several crates cite.
 pub mod Text
+pub mod Decimal
