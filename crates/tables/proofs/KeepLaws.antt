@@ -1,21 +1,22 @@
 -- What every update keeps, and what each answer says: over the definitions that the contracts cite.
-use Prim.Native.Nat.{ℕ, zero, suc, _+_}
-use mathlib.Core.Path.{_≡_, refl, sym, _∙_}
+use Prim.Native.Nat.{ℕ, zero, suc, _+_, _≤_}
+use mathlib.Core.Path.{_≡_, refl, sym, ap, _∙_}
 use mathlib.Core.Logic.{_⊎_, inl, inr, ⊎-elim}
 use mathlib.Core.Bool.{Bool, true, false, cond, not, _&&_, _||_, or-false, or-true}
 use mathlib.Core.List.{List, [], _∷_, _++_}
 use native.Mathlib.Omega.{arith}
 use lib.Dec.{eqb, leb}
 use lib.ListN.{length, take, drop, replicate, length-take, length-drop, length-append, length-replicate}
+use lib.Seq.{take-at, drop-at, drop-drop, length-take-le}
 use borrow.Author.Tests.{leb-true, eqb-true, ne-eqb, eqb-false, le-leb, not-false}
 use Rattle.laws.specs.Tests.{firstOf, all}
-use Rattle.laws.proofs.Over.{over-own, over-front-of}
+use Rattle.laws.proofs.Over.{over-own, over-front-of, over-length, over-behind}
 use Rattle.tables.specs.declared.Table.{Table}
 use Rattle.tables.specs.Patch.{sumOf, fits, added, allFit}
 use Rattle.tables.specs.Tables.{Held, heldIn, atRest, marked, broken, running, settled, ready, goodLength, goodInfinity, insideRun, betweenRuns, withinLimits, tableInOrder, inBounds, entriesInBounds}
 use Rattle.tables.specs.Updates.{lengthIn, infinityIn, placeIn, sizeIn, bitsIn, numbersIn, isLast, isPatch, resetTests, turnTests, goodReset, goodPatch, inTurn, inRange, resetBy, patchBy, onward, movedOn, updateAnswer, updated, brokenBy, pickHeld, partWith}
 use Rattle.tables.proofs.TestLaws.{both-true, every-true}
-use Rattle.tables.proofs.NumberLaws.{added-length, fitting}
+use Rattle.tables.proofs.NumberLaws.{added-length, added-behind, fitting}
 use Rattle.tables.proofs.TurnLaws.{PatchFields, patch-fields, turn-within}
 use Rattle.tables.proofs.UpdateLaws.{no-reset, no-patch}
 
@@ -226,12 +227,58 @@ module _ (t : Table) (part : List ℕ) (ttl hops : ℕ) (p : List ℕ) where
         over-front-of (t .length) (patchBy (heldIn t part) p .entries) part (patched-length (heldIn t part) p u),
       )
 
+  refused-fits : 0 + length (brokenBy (heldIn t part) .entries) ≤ length part
+  unfolding brokenBy
+  refused-fits = simp length-take (omega arith)
+
+  reset-fits : goodReset (length part) p ≡ true → 0 + length (resetBy p .entries) ≤ length part
+  unfolding resetBy goodReset
+  reset-fits g =
+      let w = leb-true (lengthIn p) (length part) (every-true (resetTests (length part) p) g .1 .1 .1 .0) in
+      simp length-replicate (omega arith)
+
   pub held-after : heldIn (after .table) (partWith after part) ≡ after
   held-after =
       ⊎-elim
       (λ w. rw (w .left) after-refused)
       (⊎-elim (λ w. rw (w .left) (after-reset (w .fields))) (λ w. rw (w .left) (after-patched (w .turn))))
       (ways (length part) (heldIn t part) ttl hops p)
+
+  -- the part keeps its length, and what is behind the entries stays
+  pub keeps-part : length (partWith after part) ≡ length part
+  keeps-part = over-length 0 (after .entries) part (fit (ways (length part) (heldIn t part) ttl hops p))
+    where
+      fit : Refused (length part) (heldIn t part) ttl hops p ⊎ (Reset (length part) (heldIn t part) ttl hops p ⊎ Patched (length part) (heldIn t part) ttl hops p)
+          → 0 + length (after .entries) ≤ length part
+      fit (inl w) = rw (w .left) refused-fits
+      fit (inr (inl w)) = rw (w .left) (reset-fits (w .fields))
+      fit (inr (inr w)) = rw (w .left) (rw (patched-length (heldIn t part) p (w .turn)) (omega (arith, length-take (t .length) part)))
+
+  pub keeps-behind : drop (length (after .entries)) (partWith after part) ≡ drop (length (after .entries)) part
+  keeps-behind = over-behind (after .entries) part
+
+-- ---- a PATCH leaves the entries before and behind its data as they are
+
+pub patched-before : (h : Held) (p : List ℕ) → h .table .at ≤ length (h .entries) → take (h .table .at) (patchBy h p .entries) ≡ take (h .table .at) (h .entries)
+unfolding patchBy
+patched-before h p w =
+    take-at
+    (take (h .table .at) (h .entries))
+    (added (bitsIn p) (numbersIn p) (drop (h .table .at) (h .entries)))
+    (h .table .at)
+    (length-take-le (h .table .at) (h .entries) w)
+
+pub patched-behind : (h : Held) (p : List ℕ) → h .table .at ≤ length (h .entries)
+    → drop (h .table .at + length (numbersIn p)) (patchBy h p .entries) ≡ drop (h .table .at + length (numbersIn p)) (h .entries)
+unfolding patchBy
+patched-behind h p w =
+    let es = h .entries in
+    let at = h .table .at in
+    let k = length (numbersIn p) in
+    sym (drop-drop k at (take at es ++ added (bitsIn p) (numbersIn p) (drop at es)))
+    ∙ ap (drop k) (drop-at (take at es) (added (bitsIn p) (numbersIn p) (drop at es)) at (length-take-le at es w))
+    ∙ added-behind (bitsIn p) (numbersIn p) (drop at es)
+    ∙ drop-drop k at es
 
 -- ---- entries stay in 1..Infinity
 
