@@ -4,5 +4,8 @@ pub mod FieldLaws
 pub mod TurnLaws
 pub mod UpdateLaws
 pub mod AdmissionLaws
+pub mod AnswerLaws
+pub mod OrderLaws
 pub mod KeepLaws
+pub mod BoundLaws
 pub mod Vectors
