@@ -3,17 +3,17 @@
 use Prim.Native.Nat.{ℕ, zero, suc, _+_, _-_, _*_, _/_, _≤_, _<_}
 use mathlib.Core.Path.{_≡_, refl, sym, ap, _∙_}
 use mathlib.Core.Logic.{_↔_}
-use mathlib.Core.Bool.{Bool, true, false, cond, _&&_, and-eq-true-iff}
+use mathlib.Core.Bool.{Bool, true, false, cond, and-eq-true-iff}
 use mathlib.Core.List.{List, [], _∷_, _++_}
 use native.Mathlib.Nat.{zero-add}
 use native.Mathlib.Omega.{arith}
 use lib.Dec.{leb}
-use lib.ListN.{length, getD, take, drop, replicate, length-take, length-drop}
+use lib.ListN.{length, getD, drop, replicate, length-take, length-drop}
 use borrow.Author.Tests.{leb-true, le-leb}
 use Rattle.wire.specs.Header.{numberOf, kindOf, ttlOf, hopsOf, sizeOf, payloadOf}
 use Rattle.wire.proofs.HeaderLaws.{message-length, message-number, message-kind, message-ttl, message-hops, message-size, message-payload}
 use Rattle.tables.specs.Patch.{packed}
-use Rattle.tablewriter.specs.Writer.{baseOf, near, allNear, bitsFor, raw, raws, dataOf, chunks, partsOf, update, resetPayload, patchPayload, runFrom, runOf, writerBytes, writerOut}
+use Rattle.tablewriter.specs.Writer.{allNear, bitsFor, raws, dataOf, chunks, partsOf, update, resetPayload, patchPayload, runFrom, runOf, writerBytes, writerOut}
 use Rattle.tablewriter.specs.Steps.{dataLength}
 use Rattle.tablewriter.proofs.DataLaws.{near-at, data-length}
 use Rattle.tablewriter.proofs.RunLaws.{parts-count}

@@ -14,6 +14,7 @@ pub mod RunLaws
 pub mod PlanLaws
 pub mod MessageLaws
 pub mod TurnLaws
+pub mod GoodLaws
 pub mod AnswerLaws
 pub mod AllLaws
 pub mod CallLaws

@@ -1,12 +1,11 @@
 -- Document 01's table of four entries, written and read back, by computation.
 use Prim.Native.Nat.{ℕ}
 use mathlib.Core.Path.{_≡_, refl}
-use mathlib.Core.Bool.{Bool, true, false}
+use mathlib.Core.Bool.{true, false}
 use mathlib.Core.List.{List, [], _∷_, map}
-use lib.ListN.{replicate, length, drop}
-use Rattle.laws.specs.Tests.{any}
+use lib.ListN.{replicate, drop}
 use Rattle.wire.specs.Header.{message}
-use Rattle.tables.specs.Tables.{Held, heldIn, noTable, goodLength}
+use Rattle.tables.specs.Tables.{heldIn, noTable, goodLength}
 use Rattle.tables.specs.Patch.{numbers, packed, added, allFit}
 use Rattle.tables.specs.Updates.{updateAnswer, updated, goodReset, goodPatch, inTurn, inRange, resetBy, movedOn, patchBy, brokenBy}
 use Rattle.tablewriter.specs.Writer.{allNear, raws, dataOf, chunks, runFrom, messagesOf, joined, goodTable, writerAnswer, writerBytes, writerOut}
