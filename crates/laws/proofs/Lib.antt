@@ -14,3 +14,4 @@ pub mod Truth
 -- Laws on lists and numbers that proofs of several crates cite.
 pub mod Text
 pub mod Decimal
+pub mod Passing

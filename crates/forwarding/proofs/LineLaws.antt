@@ -1,0 +1,107 @@
+-- Laws of the flags of lines: one keyword more clears those of the lines that it stops, and the last keyword leaves what passes.
+use Prim.Native.Nat.{ℕ, zero, suc, _+_, _*_, _-_, _≤_, _<_, min}
+use mathlib.Core.Path.{_≡_, refl, sym, ap, ap₂, _∙_}
+use mathlib.Core.Bool.{Bool, false, not, _&&_, _||_, and-true}
+use mathlib.Core.List.{List}
+use native.Mathlib.Nat.{suc-mul}
+use native.Mathlib.Numerals.{add-one}
+use native.Mathlib.Omega.{arith}
+use lib.Dec.{eqb}
+use lib.ListN.{length, getD, take, drop}
+use lib.Seq.{drop-drop, ext-getD}
+use Rattle.laws.specs.Tests.{any}
+use Rattle.laws.proofs.Parts.{part-tail}
+use Rattle.keywords.specs.declared.cut.Cut.{Cut}
+use Rattle.keywords.specs.Keywords.{keywordsOf, cutOf}
+use Rattle.keywords.specs.Hash.{hashOf}
+use Rattle.keywords.proofs.CutLaws.{any-found, any-done}
+use Rattle.tables.specs.declared.Table.{Table}
+use Rattle.tables.specs.Tables.{Held, heldIn, noTable, settled}
+use Rattle.tables.specs.Admission.{far, entryOf, withholds}
+use Rattle.protocol.specs.Lines.{partOf}
+use Rattle.protocol.specs.Outcomes.{eachLine}
+use Rattle.protocol.specs.Queries.{passes}
+use Rattle.forwarding.specs.Passing.{heldOf, passingOf, stops, leftBy}
+use Rattle.laws.proofs.Passing.{take-within, drop-within, and-any, and-neither}
+
+-- ---- eight flags
+
+pub flag-of : (f : ℕ → Bool) (k : ℕ) → k < 8 → getD (eachLine f) k false ≡ f k
+flag-of f zero h = refl
+flag-of f (suc zero) h = refl
+flag-of f (suc (suc zero)) h = refl
+flag-of f (suc (suc (suc zero))) h = refl
+flag-of f (suc (suc (suc (suc zero)))) h = refl
+flag-of f (suc (suc (suc (suc (suc zero))))) h = refl
+flag-of f (suc (suc (suc (suc (suc (suc zero)))))) h = refl
+flag-of f (suc (suc (suc (suc (suc (suc (suc zero))))))) h = refl
+flag-of f (suc (suc (suc (suc (suc (suc (suc (suc k)))))))) h = absurd (omega arith)
+
+flags-are : (f : ℕ → Bool) (l : List Bool) → length l ≡ 8 → ((k : ℕ) → k < 8 → f k ≡ getD l k false) → eachLine f ≡ l
+flags-are f l n h = ext-getD false (eachLine f) l (sym n) (λ k b. flag-of f k b ∙ h k b)
+
+pub each-same : (f g : ℕ → Bool) → ((k : ℕ) → k < 8 → f k ≡ g k) → eachLine f ≡ eachLine g
+each-same f g h = flags-are f (eachLine g) refl (λ k b. h k b ∙ sym (flag-of g k b))
+
+-- ---- one table
+
+module _ (h : Held) (ttl : ℕ) where
+  withholds-any : (ks : List (List ℕ)) → withholds h ks ttl ≡ any (λ k. stops h ttl (hashOf k)) ks
+  unfolding withholds
+  withholds-any ks = and-any (eqb (h .table .mark) settled) (λ k. far (h .table .infinity) ttl (entryOf h (hashOf k))) ks
+
+  module _ (b : Bool) (text : List ℕ) (c : Cut) (e : c ≡ cutOf text) where
+    -- a keyword that is cut is tested before those behind it
+    passes-on : c .start < c .end → (hash : ℕ) → hash ≡ hashOf (take (c .end - c .start) (drop (c .start) text))
+        → passes b h text ttl ≡ passes (b && not (stops h ttl hash)) h (take (length text - c .end) (drop (c .end) text)) ttl
+    passes-on s hash eh =
+        let rest = take (length text - c .end) (drop (c .end) text) in
+        let found : withholds h (keywordsOf text) ttl ≡ (stops h ttl hash || withholds h (keywordsOf rest) ttl) =
+        withholds-any (keywordsOf text)
+        ∙ any-found text c e (stops h ttl) s
+        ∙ ap₂ (λ n r. stops h ttl n || r) (sym eh) (sym (withholds-any (keywordsOf rest))) in
+        ap (λ w. b && not w) found ∙ and-neither b (stops h ttl hash) (withholds h (keywordsOf rest) ttl)
+
+    passes-end : c .end ≤ c .start → passes b h text ttl ≡ b
+    passes-end s = ap (λ w. b && not w) (withholds-any (keywordsOf text) ∙ any-done text c e (stops h ttl) s) ∙ and-true b
+
+-- ---- the tables of eight lines
+
+module _ (flags : List Bool) (tables : List Table) (room : ℕ) (route : List ℕ) (ttl : ℕ) where
+  module _ (text : List ℕ) (c : Cut) (e : c ≡ cutOf text) where
+    pub passing-on : c .start < c .end → (hash : ℕ) → hash ≡ hashOf (take (c .end - c .start) (drop (c .start) text))
+        → (left : List Bool) → left ≡ leftBy flags tables room route ttl hash
+        → passingOf left tables room route (take (length text - c .end) (drop (c .end) text)) ttl ≡ passingOf flags tables room route text ttl
+    unfolding passingOf leftBy
+    passing-on s hash eh left el =
+        rw el
+        (each-same _ _
+        (λ k b. ap (λ f. passes f (heldOf tables room route k) (take (length text - c .end) (drop (c .end) text)) ttl)
+        (flag-of (λ j. getD flags j false && not (stops (heldOf tables room route j) ttl hash)) k b)
+        ∙ sym (passes-on (heldOf tables room route k) ttl (getD flags k false) text c e s hash eh)))
+
+    pub passing-end : length flags ≡ 8 → c .end ≤ c .start → passingOf flags tables room route text ttl ≡ flags
+    unfolding passingOf
+    passing-end n s = flags-are _ flags n (λ k b. passes-end (heldOf tables room route k) ttl (getD flags k false) text c e s)
+
+  pub left-length : (hash : ℕ) → length (leftBy flags tables room route ttl hash) ≡ 8
+  unfolding leftBy
+  left-length hash = refl
+
+  -- line k, whose part stands at the front of what is left of the area
+  module _ (hash k n : ℕ) (area : List ℕ) (b : k < 8) (ea : area ≡ drop (k * room) route) (en : n ≡ min room (length area)) where
+    pub flag-left : getD (leftBy flags tables room route ttl hash) k false
+        ≡ (getD flags k false && not (stops (heldIn (getD tables k noTable) (take n area)) ttl hash))
+    unfolding leftBy
+    flag-left =
+        let part : take n area ≡ partOf room k route = rw en (take-within room area ∙ ap (take room) ea) in
+        flag-of (λ j. getD flags j false && not (stops (heldOf tables room route j) ttl hash)) k b
+        ∙ ap (λ p. getD flags k false && not (stops (heldIn (getD tables k noTable) p) ttl hash)) (sym part)
+
+    pub area-next : take (length area - n) (drop n area) ≡ drop ((k + 1) * room) route
+    area-next =
+        part-tail n area
+        ∙ (rw en (drop-within room area))
+        ∙ ap (drop room) ea
+        ∙ drop-drop room (k * room) route
+        ∙ ap (λ m. drop m route) (sym (ap (λ j. j * room) (add-one k) ∙ suc-mul k room))

@@ -1,0 +1,59 @@
+-- Texts, flags and messages by computation.
+use Prim.Native.Nat.{ℕ}
+use mathlib.Core.Path.{_≡_, refl}
+use mathlib.Core.Bool.{Bool, true, false}
+use mathlib.Core.List.{List, [], _∷_, _++_, map}
+use lib.ListN.{length, replicate, drop}
+use Rattle.wire.specs.Header.{message}
+use Rattle.keywords.specs.Keywords.{keywordsOf, pieces, filled, isSeparator, lower}
+use Rattle.keywords.specs.Hash.{hashOf, word, xor32}
+use Rattle.tables.specs.declared.Table.{Table}
+use Rattle.tables.specs.Tables.{noTable, running, settled, broken}
+use Rattle.tables.specs.Admission.{withholds}
+use Rattle.protocol.specs.Queries.{untilZero, ownBytes}
+use Rattle.forwarding.specs.Texts.{textOf}
+use Rattle.forwarding.specs.Passing.{passingOf}
+use Rattle.forwarding.specs.Messages.{passedOn}
+
+-- the first zero byte behind the speed ends a text, which may be empty
+texts : map textOf ((0 ∷ 0 ∷ 97 ∷ 0 ∷ 98 ∷ 0 ∷ []) ∷ (0 ∷ 0 ∷ 0 ∷ []) ∷ (0 ∷ 0 ∷ 97 ∷ []) ∷ (0 ∷ []) ∷ [])
+    ≡ record { ended = true; length = 1 }
+    ∷ record { ended = true; length = 0 }
+    ∷ record { ended = false; length = 1 }
+    ∷ record { ended = false; length = 0 }
+    ∷ []
+unfolding untilZero
+texts = refl
+
+-- four entries a line, of which "eb" has the last: 3, 2 and 2, the last of these with Infinity 2; a closed line; none; a table that is
+-- not settled, twice; and a part that the area lacks
+table : ℕ → ℕ → Table
+table mark infinity = record { mark = mark; length = 4; infinity = infinity; place = 1; size = 0; bits = 0; at = 0 }
+
+tables : List Table
+tables = table settled 8 ∷ table settled 8 ∷ table settled 2 ∷ noTable ∷ noTable ∷ table running 8 ∷ table broken 8 ∷ table settled 8 ∷ []
+
+live : List Bool
+live = true ∷ true ∷ true ∷ false ∷ true ∷ true ∷ true ∷ true ∷ []
+
+route : List ℕ
+route = (8 ∷ 8 ∷ 8 ∷ 3 ∷ []) ++ (8 ∷ 8 ∷ 8 ∷ 2 ∷ []) ++ (1 ∷ 1 ∷ 1 ∷ 2 ∷ []) ++ replicate 16 8
+
+-- sent with TTL 2: the entry 3 is too far, and Infinity is none
+eb : passingOf live tables 4 route (0x20 ∷ 0x45 ∷ 0x62 ∷ []) 2 ≡ false ∷ true ∷ false ∷ false ∷ true ∷ true ∷ true ∷ true ∷ []
+unfolding table tables live route passingOf withholds keywordsOf pieces filled isSeparator lower hashOf word xor32
+eb = refl
+
+-- no keyword: withheld from nobody
+spaces : passingOf live tables 4 route (0x20 ∷ 0x20 ∷ []) 2 ≡ live
+unfolding table tables live route passingOf withholds keywordsOf pieces filled isSeparator
+spaces = refl
+
+-- only TTL and Hops are new
+on : passedOn (message (replicate 16 9) 0x80 3 1 (0 ∷ 0 ∷ 97 ∷ 0 ∷ [])) 27 1 2 ≡ message (replicate 16 9) 0x80 1 2 (0 ∷ 0 ∷ 97 ∷ 0 ∷ [])
+unfolding message
+on = refl
+
+own : drop 16 (ownBytes 7 (replicate 16 9) (97 ∷ [])) ≡ 0x80 ∷ 7 ∷ 0 ∷ 4 ∷ 0 ∷ 0 ∷ 0 ∷ 0 ∷ 0 ∷ 97 ∷ 0 ∷ []
+unfolding message
+own = refl

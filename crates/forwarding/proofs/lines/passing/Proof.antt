@@ -1,0 +1,103 @@
+use Prim.Native.Nat.{_-_}
+use mathlib.Core.Path.{_≡_, refl, sym, ap, _∙_}
+use native.Mathlib.Omega.{arith}
+use lib.ListN.{length, drop, length-take, length-drop}
+use Rattle.keywords.proofs.CutLaws.{cut-bounds}
+use Rattle.forwarding.specs.Passing.{passingOf}
+use Rattle.forwarding.proofs.LineLaws.{left-length, passing-on, passing-end}
+use borrow.Author.Needs.{needs}
+use Rattle.forwarding.proofs.lines.passing.Statement.{statement}
+use Rattle.forwarding.proofs.lines.passing.Tie as tie
+
+abbrev Inv-loop : tie.InvT-loop
+Inv-loop tables room route text ttl flags₀ rest₀ flags rest =
+    (length flags ≡ 8) × (passingOf flags tables room route rest ttl ≡ passingOf flags₀ tables room route text ttl)
+
+abbrev μ-loop : tie.MeasureT-loop
+μ-loop tables room route text ttl flags₀ rest₀ flags rest = length rest
+
+loop-holds : tie.Need-loop-holds Inv-loop μ-loop
+loop-holds c = (omega arith, refl)
+
+first-keyword-requires : tie.Need-first-keyword-requires Inv-loop μ-loop
+first-keyword-requires c κs = search needs
+
+returns : tie.Need-returns Inv-loop μ-loop
+returns c =
+    let x = c .before .before .before .before .before .args in
+    let l = c .before .before .loop in
+    let cut = c .before .first-keyword in
+    sym (passing-end (l .flags) (x .tables) (x .room) (x .route .now) (x .ttl) (l .rest .now) (cut .result) (cut .ensures) (l .inv .0) (c .if1 .taken))
+    ∙ l .inv .1
+
+sub-hash : tie.Need-sub-hash Inv-loop μ-loop
+sub-hash c = search needs
+
+part-hash-start : tie.Need-part-hash-start Inv-loop μ-loop
+part-hash-start c =
+    let h = cut-bounds (c .before .before .loop .rest .now) (c .before .first-keyword .result) (c .before .first-keyword .ensures) in
+    search needs
+
+part-hash-end : tie.Need-part-hash-end Inv-loop μ-loop
+part-hash-end c =
+    let h = cut-bounds (c .before .before .loop .rest .now) (c .before .first-keyword .result) (c .before .first-keyword .ensures) in
+    search needs
+
+hash-requires : tie.Need-hash-requires Inv-loop μ-loop
+hash-requires c κs = search needs
+
+left-by-requires : tie.Need-left-by-requires Inv-loop μ-loop
+left-by-requires c κs = search needs
+
+sub-rest : tie.Need-sub-rest Inv-loop μ-loop
+sub-rest c =
+    let h = cut-bounds (c .before .before .before .before .before .loop .rest .now) (c .before .before .before .before .first-keyword .result) (c .before .before .before .before .first-keyword .ensures) in
+    search needs
+
+part-rest-start : tie.Need-part-rest-start Inv-loop μ-loop
+part-rest-start c =
+    let h = cut-bounds (c .before .before .before .before .before .loop .rest .now) (c .before .before .before .before .first-keyword .result) (c .before .before .before .before .first-keyword .ensures) in
+    search needs
+
+part-rest-end : tie.Need-part-rest-end Inv-loop μ-loop
+part-rest-end c = search needs
+
+loop-less : tie.Need-loop-less Inv-loop μ-loop
+loop-less c =
+    let rest = c .before .before .before .before .before .before .loop .rest .now in
+    let cut = c .before .before .before .before .before .first-keyword in
+    let h = cut-bounds rest (cut .result) (cut .ensures) in
+    let l = c .before .before .before .before .if1 .left in
+    omega (arith, length-take (length rest - cut .result .end) (drop (cut .result .end) rest), length-drop (cut .result .end) rest)
+
+loop-again : tie.Need-loop-again Inv-loop μ-loop
+loop-again c =
+    let x = c .before .before .before .before .before .before .before .before .before .args in
+    let l = c .before .before .before .before .before .before .loop in
+    let cut = c .before .before .before .before .before .first-keyword in
+    let number = c .before .before .hash in
+    let left = c .before .left-by in (
+      ap length (left .ensures) ∙ left-length (l .flags) (x .tables) (x .room) (x .route .now) (x .ttl) (number .result),
+      passing-on (l .flags) (x .tables) (x .room) (x .route .now) (x .ttl) (l .rest .now) (cut .result) (cut .ensures) (c .before .before .before .before .if1 .left) (number .result) (number .ensures) (left .result) (left .ensures)
+          ∙ l .inv .1,
+    )
+
+pub passing-spec : {M : Type 1} → statement M
+passing-spec =
+    tie.close
+    (tie.spec
+    Inv-loop
+    μ-loop
+    loop-holds
+    first-keyword-requires
+    returns
+    sub-hash
+    part-hash-start
+    part-hash-end
+    hash-requires
+    left-by-requires
+    sub-rest
+    part-rest-start
+    part-rest-end
+    loop-less
+    loop-again)

@@ -1,0 +1,58 @@
+use mathlib.Core.Path.{_≡_}
+use mathlib.Core.Bool.{true}
+use lib.ListN.{length-set, length-take}
+use native.Mathlib.Omega.{arith}
+use borrow.Author.Tests.{lt-leb, le-leb}
+use Rattle.forwarding.specs.Messages.{passable}
+use Rattle.forwarding.proofs.MessageLaws.{passed-stored}
+use borrow.Author.Needs.{needs}
+use Rattle.forwarding.proofs.messages.pass_on.Statement.{statement}
+use Rattle.forwarding.proofs.messages.pass_on.Tie as tie
+
+returns : tie.Need-returns
+returns c = search (needs, lt-leb, le-leb)
+
+returns-2 : tie.Need-returns-2
+returns-2 c = search (needs, lt-leb, le-leb)
+
+returns-3 : tie.Need-returns-3
+returns-3 c = search (needs, lt-leb, le-leb)
+
+slice-aggregate-copy : tie.Need-slice-aggregate-copy
+slice-aggregate-copy c =
+    let x = c .before .before .before .before .before .before .args in
+    omega (arith, length-take (x .n) (x .m .now))
+
+copy-requires : tie.Need-copy-requires
+copy-requires c κs = simp length-take (omega arith)
+
+slice-write-out : tie.Need-slice-write-out
+slice-write-out c = search needs
+
+slice-write-out-2 : tie.Need-slice-write-out-2
+slice-write-out-2 c = simp length-set (omega arith)
+
+same-length : tie.Need-same-length
+same-length c = search needs
+
+returns-4 : tie.Need-returns-4
+returns-4 c =
+    let x = c .before .before .before .before .before .before .before .before .before .before .args in
+    let fits : passable (x .m .now) (x .n) (x .out .now) ≡ true = search (needs, le-leb) in (
+      rw fits,
+      rw fits (passed-stored (x .m .now) (x .out .now) _ (x .n) (x .ttl) (x .hops) (search needs) (search needs) (c .before .before .copy .ensures)),
+    )
+
+pub pass-on-spec : {M : Type 1} → statement M
+pass-on-spec =
+    tie.close
+    (tie.spec
+    returns
+    returns-2
+    returns-3
+    slice-aggregate-copy
+    copy-requires
+    slice-write-out
+    slice-write-out-2
+    same-length
+    returns-4)

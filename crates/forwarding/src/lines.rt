@@ -1,0 +1,97 @@
+// The lines that a query goes to.
+ghost use mathlib.Core.Path.{_≡_};
+ghost use mathlib.Core.Bool.{not, _&&_};
+ghost use Prim.Native.Nat.{min};
+ghost use Rattle.laws.specs.Tests.{any};
+ghost use Rattle.tables.specs.Tables.{heldIn};
+ghost use Rattle.forwarding.specs.Passing.{passingOf, stops, leftBy};
+use keywords::cut::first_keyword;
+use keywords::hash::hash;
+use tables::Table;
+use tables::admission::is_far;
+
+// The mark of a table that a whole run of updates has settled: no other withholds a query.
+const SETTLED: u8 = 3;
+
+// Whether a message goes to any line.
+pub fn any_line(to: [bool; 8]) -> bool
+    ensures { λ r. ⌜ r ≡ any (λ b. b) to ⌝ }
+{
+    let mut k = 0;
+    while k < 8 {
+        if to[k] {
+            return true;
+        }
+        k += 1;
+    }
+    false
+}
+
+fn smaller(a: usize, b: usize) -> usize
+    ensures { λ r. ⌜ r ≡ min a b ⌝ }
+{
+    if a <= b { a } else { b }
+}
+
+// Whether a line is left among those that a query may go to, by one more of its keywords.
+fn is_left(flag: bool, table: Table, part: &[u8], ttl: u8, hash: u32) -> bool
+    ensures { λ r. ⌜ r ≡ (flag && not (stops (heldIn table (now (part .entry))) ttl hash)) ⌝ }
+{
+    if !flag {
+        return false;
+    }
+    if table.mark != SETTLED {
+        return true;
+    }
+    !is_far(table, part, ttl, hash)
+}
+
+// The lines that one more keyword leaves. The parts of the area stand one after another; the last may be short or missing.
+fn left_by(
+    flags: [bool; 8],
+    tables: [Table; 8],
+    room: usize,
+    route: &[u8],
+    ttl: u8,
+    hash: u32,
+) -> [bool; 8]
+    ensures { λ r. ⌜ r ≡ leftBy flags tables room (now (route .entry)) ttl hash ⌝ }
+{
+    let mut left = flags;
+    let mut area = route;
+    let mut k = 0;
+    while k < 8 {
+        let n = smaller(room, area.len());
+        left[k] = is_left(flags[k], tables[k], &area[..n], ttl, hash);
+        area = &area[n..];
+        k += 1;
+    }
+    left
+}
+
+// For each line whether it is open and lets a query with this text pass that is sent with this TTL. Each keyword is cut and hashed once.
+pub fn passing(
+    live: [bool; 8],
+    tables: [Table; 8],
+    room: usize,
+    route: &[u8],
+    text: &[u8],
+    ttl: u8,
+) -> [bool; 8]
+    ensures { λ r. ⌜ r ≡ passingOf live tables room (now (route .entry)) (now (text .entry)) ttl ⌝ }
+{
+    let mut flags = live;
+    let mut rest = text;
+    loop {
+        let cut = first_keyword(rest);
+        let start = cut.start;
+        let end = cut.end;
+        if end <= start {
+            return flags;
+        }
+        let number = hash(&rest[start..end]);
+        let left = left_by(flags, tables, room, route, ttl, number);
+        flags = left;
+        rest = &rest[end..];
+    }
+}
