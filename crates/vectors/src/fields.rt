@@ -22,20 +22,51 @@ fn row(label: &[u8], name: &[u8], bytes: &[u8]) {
 }
 
 pub fn all() {
-    row(b"joined", b"A", b"GNUTELLA/0.6 200 OK\r\nA: x\r\nB: y\r\na: z\r\n w\r\n\r\n");
-    row(b"other", b"b", b"GNUTELLA/0.6 200 OK\r\nA: x\r\nB: y\r\na: z\r\n w\r\n\r\n");
+    row(
+        b"joined",
+        b"A",
+        b"GNUTELLA/0.6 200 OK\r\nA: x\r\nB: y\r\na: z\r\n w\r\n\r\n",
+    );
+    row(
+        b"other",
+        b"b",
+        b"GNUTELLA/0.6 200 OK\r\nA: x\r\nB: y\r\na: z\r\n w\r\n\r\n",
+    );
     row(b"absent", b"B", b"GNUTELLA/0.6 200 OK\r\nA: x\r\n\r\n");
     row(b"emptyname", b"", b"GNUTELLA/0.6 200 OK\r\nA: x\r\n\r\n");
     row(b"blanks", b"A", b"GNUTELLA/0.6 200 OK\r\nA:  \tx \r\n\r\n");
     row(b"empty", b"A", b"GNUTELLA/0.6 200 OK\r\nA:\r\n\r\n");
     row(b"goeson", b"A", b"GNUTELLA/0.6 200 OK\r\nA:\r\n x\r\n\r\n");
-    row(b"onlyblanks", b"A", b"GNUTELLA/0.6 200 OK\r\nA: x\r\n  \t\r\n\r\n");
-    row(b"twice", b"A", b"GNUTELLA/0.6 200 OK\r\nA: x\r\n y\r\n z\r\n\r\n");
+    row(
+        b"onlyblanks",
+        b"A",
+        b"GNUTELLA/0.6 200 OK\r\nA: x\r\n  \t\r\n\r\n",
+    );
+    row(
+        b"twice",
+        b"A",
+        b"GNUTELLA/0.6 200 OK\r\nA: x\r\n y\r\n z\r\n\r\n",
+    );
     row(b"colon", b"A", b"GNUTELLA/0.6 200 OK\r\nA: x:y\r\n\r\n");
     let mut exact = [0u8; 8];
-    row_in(b"exact", b"A", b"GNUTELLA/0.6 200 OK\r\nA: 12345678\r\n\r\n", &mut exact);
+    row_in(
+        b"exact",
+        b"A",
+        b"GNUTELLA/0.6 200 OK\r\nA: 12345678\r\n\r\n",
+        &mut exact,
+    );
     let mut short = [0u8; 7];
-    row_in(b"short", b"A", b"GNUTELLA/0.6 200 OK\r\nA: 12345678\r\n\r\n", &mut short);
-    row_in(b"shortabsent", b"B", b"GNUTELLA/0.6 200 OK\r\nA: 12345678\r\n\r\n", &mut short[..0]);
+    row_in(
+        b"short",
+        b"A",
+        b"GNUTELLA/0.6 200 OK\r\nA: 12345678\r\n\r\n",
+        &mut short,
+    );
+    row_in(
+        b"shortabsent",
+        b"B",
+        b"GNUTELLA/0.6 200 OK\r\nA: 12345678\r\n\r\n",
+        &mut short[..0],
+    );
     row(b"unread", b"A", b"GNUTELLA/0.6 200 OK\r\nA: x\r\nB\r\n\r\n");
 }

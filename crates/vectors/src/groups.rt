@@ -21,9 +21,18 @@ fn row(label: &[u8], bytes: &[u8]) {
 }
 
 fn starts() {
-    row(b"client", b"GNUTELLA CONNECT/0.6\r\nUser-Agent: BearShare/1.0\r\nPong-Caching: 0.1\r\nGGEP: 0.5\r\n\r\n");
-    row(b"server", b"GNUTELLA/0.6 200 OK\r\nUser-Agent: BearShare/1.0\r\nPong-Caching: 0.1\r\nGGEP: 0.5\r\nPrivate-Data: 5ef89a\r\n\r\n");
-    row(b"last", b"GNUTELLA/0.6 200 OK\r\nPrivate-Data: a04fce\r\n\r\n");
+    row(
+        b"client",
+        b"GNUTELLA CONNECT/0.6\r\nUser-Agent: BearShare/1.0\r\nPong-Caching: 0.1\r\nGGEP: 0.5\r\n\r\n",
+    );
+    row(
+        b"server",
+        b"GNUTELLA/0.6 200 OK\r\nUser-Agent: BearShare/1.0\r\nPong-Caching: 0.1\r\nGGEP: 0.5\r\nPrivate-Data: 5ef89a\r\n\r\n",
+    );
+    row(
+        b"last",
+        b"GNUTELLA/0.6 200 OK\r\nPrivate-Data: a04fce\r\n\r\n",
+    );
     row(b"behind", b"GNUTELLA/0.6 200 OK\r\n\r\nmore");
     row(b"nothing", b"");
     row(b"bare", b"\r\n");

@@ -49,28 +49,76 @@ fn row(label: &[u8], bytes: &[u8]) {
 }
 
 fn lists() {
-    row(b"two", b"GNUTELLA/0.6 503 Busy\r\nX-Try:1.2.3.4:1234,3.4.5.6:3456\r\n\r\n");
-    row(b"spaces", b"GNUTELLA/0.6 503 Busy\r\nX-Try: 1.2.3.4:1234, 3.4.5.6:3456\r\n\r\n");
-    row(b"comma", b"GNUTELLA/0.6 503 Busy\r\nX-Try: 1.2.3.4:1234,\r\n\r\n");
-    row(b"lines", b"GNUTELLA/0.6 503 Busy\r\nX-Try: 1.2.3.4:1234,\r\n 3.4.5.6:3456\r\nx-try: 5.6.7.8:1\r\n\r\n");
+    row(
+        b"two",
+        b"GNUTELLA/0.6 503 Busy\r\nX-Try:1.2.3.4:1234,3.4.5.6:3456\r\n\r\n",
+    );
+    row(
+        b"spaces",
+        b"GNUTELLA/0.6 503 Busy\r\nX-Try: 1.2.3.4:1234, 3.4.5.6:3456\r\n\r\n",
+    );
+    row(
+        b"comma",
+        b"GNUTELLA/0.6 503 Busy\r\nX-Try: 1.2.3.4:1234,\r\n\r\n",
+    );
+    row(
+        b"lines",
+        b"GNUTELLA/0.6 503 Busy\r\nX-Try: 1.2.3.4:1234,\r\n 3.4.5.6:3456\r\nx-try: 5.6.7.8:1\r\n\r\n",
+    );
     row(b"none", b"GNUTELLA/0.6 503 Busy\r\n\r\n");
     row(b"empty", b"GNUTELLA/0.6 503 Busy\r\nX-Try:\r\n\r\n");
-    row(b"commas", b"GNUTELLA/0.6 503 Busy\r\nX-Try: ,, ,1.2.3.4:5,,\r\n\r\n");
-    row(b"twospaces", b"GNUTELLA/0.6 503 Busy\r\nX-Try: 1.2.3.4:5,  3.4.5.6:7\r\n\r\n");
-    row(b"leading", b"GNUTELLA/0.6 503 Busy\r\nX-Try:\r\n 1.2.3.4:5\r\n\r\n");
+    row(
+        b"commas",
+        b"GNUTELLA/0.6 503 Busy\r\nX-Try: ,, ,1.2.3.4:5,,\r\n\r\n",
+    );
+    row(
+        b"twospaces",
+        b"GNUTELLA/0.6 503 Busy\r\nX-Try: 1.2.3.4:5,  3.4.5.6:7\r\n\r\n",
+    );
+    row(
+        b"leading",
+        b"GNUTELLA/0.6 503 Busy\r\nX-Try:\r\n 1.2.3.4:5\r\n\r\n",
+    );
 }
 
 fn numbers() {
-    row(b"port0", b"GNUTELLA/0.6 503 Busy\r\nX-Try: 1.2.3.4:0\r\n\r\n");
-    row(b"port65535", b"GNUTELLA/0.6 503 Busy\r\nX-Try: 1.2.3.4:65535\r\n\r\n");
-    row(b"port65536", b"GNUTELLA/0.6 503 Busy\r\nX-Try: 1.2.3.4:65536\r\n\r\n");
-    row(b"zeros", b"GNUTELLA/0.6 503 Busy\r\nX-Try: 01.002.3.4:00080\r\n\r\n");
-    row(b"octet256", b"GNUTELLA/0.6 503 Busy\r\nX-Try: 1.2.3.256:5\r\n\r\n");
-    row(b"digits4", b"GNUTELLA/0.6 503 Busy\r\nX-Try: 0001.2.3.4:5\r\n\r\n");
+    row(
+        b"port0",
+        b"GNUTELLA/0.6 503 Busy\r\nX-Try: 1.2.3.4:0\r\n\r\n",
+    );
+    row(
+        b"port65535",
+        b"GNUTELLA/0.6 503 Busy\r\nX-Try: 1.2.3.4:65535\r\n\r\n",
+    );
+    row(
+        b"port65536",
+        b"GNUTELLA/0.6 503 Busy\r\nX-Try: 1.2.3.4:65536\r\n\r\n",
+    );
+    row(
+        b"zeros",
+        b"GNUTELLA/0.6 503 Busy\r\nX-Try: 01.002.3.4:00080\r\n\r\n",
+    );
+    row(
+        b"octet256",
+        b"GNUTELLA/0.6 503 Busy\r\nX-Try: 1.2.3.256:5\r\n\r\n",
+    );
+    row(
+        b"digits4",
+        b"GNUTELLA/0.6 503 Busy\r\nX-Try: 0001.2.3.4:5\r\n\r\n",
+    );
     row(b"three", b"GNUTELLA/0.6 503 Busy\r\nX-Try: 1.2.3:5\r\n\r\n");
-    row(b"five", b"GNUTELLA/0.6 503 Busy\r\nX-Try: 1.2.3.4.5:6\r\n\r\n");
-    row(b"noport", b"GNUTELLA/0.6 503 Busy\r\nX-Try: 1.2.3.4\r\n\r\n");
-    row(b"more", b"GNUTELLA/0.6 503 Busy\r\nX-Try: 1.2.3.4:5x\r\n\r\n");
+    row(
+        b"five",
+        b"GNUTELLA/0.6 503 Busy\r\nX-Try: 1.2.3.4.5:6\r\n\r\n",
+    );
+    row(
+        b"noport",
+        b"GNUTELLA/0.6 503 Busy\r\nX-Try: 1.2.3.4\r\n\r\n",
+    );
+    row(
+        b"more",
+        b"GNUTELLA/0.6 503 Busy\r\nX-Try: 1.2.3.4:5x\r\n\r\n",
+    );
 }
 
 // n pairs `1.2.3.4:5` with commas, and then `last`, in a group.
@@ -147,7 +195,11 @@ fn writes() {
     ok(b"ok", &mut out);
     busy(b"busy", none(), &mut out);
     busy(b"busy1", one(pair(1, 2, 3, 4, 5)), &mut out);
-    busy(b"busy2", two(pair(1, 2, 3, 4, 65535), pair(255, 0, 10, 100, 80)), &mut out);
+    busy(
+        b"busy2",
+        two(pair(1, 2, 3, 4, 65535), pair(255, 0, 10, 100, 80)),
+        &mut out,
+    );
     busy(b"port0", one(pair(1, 2, 3, 4, 0)), &mut out);
     greeting(b"greetingshort", &mut out[..23]);
     ok(b"okshort", &mut out[..22]);
