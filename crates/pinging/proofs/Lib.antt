@@ -1,0 +1,7 @@
+-- The laws of pings and pongs.
+pub mod Ranks
+pub mod RingLaws
+pub mod WalkLaws
+pub mod SendLaws
+pub mod Joined
+pub mod Theorems

@@ -1,0 +1,73 @@
+-- Byte by byte.
+use native.Mathlib.Omega.{arith}
+use borrow.Author.Needs.{needs}
+use Rattle.pinging.proofs.SendLaws.{all-joined}
+use Rattle.pinging.proofs.messages.joined.Statement.{statement}
+use Rattle.pinging.proofs.messages.joined.Tie as tie
+
+array-read-t11 : tie.Need-array-read-t11
+array-read-t11 c = search needs
+
+array-read-t14 : tie.Need-array-read-t14
+array-read-t14 c = search needs
+
+array-read-t17 : tie.Need-array-read-t17
+array-read-t17 c = search needs
+
+array-read-t20 : tie.Need-array-read-t20
+array-read-t20 c = search needs
+
+array-read-t23 : tie.Need-array-read-t23
+array-read-t23 c = search needs
+
+array-read-t26 : tie.Need-array-read-t26
+array-read-t26 c = search needs
+
+array-read-t29 : tie.Need-array-read-t29
+array-read-t29 c = search needs
+
+array-read-t32 : tie.Need-array-read-t32
+array-read-t32 c = search needs
+
+array-read-t35 : tie.Need-array-read-t35
+array-read-t35 c = search needs
+
+array-read-t38 : tie.Need-array-read-t38
+array-read-t38 c = search needs
+
+array-read-t41 : tie.Need-array-read-t41
+array-read-t41 c = search needs
+
+array-read-t44 : tie.Need-array-read-t44
+array-read-t44 c = search needs
+
+array-read-t47 : tie.Need-array-read-t47
+array-read-t47 c = search needs
+
+array-read-t50 : tie.Need-array-read-t50
+array-read-t50 c = search needs
+
+returns : tie.Need-returns
+returns c =
+    let x = c .args in
+    all-joined (x .t1) (x .t2) (x .t3) (x .t4) (omega arith) (omega arith) (omega arith) (omega arith)
+
+pub joined-spec : {M : Type 1} → statement M
+joined-spec =
+    tie.close
+    (tie.spec
+    array-read-t11
+    array-read-t14
+    array-read-t17
+    array-read-t20
+    array-read-t23
+    array-read-t26
+    array-read-t29
+    array-read-t32
+    array-read-t35
+    array-read-t38
+    array-read-t41
+    array-read-t44
+    array-read-t47
+    array-read-t50
+    returns)

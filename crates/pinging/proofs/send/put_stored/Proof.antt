@@ -1,0 +1,114 @@
+-- What is left of the ten is written behind what has been written.
+use Prim.Native.Nat.{_-_, _%_}
+use native.Mathlib.Omega.{arith}
+use borrow.Author.Needs.{needs}
+use Rattle.pinging.proofs.SendLaws.{Left, left-start, left-turn, done-ten, done-all}
+use Rattle.pinging.proofs.send.put_stored.Statement.{statement}
+use Rattle.pinging.proofs.send.put_stored.Tie as tie
+
+abbrev Inv-loop : tie.InvT-loop
+Inv-loop line clock number ttl part₀ lines sent₀ i₀ part sent i = Left lines line clock number ttl sent i part part₀
+
+abbrev μ-loop : tie.MeasureT-loop
+μ-loop line clock number ttl part₀ lines sent₀ i₀ part sent i = 80 - i
+
+loop-holds : tie.Need-loop-holds Inv-loop μ-loop
+loop-holds c = left-start _ _ _ _ _ _
+
+mul-result : tie.Need-mul-result Inv-loop μ-loop
+mul-result c = search needs
+
+same-length : tie.Need-same-length Inv-loop μ-loop
+same-length c = c .before .before .loop .inv .long
+
+returns : tie.Need-returns Inv-loop μ-loop
+returns c =
+    let x = c .before .before .before .before .args in
+    let k = c .before .before .loop in
+    done-ten (x .t1) (x .line) (x .clock) (x .number) (x .ttl) (k .sent) (k .i) (k .part) (x .part .now) (k .inv) (c .if1 .taken)
+
+mul-x : tie.Need-mul-x Inv-loop μ-loop
+mul-x c = search needs
+
+array-copy-out-x : tie.Need-array-copy-out-x Inv-loop μ-loop
+array-copy-out-x c = search needs
+
+is-other-requires : tie.Need-is-other-requires Inv-loop μ-loop
+is-other-requires c κs = search needs
+
+mul-at : tie.Need-mul-at Inv-loop μ-loop
+mul-at c = search needs
+
+sub-put-turn : tie.Need-sub-put-turn Inv-loop μ-loop
+sub-put-turn c = search needs
+
+part-put-turn-start : tie.Need-part-put-turn-start Inv-loop μ-loop
+part-put-turn-start c = search needs
+
+part-put-turn-end : tie.Need-part-put-turn-end Inv-loop μ-loop
+part-put-turn-end c = search needs
+
+put-turn-requires : tie.Need-put-turn-requires Inv-loop μ-loop
+put-turn-requires c κs = search needs
+
+add-sent : tie.Need-add-sent Inv-loop μ-loop
+add-sent c = search needs
+
+add-i : tie.Need-add-i Inv-loop μ-loop
+add-i c = search needs
+
+loop-less : tie.Need-loop-less Inv-loop μ-loop
+loop-less c = search needs
+
+loop-again : tie.Need-loop-again Inv-loop μ-loop
+loop-again c =
+    let x = c .before .before .before .before .before .before .before .before .before .before .args in
+    let k = c .before .before .before .before .before .before .before .before .loop in
+    let t = c .before .before .put-turn in
+    left-turn (x .t1) (x .line) (x .clock) (x .number) (x .ttl) (k .sent) (k .i) (k .part) (x .part .now) (k .inv)
+    (c .before .before .before .before .is-other .result)
+    (t .result)
+    (t .last .1 .1 .1 .1 .1 .1 .0)
+    (c .before .before .before .before .is-other .ensures)
+    (omega arith)
+    (omega arith)
+    (omega arith)
+    (record { count = t .ensures .0; size = t .ensures .1 .1 .0; bytes = t .ensures .1 .1 .1 })
+
+mul-result-2 : tie.Need-mul-result-2 Inv-loop μ-loop
+mul-result-2 c = search needs
+
+same-length-2 : tie.Need-same-length-2 Inv-loop μ-loop
+same-length-2 c = c .before .loop .inv .long
+
+returns-2 : tie.Need-returns-2 Inv-loop μ-loop
+returns-2 c =
+    let x = c .before .before .before .args in
+    let k = c .before .loop in
+    done-all (x .t1) (x .line) (x .clock) (x .number) (x .ttl) (k .sent) (k .i) (k .part) (x .part .now) (k .inv) (c .loop-test .left)
+
+pub put-stored-spec : {M : Type 1} → statement M
+put-stored-spec =
+    tie.close
+    (tie.spec
+    Inv-loop
+    μ-loop
+    loop-holds
+    mul-result
+    same-length
+    returns
+    mul-x
+    array-copy-out-x
+    is-other-requires
+    mul-at
+    sub-put-turn
+    part-put-turn-start
+    part-put-turn-end
+    put-turn-requires
+    add-sent
+    add-i
+    loop-less
+    loop-again
+    mul-result-2
+    same-length-2
+    returns-2)

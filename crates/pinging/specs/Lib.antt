@@ -1,0 +1,3 @@
+-- Pings and pongs over plain values.
+pub mod Numbers
+pub mod Sending

@@ -1,0 +1,76 @@
+-- The pongs that answer a ping, over the eight lines and plain values: what crate protocol says of a state and a message. `proofs/Joined.antt`
+-- joins the two.
+use Prim.Native.Nat.{ℕ, zero, suc, _+_, _-_, min, max}
+use mathlib.Core.Bool.{Bool, true, false, cond, _&&_, _||_}
+use mathlib.Core.List.{List, [], _∷_, _++_, map}
+use lib.Dec.{leb, ltb}
+use lib.ListN.{getD, take, length}
+use Rattle.laws.specs.Ring.{ringFits}
+use Rattle.laws.specs.Tests.{all}
+use Rattle.wire.specs.Header.{message}
+use Rattle.protocol.specs.declared.Pong.{Pong}
+use Rattle.protocol.specs.declared.Line.{Line}
+use Rattle.protocol.specs.declared.Own.{Own}
+use Rattle.protocol.specs.Lines.{lineNumbers, isOther, nowhere, pongCapacity, storedPongs}
+use Rattle.protocol.specs.Pings.{pongType, ranked, keepIf, flat, isFresh, ownPong}
+
+-- the kept pongs have Hops of at most 7
+unfoldable pub lowHops : Line → Bool
+lowHops x = all (λ p. leb (p .hops) 7) (storedPongs x)
+
+-- the place of the pong of this rank in a ring of ten; 10 where the ring keeps none of that rank
+unfoldable pub placeOf : ℕ → ℕ → ℕ → ℕ
+placeOf next count rank =
+    cond (ringFits pongCapacity next count && ltb rank count)
+    (cond (ltb rank next) (next - 1 - rank) (next + 9 - rank))
+    pongCapacity
+
+-- the newest from each other line in line order, then the second newest from each, and so on
+unfoldable pub walkIn : List Line → ℕ → List Pong
+walkIn lines l =
+    flat
+    (map (λ r. flat (map (λ k. ranked r (storedPongs (getD lines k nowhere))) (keepIf (isOther l) lineNumbers)))
+    (0 ∷ 1 ∷ 2 ∷ 3 ∷ 4 ∷ 5 ∷ 6 ∷ 7 ∷ 8 ∷ 9 ∷ []))
+
+-- the first ten of them that are less than 15,000 ms old
+abbrev pub storedFor : List Line → ℕ → ℕ → List Pong
+storedFor lines l clock = take 10 (keepIf (isFresh clock) (walkIn lines l))
+
+-- a pong as a message: the ping's number, type 1, TTL and Hops
+abbrev pub pongMessage : List ℕ → ℕ → ℕ → List ℕ → List ℕ
+pongMessage number ttl hops bytes = message number pongType ttl hops bytes
+
+-- a stored pong goes out with Hops plus 1; Hops of 255, which no state in order stores, stay
+abbrev pub storedMessage : List ℕ → ℕ → Pong → List ℕ
+storedMessage number ttl p = pongMessage number ttl (min 255 (p .hops + 1)) (p .bytes)
+
+abbrev pub storedBytes : List ℕ → ℕ → List Pong → List ℕ
+storedBytes number ttl ps = flat (map (storedMessage number ttl) ps)
+
+-- one turn of the walk: the fresh pong of this rank, where the line is another than the ping's and has one
+abbrev pub turnOf : Bool → Line → ℕ → ℕ → List Pong
+turnOf other x rank clock = cond other (keepIf (isFresh clock) (ranked rank (storedPongs x))) []
+
+-- the own pong: to a probe always, else where the station takes calls
+abbrev pub ownBytes : Own → List ℕ → ℕ → Bool → List ℕ
+ownBytes own number ttl probe = cond (probe || own .calls) (pongMessage number ttl 0 (ownPong own)) []
+
+-- the own pong, and then, but for a probe, the stored ones; all with the larger of 1 and the ping's Hops as TTL
+unfoldable pub pongsFor : List Line → ℕ → ℕ → Own → List ℕ → ℕ → Bool → List ℕ
+pongsFor lines l clock own number hops probe =
+    ownBytes own number (max 1 hops) probe
+    ++ cond probe [] (storedBytes number (max 1 hops) (storedFor lines l clock))
+
+-- an output area of less than eleven pongs gets none
+abbrev pub pongsWritten : ℕ → List Line → ℕ → ℕ → Own → List ℕ → ℕ → Bool → List ℕ
+pongsWritten room lines l clock own number hops probe = cond (leb 407 room) (pongsFor lines l clock own number hops probe) []
+
+-- how many pongs that is
+abbrev pub ownCount : Own → Bool → ℕ
+ownCount own probe = cond (probe || own .calls) 1 0
+
+unfoldable pub pongCount : List Line → ℕ → ℕ → Own → Bool → ℕ
+pongCount lines l clock own probe = ownCount own probe + cond probe 0 (length (storedFor lines l clock))
+
+abbrev pub countWritten : ℕ → List Line → ℕ → ℕ → Own → Bool → ℕ
+countWritten room lines l clock own probe = cond (leb 407 room) (pongCount lines l clock own probe) 0

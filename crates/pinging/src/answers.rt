@@ -1,0 +1,46 @@
+// The ordered refusals of an arriving ping and of an arriving pong: document 01's number, 0 where nothing is refused.
+ghost use mathlib.Core.Path.{_≡_};
+ghost use Rattle.pinging.specs.Numbers.{probing, pingNumber, pongNumber};
+use crate::clock::elapsed_ms;
+
+// TTL 1 with Hops 0 or 1 asks this station alone.
+pub fn is_probe(ttl: u8, hops: u8) -> bool
+    ensures { λ r. ⌜ r ≡ probing ttl hops ⌝ }
+{
+    if ttl == 1 { hops <= 1 } else { false }
+}
+
+// A ping: TTL 0 is 8; one that is no probe is 13 less than a second after the last accepted one of its line.
+pub fn ping_answer(pinged: bool, pingtime: u32, clock: u32, ttl: u8, hops: u8) -> u8
+    ensures { λ r. ⌜ r ≡ pingNumber pinged pingtime clock ttl hops ⌝ }
+{
+    if ttl == 0 {
+        return 8;
+    }
+    if is_probe(ttl, hops) {
+        return 0;
+    }
+    if !pinged {
+        return 0;
+    }
+    if elapsed_ms(clock, pingtime) < 1000 {
+        return 13;
+    }
+    0
+}
+
+// A pong: a payload of less than 14 bytes is 6; TTL 0 or Hops over 7 is 8.
+pub fn pong_answer(size: u32, ttl: u8, hops: u8) -> u8
+    ensures { λ r. ⌜ r ≡ pongNumber size ttl hops ⌝ }
+{
+    if size < 14 {
+        return 6;
+    }
+    if ttl == 0 {
+        return 8;
+    }
+    if 7 < hops {
+        return 8;
+    }
+    0
+}

@@ -1,0 +1,62 @@
+// Whether a line is in order, as document 01 has it in "In order".
+ghost use mathlib.Core.Path.{_≡_};
+ghost use Prim.Native.Nat.{_≤_, _<_};
+ghost use Rattle.protocol.specs.Order.{emptyWhenClosed, lineInOrder};
+ghost use Rattle.pinging.specs.Sending.{lowHops};
+use crate::ring::place_before;
+use protocol::Line;
+
+// A closed line has no table, pongs or ping time.
+fn empty_when_closed(x: Line) -> bool
+    ensures { λ r. ⌜ r ≡ emptyWhenClosed x ⌝ }
+{
+    let table = x.table;
+    if x.live {
+        return true;
+    }
+    if table.mark != 0 {
+        return false;
+    }
+    if x.pongcount != 0 {
+        return false;
+    }
+    !x.pinged
+}
+
+// The Hops of each kept pong are at most 7.
+fn low_hops(x: Line) -> bool
+    requires { ⌜ (x .pongcount ≤ 10) × (x .pongnext < 10) ⌝ }
+    ensures { λ r. ⌜ r ≡ lowHops x ⌝ }
+{
+    let count = x.pongcount;
+    let mut place = x.pongnext;
+    let mut i = 0;
+    while i < count {
+        place = place_before(place);
+        let pong = x.pongs[place];
+        if 7 < pong.hops {
+            return false;
+        }
+        i += 1;
+    }
+    true
+}
+
+// The line is in order, with room for this many entries of its table.
+pub fn line_in_order(x: Line, room: usize) -> bool
+    ensures { λ r. ⌜ r ≡ lineInOrder room x ⌝ }
+{
+    if !empty_when_closed(x) {
+        return false;
+    }
+    if 10 < x.pongcount {
+        return false;
+    }
+    if 10 <= x.pongnext {
+        return false;
+    }
+    if !low_hops(x) {
+        return false;
+    }
+    tables::order::in_order(x.table, room)
+}

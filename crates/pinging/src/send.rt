@@ -1,0 +1,137 @@
+// The pongs that answer a ping: this station's own, and up to ten stored ones of the other lines.
+ghost use mathlib.Core.Path.{_≡_};
+ghost use mathlib.Core.Bool.{_||_};
+ghost use Prim.Native.Nat.{_*_, _≤_};
+ghost use lib.ListN.{length};
+ghost use Rattle.laws.specs.Parts.{over};
+ghost use Rattle.protocol.specs.Lines.{isOther};
+ghost use Rattle.pinging.specs.Sending.{ownBytes, turnOf, storedBytes, storedFor, pongsWritten, ownCount, countWritten};
+use crate::clock::elapsed_ms;
+use crate::messages::one_hop_more;
+use crate::messages::own_payload;
+use crate::messages::pong_ttl;
+use crate::messages::put_pong;
+use crate::ring::place_of;
+use protocol::Line;
+use protocol::Own;
+
+// The line is another than the ping's.
+fn is_other(line: u32, k: usize) -> bool
+    ensures { λ r. ⌜ r ≡ isOther line k ⌝ }
+{
+    k != line as usize
+}
+
+// The own pong goes to a probe always, else where the station takes calls.
+fn speaks(probe: bool, calls: bool) -> bool
+    ensures { λ r. ⌜ r ≡ (probe || calls) ⌝ }
+{
+    if probe { true } else { calls }
+}
+
+// The own pong at the front of the part, if it is sent; how many bytes.
+fn put_own(own: Own, number: [u8; 16], ttl: u8, probe: bool, part: &mut [u8]) -> usize
+    requires { ⌜ 37 ≤ length (now part) ⌝ }
+    ensures size { λ r. ⌜ r ≡ length (ownBytes own number ttl probe) ⌝ }
+    ensures room { λ r. ⌜ r ≤ 37 ⌝ }
+    ensures count { λ r. ⌜ r ≡ 37 * ownCount own probe ⌝ }
+    ensures bytes { λ _. ⌜ now (part .exit) ≡ over 0 (ownBytes own number ttl probe) (now (part .entry)) ⌝ }
+{
+    if !speaks(probe, own.calls) {
+        return 0;
+    }
+    let payload = own_payload(own);
+    put_pong(number, ttl, 0, payload, part)
+}
+
+// The pong of this rank at the front of the part, if the line is another than the ping's and has a fresh one; how many were put.
+fn put_turn(
+    x: Line,
+    other: bool,
+    rank: usize,
+    clock: u32,
+    number: [u8; 16],
+    ttl: u8,
+    part: &mut [u8],
+) -> usize
+    requires { ⌜ 37 ≤ length (now part) ⌝ }
+    ensures count { λ r. ⌜ r ≡ length (turnOf other x rank clock) ⌝ }
+    ensures few { λ r. ⌜ r ≤ 1 ⌝ }
+    ensures size { λ r. ⌜ 37 * r ≡ length (storedBytes number ttl (turnOf other x rank clock)) ⌝ }
+    ensures bytes { λ _. ⌜ now (part .exit) ≡ over 0 (storedBytes number ttl (turnOf other x rank clock)) (now (part .entry)) ⌝ }
+{
+    if !other {
+        return 0;
+    }
+    let place = place_of(x.pongnext, x.pongcount, rank);
+    if 10 <= place {
+        return 0;
+    }
+    let pong = x.pongs[place];
+    if 15000 <= elapsed_ms(clock, pong.clock) {
+        return 0;
+    }
+    let bytes = pong.bytes;
+    put_pong(number, ttl, one_hop_more(pong.hops), bytes, part);
+    1
+}
+
+// The stored pongs at the front of the part: rank by rank, and within a rank line by line, until ten have been put; how many bytes.
+fn put_stored(
+    lines: [Line; 8],
+    line: u32,
+    clock: u32,
+    number: [u8; 16],
+    ttl: u8,
+    part: &mut [u8],
+) -> usize
+    requires { ⌜ 370 ≤ length (now part) ⌝ }
+    ensures size { λ r. ⌜ r ≡ length (storedBytes number ttl (storedFor lines line clock)) ⌝ }
+    ensures room { λ r. ⌜ r ≤ 370 ⌝ }
+    ensures count { λ r. ⌜ r ≡ 37 * length (storedFor lines line clock) ⌝ }
+    ensures bytes { λ _. ⌜ now (part .exit) ≡ over 0 (storedBytes number ttl (storedFor lines line clock)) (now (part .entry)) ⌝ }
+{
+    let mut sent = 0;
+    let mut i = 0;
+    while i < 80 {
+        if 10 <= sent {
+            return 37 * sent;
+        }
+        let k = i % 8;
+        let x = lines[k];
+        let other = is_other(line, k);
+        let at = 37 * sent;
+        let put = put_turn(x, other, i / 8, clock, number, ttl, &mut part[at..]);
+        sent += put;
+        i += 1;
+    }
+    37 * sent
+}
+
+// The pongs that answer a ping of this number and Hops from `line`, one message after another at the front of `out`; how many bytes. A
+// probe gets the own pong alone. An output area of less than 407 bytes, eleven pongs, gets nothing.
+pub fn send_pongs(
+    lines: [Line; 8],
+    line: u32,
+    clock: u32,
+    own: Own,
+    number: [u8; 16],
+    hops: u8,
+    probe: bool,
+    out: &mut [u8],
+) -> usize
+    ensures size { λ r. ⌜ r ≡ length (pongsWritten (length (now (out .entry))) lines line clock own number hops probe) ⌝ }
+    ensures count { λ r. ⌜ r ≡ 37 * countWritten (length (now (out .entry))) lines line clock own probe ⌝ }
+    ensures bytes { λ _. ⌜ now (out .exit) ≡ over 0 (pongsWritten (length (now (out .entry))) lines line clock own number hops probe) (now (out .entry)) ⌝ }
+{
+    if out.len() < 407 {
+        return 0;
+    }
+    let ttl = pong_ttl(hops);
+    let first = put_own(own, number, ttl, probe, &mut *out);
+    if probe {
+        return first;
+    }
+    let rest = put_stored(lines, line, clock, number, ttl, &mut out[first..]);
+    first + rest
+}
