@@ -12,7 +12,9 @@ use lib.ListN.{length, getD, take, drop, length-take, length-drop, drop-of-lengt
 use lib.Seq.{drop-cons, drop-drop}
 use borrow.Author.Tests.{lt-ltb, le-ltb}
 use Rattle.laws.specs.Tests.{any, all}
-use Rattle.keywords.specs.Keywords.{isSeparator, lower, onto, filled, leading, matching, pieces, startBy, endBy, keywordsOf, cutStart, cutEnd, keywordAt, textBehind}
+use Rattle.laws.proofs.Parts.{part-tail}
+use Rattle.keywords.specs.declared.cut.Cut.{Cut}
+use Rattle.keywords.specs.Keywords.{isSeparator, lower, onto, filled, leading, matching, pieces, startBy, endBy, keywordsOf, cutStart, cutEnd, cutOf, keywordAt, textBehind}
 use Rattle.keywords.specs.Hash.{hashOf}
 use Rattle.keywords.proofs.HashLaws.{hash-lower}
 
@@ -169,9 +171,9 @@ cut-empty text = (keywords-none text, λ e. by e (decLe (suc (cutStart text)) (c
     by e (no h) = omega arith
 
 -- one step of a loop over the keywords, seen through any function of them
-keywords-step : {B : Type 0} (g : List (List ℕ) → B) (text : List ℕ)
+pub keywords-step : {B : Type 0} (g : List (List ℕ) → B) (text : List ℕ)
     → g (keywordsOf text) ≡ cond (ltb (cutStart text) (cutEnd text)) (g (map lower (keywordAt text) ∷ keywordsOf (textBehind text))) (g [])
-keywords-step {B} g text = by (decLe (suc (cutStart text)) (cutEnd text))
+keywords-step g text = by (decLe (suc (cutStart text)) (cutEnd text))
   where
     by : Dec (cutStart text < cutEnd text)
         → g (keywordsOf text) ≡ cond (ltb (cutStart text) (cutEnd text)) (g (map lower (keywordAt text) ∷ keywordsOf (textBehind text))) (g [])
@@ -194,6 +196,29 @@ module _ (f : ℕ → Bool) where
   all-step text =
       keywords-step (all test) text
       ∙ ap (λ (h : ℕ). cond (ltb (cutStart text) (cutEnd text)) (f h && all test (keywordsOf (textBehind text))) true) (hash-lower (keywordAt text))
+
+-- ---- a loop over the keywords, in the terms of its code: `cut` is what the cutter gave of `text`
+
+module _ (text : List ℕ) (c : Cut) (e : c ≡ cutOf text) where
+  pub cut-bounds : (c .start ≤ c .end) × (c .end ≤ length text)
+  cut-bounds = rw e (cut-within text)
+
+  -- the keyword is `&text[start..end]`, and the loop goes on with `&text[end..]`
+  pub cut-found : c .start < c .end
+      → keywordsOf text ≡ map lower (take (c .end - c .start) (drop (c .start) text)) ∷ keywordsOf (take (length text - c .end) (drop (c .end) text))
+  cut-found h =
+      rw e (keywords-cut text (rw e at h) ∙ ap (λ (r : List ℕ). map lower (keywordAt text) ∷ keywordsOf r) (sym (part-tail (cutEnd text) text)))
+
+  pub cut-done : c .end ≤ c .start → keywordsOf text ≡ []
+  cut-done h = let g = rw e at h in keywords-none text (omega arith)
+
+  module _ (f : ℕ → Bool) where
+    pub any-found : c .start < c .end → any (λ k. f (hashOf k)) (keywordsOf text)
+        ≡ (f (hashOf (take (c .end - c .start) (drop (c .start) text))) || any (λ k. f (hashOf k)) (keywordsOf (take (length text - c .end) (drop (c .end) text))))
+    any-found h = rw (cut-found h, hash-lower)
+
+    pub any-done : c .end ≤ c .start → any (λ k. f (hashOf k)) (keywordsOf text) ≡ false
+    any-done h = rw (cut-done h)
 
 -- ---- what the code tests
 

@@ -1,7 +1,14 @@
 -- Facts on lists and numbers that several crates cite.
 pub mod Bits
+pub mod Over
 pub mod Parts
 pub mod Writing
 pub mod Chunks
 pub mod Text
 pub mod Decimal
+pub mod Refusals
+pub mod Overlay
+pub mod Rings
+pub mod RingScan
+pub mod InPlace
+pub mod Truth

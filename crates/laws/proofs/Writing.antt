@@ -3,11 +3,12 @@ use Prim.Native.Nat.{ℕ, zero, suc, _+_, _*_, _-_, _≤_, _<_, min}
 use mathlib.Core.Path.{_≡_, refl, sym, ap, ap₂, _∙_}
 use mathlib.Core.Bool.{Bool, true, false, _&&_, _||_}
 use mathlib.Core.List.{List, [], _∷_, _++_, append-assoc}
-use native.Mathlib.Nat.{zero-add}
+use native.Mathlib.Nat.{zero-add, min-eq-left}
 use native.Mathlib.Numerals.{add-one}
 use native.Mathlib.Omega.{arith}
-use lib.ListN.{length, getD, take, drop, set, length-append, length-take, length-drop, take-append-drop}
-use lib.Seq.{sets, sets-eq, set-at, drop-cons, take-suc, append-snoc, drop-drop, drop-append-le, take-at, drop-append-add, length-take-le}
+use native.Mathlib.Decide.{decLe}
+use lib.ListN.{length, getD, take, drop, set, length-append, length-take, length-drop, take-append-drop, drop-of-length-le}
+use lib.Seq.{sets, sets-eq, set-at, drop-cons, take-suc, append-snoc, drop-drop, drop-append-le, take-at, take-all, take-add, take-append-seam, drop-append-seam, drop-append-add, length-take-le}
 use borrow.Rule.Slice.PartMut.{putMid}
 use Rattle.laws.specs.Tests.{any, all}
 use Rattle.laws.specs.Bytes.{little, littleBytes}
@@ -63,13 +64,55 @@ lent-part from k bs area left h g e =
     ∙ ap (drop (length bs)) (take-append-drop k (drop from area))
     ∙ drop-drop (length bs) from area))
 
--- a test of every element, or of some, from element i on
-module _ (f : ℕ → Bool) (l : List ℕ) (i : ℕ) (h : i < length l) where
-  pub all-next : all f (drop i l) ≡ f (getD l i 0) && all f (drop (i + 1) l)
-  all-next = ap (all f) (drop-cons l i 0 h) ∙ ap (λ n. f (getD l i 0) && all f (drop n l)) (sym (add-one i))
+-- no more than there is
+module _ (k n : ℕ) (l : List ℕ) (e : n ≡ min k (length l)) where
+  pub take-min : take n l ≡ take k l
+  take-min = go (decLe k (length l))
+    where
+      go : Dec (k ≤ length l) → take n l ≡ take k l
+      go (yes h) = ap (λ x. take x l) (e ∙ min-eq-left h)
+      go (no h) = take-all n l (omega arith) ∙ sym (take-all k l (omega arith))
 
-  pub any-next : any f (drop i l) ≡ f (getD l i 0) || any f (drop (i + 1) l)
-  any-next = ap (any f) (drop-cons l i 0 h) ∙ ap (λ n. f (getD l i 0) || any f (drop n l)) (sym (add-one i))
+  pub drop-min : drop n l ≡ drop k l
+  drop-min = go (decLe k (length l))
+    where
+      go : Dec (k ≤ length l) → drop n l ≡ drop k l
+      go (yes h) = ap (λ x. drop x l) (e ∙ min-eq-left h)
+      go (no h) = drop-of-length-le l {i = n} (omega arith) ∙ sym (drop-of-length-le l {i = k} (omega arith))
+
+-- what comes at a place of a list: what stands up to its end, and behind it
+module _ (at : ℕ) (l m rest : List ℕ) (e : drop at l ≡ m ++ rest) where
+  pub take-through : take (at + length m) l ≡ take at l ++ m
+  take-through = take-add at (length m) l ∙ ap (λ x. take at l ++ x) (ap (take (length m)) e ∙ take-append-seam m rest)
+
+  pub drop-through : drop (at + length m) l ≡ rest
+  drop-through = sym (drop-drop (length m) at l) ∙ ap (drop (length m)) e ∙ drop-append-seam m rest
+
+-- a test of every element, or of some, from element i on: the element decides, or the test goes on, or there is none left
+module _ (f : ℕ → Bool) (l : List ℕ) (i : ℕ) where
+  all-next : i < length l → all f (drop i l) ≡ f (getD l i 0) && all f (drop (i + 1) l)
+  all-next h = ap (all f) (drop-cons l i 0 h) ∙ ap (λ n. f (getD l i 0) && all f (drop n l)) (sym (add-one i))
+
+  any-next : i < length l → any f (drop i l) ≡ f (getD l i 0) || any f (drop (i + 1) l)
+  any-next h = ap (any f) (drop-cons l i 0 h) ∙ ap (λ n. f (getD l i 0) || any f (drop n l)) (sym (add-one i))
+
+  pub all-stop : i < length l → f (getD l i 0) ≡ false → all f (drop i l) ≡ false
+  all-stop h e = all-next h ∙ ap (λ b. b && all f (drop (i + 1) l)) e
+
+  pub all-on : i < length l → f (getD l i 0) ≡ true → all f (drop i l) ≡ all f (drop (i + 1) l)
+  all-on h e = all-next h ∙ ap (λ b. b && all f (drop (i + 1) l)) e
+
+  pub all-end : length l ≤ i → all f (drop i l) ≡ true
+  all-end h = ap (all f) (drop-of-length-le l h)
+
+  pub any-stop : i < length l → f (getD l i 0) ≡ true → any f (drop i l) ≡ true
+  any-stop h e = any-next h ∙ ap (λ b. b || any f (drop (i + 1) l)) e
+
+  pub any-on : i < length l → f (getD l i 0) ≡ false → any f (drop i l) ≡ any f (drop (i + 1) l)
+  any-on h e = any-next h ∙ ap (λ b. b || any f (drop (i + 1) l)) e
+
+  pub any-end : length l ≤ i → any f (drop i l) ≡ false
+  any-end h = ap (any f) (drop-of-length-le l h)
 
 -- the first four bytes as a number; a byte that is not there counts 0
 pub little-four : (b : List ℕ) → little (take 4 b) ≡ getD b 0 0 + 256 * (getD b 1 0 + 256 * (getD b 2 0 + 256 * getD b 3 0))

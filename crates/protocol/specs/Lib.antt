@@ -12,3 +12,5 @@ pub mod Expected
 pub mod History
 pub mod Demand3
 pub mod Demand2
+pub mod Periods
+pub mod Kept

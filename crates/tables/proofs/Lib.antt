@@ -1,2 +1,9 @@
+pub mod TestLaws
+pub mod NumberLaws
+pub mod FieldLaws
+pub mod TurnLaws
+pub mod UpdateLaws
+pub mod AdmissionLaws
+pub mod KeepLaws
 pub mod Vectors
 pub mod PatchFacts

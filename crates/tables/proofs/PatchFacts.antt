@@ -13,6 +13,8 @@ use borrow.Author.Tests.{ltb-true, ltb-false, leb-true, lt-ltb, le-ltb, le-leb}
 use lib.ListN.{length, getD, take, drop, length-append, length-take, length-drop, take-append-drop}
 use lib.Seq.{length-take-le, drop-drop}
 use Rattle.laws.proofs.Chunks.{Each, and-both, and-first, and-second, take-past, drop-past}
+use Rattle.tables.specs.Tables.{Held}
+use Rattle.tables.specs.Updates.{bitsIn, numbersIn, inRange, patchBy}
 use Rattle.tables.specs.Patch.{numbers, numberCount, packed, half, gain, loss, sumOf, fits, added, allFit}
 
 -- the two widths of a number
@@ -114,6 +116,19 @@ packed-read eight [] h = refl
 packed-read eight (b ∷ []) h = refl
 packed-read eight (b ∷ c ∷ d) h = ap (λ (r : List ℕ). b ∷ r) (packed-read eight (c ∷ d) (h .1))
 
+-- numbers in range are packed to bytes
+pub packed-bytes : {bits : ℕ} → Width bits → (ns : List ℕ) → Below (2 ^ bits) ns → Below 256 (packed bits ns)
+unfolding packed
+packed-bytes four [] h = tt
+packed-bytes four (u ∷ []) h = tt
+packed-bytes four (u ∷ v ∷ ns) h =
+    let high : u < 16 = h .0 in
+    let low : v < 16 = h .1 .0 in
+    (omega arith, packed-bytes four ns (h .1 .1))
+packed-bytes eight [] h = tt
+packed-bytes eight (u ∷ []) h = h
+packed-bytes eight (u ∷ v ∷ ns) h = (h .0, packed-bytes eight (v ∷ ns) (h .1))
+
 -- the numbers of joined data are the numbers of each, joined
 pub numbers-append : {bits : ℕ} → Width bits → (d e : List ℕ) → numbers bits (d ++ e) ≡ numbers bits d ++ numbers bits e
 unfolding numbers
@@ -167,6 +182,15 @@ addedAt bits at vs es = take at es ++ added bits vs (drop at es)
 
 abbrev pub fitAt : ℕ → ℕ → ℕ → List ℕ → List ℕ → Bool
 fitAt bits infinity at vs es = allFit bits infinity vs (drop at es)
+
+-- .. as an accepted PATCH adds them and as they are tested
+pub patched : (h : Held) (p : List ℕ) → patchBy h p .entries ≡ addedAt (bitsIn p) (h .table .at) (numbersIn p) (h .entries)
+unfolding patchBy
+patched h p = refl
+
+pub tested : (h : Held) (p : List ℕ) → inRange h p ≡ fitAt (bitsIn p) (h .table .infinity) (h .table .at) (numbersIn p) (h .entries)
+unfolding inRange
+tested h p = refl
 
 unfoldable pub addedRun : ℕ → ℕ → List (List ℕ) → List ℕ → List ℕ
 addedRun bits at [] es = es

@@ -1,8 +1,12 @@
 -- The numbers of a PATCH, over the bits of a number: 4 or 8.
-use Prim.Native.Nat.{ℕ, zero, suc, _+_, _-_, _*_, _/_, _%_, _^_}
-use mathlib.Core.Bool.{Bool, true, false, cond, _&&_}
-use mathlib.Core.List.{List, [], _∷_, _++_}
+use Prim.Native.Nat.{ℕ, _+_, _-_, _*_, _/_, _%_, _^_}
+use mathlib.Core.Bool.{Bool, true, false, cond, _&&_, _||_}
+use mathlib.Core.List.{List, [], _∷_}
 use lib.Dec.{eqb, leb, ltb}
+
+-- how many bits a number of a PATCH may have
+abbrev pub goodBits : ℕ → Bool
+goodBits bits = eqb bits 4 || eqb bits 8
 
 -- the raw numbers of some data, each of `bits` bits: the first four bits of a byte come first
 unfoldable pub numbers : ℕ → List ℕ → List ℕ

@@ -1,11 +1,12 @@
 -- A route table with its entries, its marks, and when it is in order.
-use Prim.Native.Nat.{ℕ, _+_}
-use mathlib.Core.Bool.{Bool, true, false, cond, not, _&&_, _||_}
+use Prim.Native.Nat.{ℕ}
+use mathlib.Core.Bool.{Bool, cond, not, _&&_, _||_}
 use mathlib.Core.List.{List, [], _∷_}
-use lib.Dec.{eqb, leb, ltb}
+use lib.Dec.{eqb, leb}
 use lib.ListN.{length, take}
-use Rattle.laws.specs.Tests.{any, every}
+use Rattle.laws.specs.Tests.{any, every, all}
 use Rattle.tables.specs.declared.Table.{Table}
+use Rattle.tables.specs.Patch.{goodBits}
 
 -- document 01's marks: none, waiting, running, settled, broken
 abbrev pub none : ℕ
@@ -36,6 +37,10 @@ heldIn t part = record { table = t; entries = take (t .length) part }
 abbrev pub noTable : Table
 noTable = record { mark = none; length = 0; infinity = 0; place = 0; size = 0; bits = 0; at = 0 }
 
+-- a table between runs: place 1 and the first entry are next
+abbrev pub atRest : ℕ → ℕ → ℕ → Table
+atRest k n i = record { mark = k; length = n; infinity = i; place = 1; size = 0; bits = 0; at = 0 }
+
 -- only the mark is another
 abbrev pub marked : ℕ → Table → Table
 marked k t = record { mark = k; length = t .length; infinity = t .infinity; place = t .place; size = t .size; bits = t .bits; at = t .at }
@@ -57,7 +62,7 @@ ready k = eqb k waiting || (eqb k running || eqb k settled)
 
 -- the run position: inside a run the next place, the run's size and bits and the next entry; else place 1 and entry 0 are next
 abbrev pub insideRun : Table → Bool
-insideRun t = every (leb 2 (t .place) ∷ leb (t .place) (t .size) ∷ (eqb (t .bits) 4 || eqb (t .bits) 8) ∷ leb (t .at) (t .length) ∷ [])
+insideRun t = every (leb 2 (t .place) ∷ leb (t .place) (t .size) ∷ goodBits (t .bits) ∷ leb (t .at) (t .length) ∷ [])
 
 abbrev pub betweenRuns : Table → Bool
 betweenRuns t = eqb (t .place) 1 && eqb (t .at) 0
@@ -75,3 +80,11 @@ withinLimits room t =
 -- document 01, "In order", for a table: a mark among the five, and within the limits where the mark is waiting, running or settled
 unfoldable pub tableInOrder : ℕ → Table → Bool
 tableInOrder room t = leb (t .mark) broken && (not (ready (t .mark)) || withinLimits room t)
+
+-- an entry in 1..Infinity
+abbrev pub inBounds : ℕ → ℕ → Bool
+inBounds infinity e = leb 1 e && leb e infinity
+
+-- entries in 1..Infinity, where the mark is waiting, running or settled
+unfoldable pub entriesInBounds : Held → Bool
+entriesInBounds h = not (ready (h .table .mark)) || all (inBounds (h .table .infinity)) (h .entries)

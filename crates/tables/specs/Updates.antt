@@ -10,8 +10,8 @@ use Rattle.laws.specs.Bytes.{little}
 use Rattle.laws.specs.Parts.{over}
 use Rattle.tables.specs.declared.Table.{Table}
 use Rattle.tables.specs.declared.Updated.{Updated}
-use Rattle.tables.specs.Patch.{numbers, added, allFit}
-use Rattle.tables.specs.Tables.{Held, heldIn, marked, waiting, running, settled, broken, goodLength, goodInfinity, ready}
+use Rattle.tables.specs.Patch.{goodBits, numbers, added, allFit}
+use Rattle.tables.specs.Tables.{Held, atRest, marked, waiting, running, settled, broken, goodLength, goodInfinity, ready}
 
 -- RESET: 00, length (4 bytes), Infinity
 abbrev pub lengthIn : List ℕ → ℕ
@@ -38,38 +38,44 @@ abbrev pub isLast : List ℕ → Bool
 isLast p = eqb (placeIn p) (sizeIn p)
 
 -- a RESET as it must be: exactly 6 bytes, a length within the room, an Infinity of 2 to 127
-unfoldable pub goodReset : ℕ → List ℕ → Bool
-goodReset room p =
-    every
-    (eqb (length p) 6
+abbrev pub resetTests : ℕ → List ℕ → List Bool
+resetTests room p =
+    eqb (length p) 6
     ∷ eqb (getD p 0 0) 0
     ∷ goodLength (lengthIn p)
     ∷ leb (lengthIn p) room
     ∷ goodInfinity (infinityIn p)
-    ∷ [])
+    ∷ []
+
+unfoldable pub goodReset : ℕ → List ℕ → Bool
+goodReset room p = every (resetTests room p)
 
 -- a PATCH as it must be: places 1 to size, compressor 0, bits 4 or 8
-unfoldable pub goodPatch : List ℕ → Bool
-goodPatch p =
-    every
-    (leb 5 (length p)
+abbrev pub patchTests : List ℕ → List Bool
+patchTests p =
+    leb 5 (length p)
     ∷ eqb (getD p 0 0) 1
     ∷ leb 1 (placeIn p)
     ∷ leb (placeIn p) (sizeIn p)
     ∷ eqb (getD p 3 0) 0
-    ∷ (eqb (bitsIn p) 4 || eqb (bitsIn p) 8)
-    ∷ [])
+    ∷ goodBits (bitsIn p)
+    ∷ []
+
+unfoldable pub goodPatch : List ℕ → Bool
+goodPatch p = every (patchTests p)
 
 -- a PATCH in turn: a table to add to, the place awaited, size and bits as the run's first, no data past the table's end, and none left over after the last
-unfoldable pub inTurn : Held → List ℕ → Bool
-inTurn h p =
-    every
-    (ready (h .table .mark)
+abbrev pub turnTests : Held → List ℕ → List Bool
+turnTests h p =
+    ready (h .table .mark)
     ∷ eqb (placeIn p) (h .table .place)
     ∷ (not (eqb (h .table .mark) running) || (eqb (sizeIn p) (h .table .size) && eqb (bitsIn p) (h .table .bits)))
     ∷ leb (h .table .at + length (numbersIn p)) (length (h .entries))
     ∷ (not (isLast p) || eqb (h .table .at + length (numbersIn p)) (length (h .entries)))
-    ∷ [])
+    ∷ []
+
+unfoldable pub inTurn : Held → List ℕ → Bool
+inTurn h p = every (turnTests h p)
 
 -- every entry that the data covers stays in 1..Infinity
 unfoldable pub inRange : Held → List ℕ → Bool
@@ -97,18 +103,12 @@ updateAnswer room h ttl hops p =
 
 -- an accepted RESET: every entry Infinity, mark waiting, place 1 and the first entry next
 unfoldable pub resetBy : List ℕ → Held
-resetBy p =
-    record {
-      table = record { mark = waiting; length = lengthIn p; infinity = infinityIn p; place = 1; size = 0; bits = 0; at = 0 };
-      entries = replicate (lengthIn p) (infinityIn p);
-    }
+resetBy p = record { table = atRest waiting (lengthIn p) (infinityIn p); entries = replicate (lengthIn p) (infinityIn p) }
 
 -- an accepted PATCH moves the run on; its last message settles the table, and place 1 and the first entry are next
-unfoldable pub movedOn : Table → List ℕ → Table
-movedOn t p =
-    cond (isLast p)
-    (record { mark = settled; length = t .length; infinity = t .infinity; place = 1; size = 0; bits = 0; at = 0 })
-    (record {
+abbrev pub onward : Table → List ℕ → Table
+onward t p =
+    record {
       mark = running;
       length = t .length;
       infinity = t .infinity;
@@ -116,7 +116,10 @@ movedOn t p =
       size = sizeIn p;
       bits = bitsIn p;
       at = t .at + length (numbersIn p);
-    })
+    }
+
+unfoldable pub movedOn : Table → List ℕ → Table
+movedOn t p = cond (isLast p) (atRest settled (t .length) (t .infinity)) (onward t p)
 
 unfoldable pub patchBy : Held → List ℕ → Held
 patchBy h p =
@@ -128,6 +131,10 @@ patchBy h p =
 -- refused: only the mark changes
 unfoldable pub brokenBy : Held → Held
 brokenBy h = record { table = marked broken (h .table); entries = h .entries }
+
+-- a refusal by this number, and the table it leaves
+abbrev pub refusedBy : ℕ → Table → Updated
+refusedBy n t = record { answer = n; table = marked broken t }
 
 abbrev pub pickHeld : Bool → Held → Held → Held
 pickHeld true a b = a

@@ -1,15 +1,15 @@
 -- Differences of entries as numbers of `bits` bits: each is in range, and adding it to the old entry gives the new one. Assumes nothing.
-use Prim.Native.Nat.{ℕ, zero, suc, _+_, _-_, _*_, _^_, _≤_, _<_}
-use mathlib.Core.Path.{_≡_, refl, sym, ap, _∙_}
-use mathlib.Core.Bool.{Bool, true, false, cond, _&&_, true≢false}
+use Prim.Native.Nat.{ℕ, suc, _+_, _-_, _*_, _^_, _≤_, _<_}
+use mathlib.Core.Path.{_≡_, refl, ap}
+use mathlib.Core.Bool.{Bool, true, false, cond}
 use mathlib.Core.List.{List, [], _∷_}
 use native.Mathlib.Omega.{arith}
-use lib.Dec.{leb, ltb}
+use lib.Dec.{leb}
 use borrow.Author.Tests.{leb-true, leb-false}
 use lib.ListN.{length}
 use Rattle.laws.proofs.Chunks.{Each, and-both, and-first, and-second}
 use Rattle.tables.specs.Patch.{half, gain, loss, sumOf, fits, added, allFit}
-use Rattle.tables.proofs.PatchFacts.{Width, four, eight, Below, small-number, large-number, twice-half, SumWithin, fits-exactly}
+use Rattle.tables.proofs.PatchFacts.{Width, Below, small-number, large-number, twice-half, fits-exactly}
 use Rattle.tablewriter.specs.Writer.{near, allNear, raw, raws}
 
 -- the difference of two entries is a number of `bits` bits
@@ -78,12 +78,15 @@ all-near (e ∷ es) (b ∷ bs) l h =
 abbrev pub Entries : ℕ → List ℕ → Type 0
 Entries infinity es = Each (λ e. (1 ≤ e) × (e ≤ infinity)) es
 
+pub byte-reaches : (e b : ℕ) → e ≤ 127 → b ≤ 127 → Reaches 8 e b
+byte-reaches e b p q = record { up = omega arith; down = omega arith }
+
 pub all-byte : (infinity : ℕ) → infinity ≤ 127 → (es bs : List ℕ) → length es ≡ length bs → Entries infinity es → Entries infinity bs → AllReach 8 es bs
 all-byte infinity k [] [] l p q = tt
 all-byte infinity k [] (b ∷ bs) l p q = absurd (omega arith)
 all-byte infinity k (e ∷ es) [] l p q = absurd (omega arith)
 all-byte infinity k (e ∷ es) (b ∷ bs) l p q =
-    (record { up = omega arith; down = omega arith }, all-byte infinity k es bs (omega arith) (p .1) (q .1))
+    (byte-reaches e b (omega arith) (omega arith), all-byte infinity k es bs (omega arith) (p .1) (q .1))
 
 -- the raw numbers of a table: one for each entry, all in range, all sums fit, and the sums are the new table
 module _ {bits : ℕ} (w : Width bits) where

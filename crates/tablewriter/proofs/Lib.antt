@@ -1,6 +1,21 @@
+-- The writer's laws, and cases by computation.
 pub mod Vectors
 pub mod Differences
 pub mod Parts
 pub mod Whole
-pub mod Run
+pub mod Reading
+pub mod Accepted
 pub mod RoundTrip
+pub mod PartFacts
+pub mod WriterFacts
+pub mod Octets
+pub mod DataLaws
+pub mod RunLaws
+pub mod PlanLaws
+pub mod MessageLaws
+pub mod TurnLaws
+pub mod AnswerLaws
+pub mod AllLaws
+pub mod CallLaws
+pub mod Exact
+pub mod Answers

@@ -1,17 +1,18 @@
 -- Every message of the writer is whole: type, TTL, Hops and payload are read back from its bytes, and its length is its header's and the
 -- payload length that the header says. So messages that stand one after another are told apart. Assumes nothing.
-use Prim.Native.Nat.{ℕ, zero, suc, _+_, _-_, _*_, _^_, _≤_, _<_}
-use mathlib.Core.Path.{_≡_, refl, sym, ap, _∙_}
-use mathlib.Core.Bool.{Bool, true, false, cond}
-use mathlib.Core.List.{List, [], _∷_, _++_, map, append-assoc}
+use Prim.Native.Nat.{ℕ, zero, suc, _+_, _≤_, _<_}
+use mathlib.Core.Path.{_≡_, refl, sym, ap}
+use mathlib.Core.Bool.{Bool, true, false}
+use mathlib.Core.List.{List, [], _∷_, _++_, map}
 use native.Mathlib.Omega.{arith}
-use lib.ListN.{length, getD, take, drop, replicate, length-append, length-map}
-use lib.Seq.{take-length, take-append-seam, drop-append-seam}
-use Rattle.laws.specs.Bytes.{little, littleBytes}
-use Rattle.laws.proofs.Chunks.{Each, each-append, each-by, getD-past, drop-past, take-past, little-back}
-use Rattle.wire.specs.Header.{kindOf, ttlOf, hopsOf, sizeOf, payloadOf, routeUpdate, message}
-use Rattle.tablewriter.specs.Writer.{update, resetPayload, patchPayload, baseOf, bitsFor, dataOf, partsOf, runFrom, messagesOf, joined}
-use Rattle.tablewriter.specs.RoundTrip.{messagesIn, runPayloads, payloadsOf}
+use native.Mathlib.Nat.{le-refl}
+use lib.ListN.{length, take, drop, length-append, length-drop}
+use lib.Seq.{take-append-le, drop-append-le, take-append-seam, drop-append-seam}
+use Rattle.laws.proofs.Chunks.{Each}
+use Rattle.wire.proofs.HeaderLaws.{message-length, message-kind, message-ttl, message-hops, message-size, message-payload}
+use Rattle.wire.specs.Header.{kindOf, ttlOf, hopsOf, sizeOf, payloadOf, routeUpdate}
+use Rattle.tablewriter.specs.Writer.{baseOf, update, resetPayload, patchPayload, bitsFor, dataOf, partsOf, runFrom, messagesOf, joined}
+use Rattle.tablewriter.specs.RoundTrip.{messagesFrom, messagesIn, runPayloads, payloadsOf}
 use Rattle.tablewriter.proofs.Parts.{part-sizes}
 
 -- an update with this payload, whole
@@ -25,78 +26,68 @@ pub record Whole (payload m : List ℕ) : Type 0 where
 
 -- a payload whose length four bytes hold
 abbrev pub Short : List ℕ → Type 0
-Short payload = length payload < 256 ^ 4
+Short payload = length payload < 4294967296
 
--- bytes that begin with a header
-abbrev begun : List ℕ → ℕ → ℕ → ℕ → ℕ → List ℕ → List ℕ
-begun number kind ttl hops n rest = number ++ (kind ∷ ttl ∷ hops ∷ (littleBytes 4 n ++ rest))
+-- the payload length in a header, where other bytes follow the message
+size-before : (m more : List ℕ) → 23 ≤ length m → sizeOf (m ++ more) ≡ sizeOf m
+size-before m more h =
+    let past : 19 ≤ length m = omega arith in
+    let four : 4 ≤ length (drop 19 m) = rw (length-drop 19 m) (omega arith) in
+    rw (drop-append-le 19 m more past, take-append-le 4 (drop 19 m) more four)
 
 module _ (number : List ℕ) (sixteen : length number ≡ 16) where
-  module _ (kind ttl hops n : ℕ) (rest : List ℕ) where
-    begun-size : n < 256 ^ 4 → sizeOf (begun number kind ttl hops n rest) ≡ n
-    begun-size h = rw (drop-past number (kind ∷ ttl ∷ hops ∷ (littleBytes 4 n ++ rest)) 16 sixteen 3) (little-back 4 n h)
-
-    begun-rest : drop 23 (begun number kind ttl hops n rest) ≡ rest
-    begun-rest = drop-past number (kind ∷ ttl ∷ hops ∷ (littleBytes 4 n ++ rest)) 16 sixteen 7
-
-    begun-field : (k : ℕ) → getD (begun number kind ttl hops n rest) (16 + k) 0 ≡ getD (kind ∷ ttl ∷ hops ∷ (littleBytes 4 n ++ rest)) k 0
-    begun-field k = getD-past number (kind ∷ ttl ∷ hops ∷ (littleBytes 4 n ++ rest)) 16 sixteen k 0
-
-    begun-length : length (begun number kind ttl hops n rest) ≡ 23 + length rest
-    begun-length = rw (length-append number (kind ∷ ttl ∷ hops ∷ (littleBytes 4 n ++ rest)), sixteen) (omega arith)
-
   module _ (payload : List ℕ) (short : Short payload) where
-    laid : update number payload ≡ begun number routeUpdate 1 0 (length payload) payload
-    unfolding message
-    laid = simp append-assoc
-
-    laid-before : (more : List ℕ) → update number payload ++ more ≡ begun number routeUpdate 1 0 (length payload) (payload ++ more)
-    unfolding message
-    laid-before more = simp append-assoc
-
-    whole-size : sizeOf (update number payload) ≡ length payload
-    whole-size = rw laid (begun-size routeUpdate 1 0 (length payload) payload short)
-
-    whole-rest : drop 23 (update number payload) ≡ payload
-    whole-rest = rw laid (begun-rest routeUpdate 1 0 (length payload) payload)
-
     whole-length : length (update number payload) ≡ 23 + length payload
-    whole-length = rw laid (begun-length routeUpdate 1 0 (length payload) payload)
+    whole-length = message-length number routeUpdate 1 0 payload sixteen
 
     pub whole : Whole payload (update number payload)
     whole =
+        let size : sizeOf (update number payload) ≡ length payload = message-size number routeUpdate 1 0 payload sixteen short in
         record {
-          kind = rw laid (begun-field routeUpdate 1 0 (length payload) payload 0);
-          ttl = rw laid (begun-field routeUpdate 1 0 (length payload) payload 1);
-          hops = rw laid (begun-field routeUpdate 1 0 (length payload) payload 2);
-          size = whole-size;
-          content = rw (whole-size, whole-rest) (take-length payload);
-          long = rw whole-size whole-length;
+          kind = message-kind number routeUpdate 1 0 payload sixteen;
+          ttl = message-ttl number routeUpdate 1 0 payload sixteen;
+          hops = message-hops number routeUpdate 1 0 payload sixteen;
+          size = size;
+          content = message-payload number routeUpdate 1 0 payload sixteen short;
+          long = rw size whole-length;
         }
 
-    -- where other bytes follow: how far the message reaches
+    -- how far it reaches, where other bytes follow
     extent : (more : List ℕ) → 23 + sizeOf (update number payload ++ more) ≡ length (update number payload)
     extent more =
-        rw (laid-before more, begun-size routeUpdate 1 0 (length payload) (payload ++ more) short) (sym whole-length)
+        let header : 23 ≤ length (update number payload) = rw whole-length (omega arith) in
+        rw (size-before (update number payload) more header) (sym (whole .long))
 
     some-bytes : (more : List ℕ) → 1 ≤ length (update number payload ++ more)
     some-bytes more = rw (length-append (update number payload) more, whole-length) (omega arith)
 
   -- messages one after another are told apart
   next-message : (n : ℕ) (bytes : List ℕ) → 1 ≤ length bytes
-      → messagesIn (suc n) bytes ≡ take (23 + sizeOf bytes) bytes ∷ messagesIn n (drop (23 + sizeOf bytes) bytes)
-  unfolding messagesIn
+      → messagesFrom (suc n) bytes ≡ take (23 + sizeOf bytes) bytes ∷ messagesFrom n (drop (23 + sizeOf bytes) bytes)
+  unfolding messagesFrom
   next-message n [] h = absurd (omega arith)
   next-message n (b ∷ bs) h = refl
 
-  pub apart : (ps : List (List ℕ)) → Each Short ps → messagesIn (length ps) (joined (map (update number) ps)) ≡ map (update number) ps
-  unfolding joined messagesIn
-  apart [] h = refl
-  apart (p ∷ ps) h =
+  apart : (n : ℕ) (ps : List (List ℕ)) → Each Short ps → length (joined (map (update number) ps)) ≤ n
+      → messagesFrom n (joined (map (update number) ps)) ≡ map (update number) ps
+  unfolding joined messagesFrom
+  apart zero [] h k = refl
+  apart (suc n) [] h k = refl
+  apart zero (p ∷ ps) h k =
+      let some : 1 ≤ length (update number p ++ joined (map (update number) ps)) = some-bytes p (h .0) (joined (map (update number) ps)) in
+      absurd (omega arith)
+  apart (suc n) (p ∷ ps) h k =
       let m : List ℕ = update number p in
       let more : List ℕ = joined (map (update number) ps) in
-      rw
-      (next-message (length ps) (m ++ more) (some-bytes p (h .0) more), extent p (h .0) more, take-append-seam m more, drop-append-seam m more, apart ps (h .1))
+      let long : length m + length more ≤ suc n = rw (length-append m more) at k in
+      let header : length m ≡ 23 + length p = whole-length p (h .0) in
+      rw (
+        next-message n (m ++ more) (some-bytes p (h .0) more),
+        extent p (h .0) more,
+        take-append-seam m more,
+        drop-append-seam m more,
+        apart n ps (h .1) (omega arith),
+      )
 
   -- every message of the writer: an update with its payload
   run-updates : (place size bits : ℕ) (ds : List (List ℕ)) → runFrom number place size bits ds ≡ map (update number) (runPayloads place size bits ds)
@@ -110,7 +101,7 @@ module _ (number : List ℕ) (sixteen : length number ≡ 16) where
   updates true old new infinity size =
       run-updates 1 (length (partsOf size (dataOf new old))) (bitsFor new old) (partsOf size (dataOf new old))
   updates false old new infinity size =
-      let base : List ℕ = replicate (length new) infinity in
+      let base : List ℕ = baseOf false old new infinity in
       ap
       (λ (r : List (List ℕ)). update number (resetPayload (length new) infinity) ∷ r)
       (run-updates 1 (length (partsOf size (dataOf new base))) (bitsFor new base) (partsOf size (dataOf new base)))
@@ -136,7 +127,7 @@ unfolding payloadsOf
 payloads-short true old new infinity size k =
     run-short 1 (length (partsOf size (dataOf new old))) (bitsFor new old) size (partsOf size (dataOf new old)) k (part-sizes (length (dataOf new old)) size (dataOf new old))
 payloads-short false old new infinity size k =
-    let base : List ℕ = replicate (length new) infinity in (
+    let base : List ℕ = baseOf false old new infinity in (
       omega arith,
       run-short 1 (length (partsOf size (dataOf new base))) (bitsFor new base) size (partsOf size (dataOf new base)) k (part-sizes (length (dataOf new base)) size (dataOf new base)),
     )
@@ -145,7 +136,7 @@ payloads-short false old new infinity size k =
 pub record AllWhole (number : List ℕ) (had : Bool) (old new : List ℕ) (infinity size : ℕ) : Type 0 where
   pub each : Each (λ m. Whole (payloadOf m) m) (messagesOf number had old new infinity size)
   pub payloads : map payloadOf (messagesOf number had old new infinity size) ≡ payloadsOf had old new infinity size
-  pub bytes : messagesIn (length (messagesOf number had old new infinity size)) (joined (messagesOf number had old new infinity size)) ≡ messagesOf number had old new infinity size
+  pub bytes : messagesIn (joined (messagesOf number had old new infinity size)) ≡ messagesOf number had old new infinity size
 
 pub all-whole : (number : List ℕ) (had : Bool) (old new : List ℕ) (infinity size : ℕ) → length number ≡ 16 → size ≤ 4091 → AllWhole number had old new infinity size
 all-whole number had old new infinity size sixteen k =
@@ -154,5 +145,8 @@ all-whole number had old new infinity size sixteen k =
     record {
       each = rw (updates number sixteen had old new infinity size) (each-whole number sixteen ps short);
       payloads = rw (updates number sixteen had old new infinity size) (payloads-back number sixteen ps short);
-      bytes = rw (updates number sixteen had old new infinity size, length-map ps (update number)) (apart number sixteen ps short);
+      bytes =
+          rw
+          (updates number sixteen had old new infinity size)
+          (apart number sixteen (length (joined (map (update number) ps))) ps short (le-refl (length (joined (map (update number) ps)))));
     }

@@ -2,14 +2,14 @@
 -- and the new table stands, settled.
 use Prim.Native.Nat.{ℕ, zero, suc, _+_, _≤_}
 use mathlib.Core.Path.{_≡_}
-use mathlib.Core.Bool.{Bool, true, false, cond}
+use mathlib.Core.Bool.{Bool, true, cond}
 use mathlib.Core.List.{List, [], _∷_, _++_}
 use lib.ListN.{length, take, drop, replicate}
 use Rattle.wire.specs.Header.{ttlOf, hopsOf, sizeOf, payloadOf}
 use Rattle.tables.specs.declared.Table.{Table}
 use Rattle.tables.specs.Tables.{Held, settled}
 use Rattle.tables.specs.Updates.{updateAnswer, updated}
-use Rattle.tablewriter.specs.Writer.{baseOf, bitsFor, dataOf, partsOf, resetPayload, patchPayload, joined, messagesOf, writerAnswer}
+use Rattle.tablewriter.specs.Writer.{baseOf, bitsFor, dataOf, partsOf, resetPayload, patchPayload, messagesOf, writerAnswer, writerResult, writerOut}
 
 -- a whole message handed to the table's rules
 abbrev pub answerTo : ℕ → Held → List ℕ → ℕ
@@ -28,10 +28,13 @@ afterAll room h [] = h
 afterAll room h (m ∷ ms) = afterAll room (after room h m) ms
 
 -- the messages that stand one after another in some bytes, each 23 bytes and its payload; at most n of them
-unfoldable pub messagesIn : ℕ → List ℕ → List (List ℕ)
-messagesIn zero bytes = []
-messagesIn (suc n) [] = []
-messagesIn (suc n) (b ∷ bs) = take (23 + sizeOf (b ∷ bs)) (b ∷ bs) ∷ messagesIn n (drop (23 + sizeOf (b ∷ bs)) (b ∷ bs))
+unfoldable pub messagesFrom : ℕ → List ℕ → List (List ℕ)
+messagesFrom zero bytes = []
+messagesFrom (suc n) [] = []
+messagesFrom (suc n) (b ∷ bs) = take (23 + sizeOf (b ∷ bs)) (b ∷ bs) ∷ messagesFrom n (drop (23 + sizeOf (b ∷ bs)) (b ∷ bs))
+
+abbrev pub messagesIn : List ℕ → List (List ℕ)
+messagesIn bytes = messagesFrom (length bytes) bytes
 
 -- the payloads of the writer's messages
 unfoldable pub runPayloads : ℕ → ℕ → ℕ → List (List ℕ) → List (List ℕ)
@@ -78,3 +81,20 @@ RoundTrip =
     → length new ≤ room
     → (had ≡ true → Stands h old infinity)
     → ReadAs room h (messagesOf number had old new infinity size) (settledAs new infinity)
+
+-- the same of the output alone: as many of its bytes as the writer says it wrote, cut into messages and read
+abbrev pub BytesRoundTrip : Type 0
+BytesRoundTrip =
+    (number : List ℕ) (had : Bool) (old : List ℕ) (oldInfinity : ℕ) (new : List ℕ) (infinity size : ℕ) (out : List ℕ) (room : ℕ) (h : Held)
+    → length number ≡ 16
+    → writerResult number had old oldInfinity new infinity size out .answer ≡ 0
+    → length new ≤ room
+    → (had ≡ true → Stands h old infinity)
+    → ReadAs
+    room
+    h
+    (messagesIn
+    (take
+    (writerResult number had old oldInfinity new infinity size out .written)
+    (writerOut number had old oldInfinity new infinity size out)))
+    (settledAs new infinity)

@@ -80,9 +80,17 @@ unfoldable pub joined : List (List ℕ) → List ℕ
 joined [] = []
 joined (m ∷ ms) = m ++ joined ms
 
+-- an entry is in 1..Infinity
+abbrev pub inRange : ℕ → ℕ → Bool
+inRange infinity e = leb 1 e && leb e infinity
+
 -- a table that may be written: a length and an Infinity that a RESET may carry, and each entry in 1..Infinity
 unfoldable pub goodTable : List ℕ → ℕ → Bool
-goodTable es infinity = goodLength (length es) && (goodInfinity infinity && all (λ e. leb 1 e && leb e infinity) es)
+goodTable es infinity = goodLength (length es) && (goodInfinity infinity && all (inRange infinity) es)
+
+-- a run over 255 messages is 14, then short output 2
+abbrev pub runRules : ℕ → ℕ → ℕ → List (Bool × ℕ)
+runRules count total room = (ltb 255 count, 14) ∷ (ltb room total, 2) ∷ []
 
 -- what the writer answers: 14, then 2
 unfoldable pub writerAnswer : List ℕ → Bool → List ℕ → ℕ → List ℕ → ℕ → ℕ → ℕ → ℕ
@@ -92,9 +100,7 @@ writerAnswer number had old oldInfinity new infinity size room =
     ∷ (had && not (goodTable old oldInfinity), 14)
     ∷ (had && not (eqb (length old) (length new) && eqb oldInfinity infinity), 14)
     ∷ (not (leb 1 size && leb size 4091), 14)
-    ∷ (ltb 255 (length (partsOf size (dataOf new (baseOf had old new infinity)))), 14)
-    ∷ (ltb room (length (joined (messagesOf number had old new infinity size))), 2)
-    ∷ [])
+    ∷ runRules (length (partsOf size (dataOf new (baseOf had old new infinity)))) (length (joined (messagesOf number had old new infinity size))) room)
 
 abbrev pub writtenAs : ℕ → ℕ → Written
 writtenAs n w = record { answer = n; written = w }

@@ -2,8 +2,12 @@
 mod places;
 mod print;
 mod texts;
+mod updates;
+mod writing;
 
 fn main() {
     places::all();
     texts::all();
+    updates::all();
+    writing::all();
 }

@@ -11,16 +11,21 @@ use Rattle.laws.specs.Parts.{over}
 use Rattle.laws.proofs.Writing.{stored-next, little-of-bytes}
 use Rattle.wire.specs.Header.{withHeader, header, message, numberOf, kindOf, ttlOf, hopsOf, sizeOf, payloadOf}
 
+-- with room for it, the header stands at the front
+pub header-room : (number : List ℕ) (kind ttl hops n : ℕ) (out : List ℕ) → 23 ≤ length out
+    → withHeader number kind ttl hops n out ≡ over 0 (header number kind ttl hops n) out
+unfolding withHeader
+header-room number kind ttl hops n out h = rw (le-leb 23 (length out) h)
+
 -- type, TTL, Hops and the four bytes of the size, stored behind the number
 pub header-stored : (number out mid bytes : List ℕ) (kind ttl hops n : ℕ) → length number ≡ 16 → 23 ≤ length out
     → mid ≡ over 0 number out → bytes ≡ littleBytes 4 n
     → sets mid 16 (kind ∷ ttl ∷ hops ∷ getD bytes 0 0 ∷ getD bytes 1 0 ∷ getD bytes 2 0 ∷ getD bytes 3 0 ∷ [])
     ≡ withHeader number kind ttl hops n out
-unfolding withHeader
 header-stored number out mid bytes kind ttl hops n e h m b =
     ap (λ bs. sets mid 16 (kind ∷ ttl ∷ hops ∷ getD bs 0 0 ∷ getD bs 1 0 ∷ getD bs 2 0 ∷ getD bs 3 0 ∷ [])) b
     ∙ stored-next 16 number (kind ∷ ttl ∷ hops ∷ littleBytes 4 n) out mid e h m
-    ∙ rw (le-leb 23 (length out) h)
+    ∙ sym (header-room number kind ttl hops n out h)
 
 -- a message that was written: its length and its fields
 module _ (number : List ℕ) (kind ttl hops : ℕ) (payload : List ℕ) (long : length number ≡ 16) where
@@ -63,3 +68,11 @@ module _ (number : List ℕ) (kind ttl hops : ℕ) (payload : List ℕ) (long : 
 
   pub message-payload : length payload < 4294967296 → payloadOf (message number kind ttl hops payload) ≡ payload
   message-payload h = ap₂ take (message-size h) (from-16 7) ∙ take-length payload
+
+  -- the payload stored behind the header
+  pub message-stored : (out mid : List ℕ) → 23 + length payload ≤ length out → mid ≡ withHeader number kind ttl hops (length payload) out
+      → sets mid 23 payload ≡ over 0 (message number kind ttl hops payload) out
+  unfolding message
+  message-stored out mid h m =
+      stored-next 23 (header number kind ttl hops (length payload)) payload out mid (header-length (length payload)) h
+      (m ∙ header-room number kind ttl hops (length payload) out (omega arith))

@@ -15,14 +15,15 @@ use Rattle.keywords.proofs.cut.first_keyword.Tie as tie
 run-requires : tie.Need-run-requires
 run-requires c κs = search needs
 
+-- the first keyword starts within the text
+within : (c : tie.After-run) → c .run .result ≤ length (c .before .before .args .text .now)
+within c = rw (c .run .ensures) (leading-within (matching true) (c .before .before .args .text .now))
+
 sub-run : tie.Need-sub-run
-sub-run c = rw (c .run .ensures) (leading-within (matching true) (c .before .before .args .text .now))
+sub-run c = within c
 
 part-run-start : tie.Need-part-run-start
-part-run-start c =
-    let h : c .run .result ≤ length (c .before .before .args .text .now)
-    = rw (c .run .ensures) (leading-within (matching true) (c .before .before .args .text .now)) in
-    search needs
+part-run-start c = let h = within c in search needs
 
 part-run-end : tie.Need-part-run-end
 part-run-end c = search needs

@@ -2,7 +2,7 @@
 use Prim.Native.Nat.{_-_, _*_, _%_, _^_, _≤_, _<_}
 use mathlib.Core.Path.{_≡_, sym, ap, _∙_}
 use mathlib.Core.List.{map}
-use lib.ListN.{length, drop, drop-of-length-le}
+use lib.ListN.{length, getD, drop, drop-of-length-le}
 use lib.Bits.{xor-lt}
 use borrow.Author.Needs.{needs}
 use Rattle.keywords.specs.Keywords.{lower}
@@ -13,14 +13,15 @@ use Rattle.keywords.proofs.hash.joined.Tie as tie
 
 abbrev Inv-loop : tie.InvT-loop
 Inv-loop keyword n₀ i₀ n i =
-    (i ≤ length keyword) × (n < 2 ^ 32) × (rolling n (i % 4) (map lower (drop i keyword)) ≡ word (map lower keyword))
+    (i ≤ length keyword) × (rolling n (i % 4) (map lower (drop i keyword)) ≡ word (map lower keyword)) × (n < 2 ^ 32)
 
 abbrev μ-loop : tie.MeasureT-loop
 μ-loop keyword n₀ i₀ n i = length keyword - i
 
 loop-holds : tie.Need-loop-holds Inv-loop μ-loop
 loop-holds c =
-    (search needs, search needs, sym (word-rolling (map lower (c .before .args .keyword .now)) (lower-bytes (c .before .args .keyword .now) (λ i. c .shared-slice-known .given i .fits))))
+    let keyword = c .before .args .keyword .now in
+    (search needs, sym (word-rolling (map lower keyword) (lower-bytes keyword (λ i. c .shared-slice-known .given i .fits))), search needs)
 
 shared-slice-read-lower-case : tie.Need-shared-slice-read-lower-case Inv-loop μ-loop
 shared-slice-read-lower-case c = search needs
@@ -39,18 +40,20 @@ loop-less c = search needs
 
 loop-again : tie.Need-loop-again Inv-loop μ-loop
 loop-again c =
+    let keyword = c .before .before .before .before .before .before .args .keyword .now in
     let at = c .before .before .before .before .loop in
-    let fits : c .moved .result < 2 ^ 32 = search needs in (
+    let fits : c .moved .result < 2 ^ 32 = search needs in
+    let moved : c .moved .result ≡ lower (getD keyword (at .i) 0) * 256 ^ (at .i % 4)
+    = c .moved .ensures ∙ ap (λ x. x * 256 ^ (at .i % 4)) (c .before .lower-case .ensures) in (
       search needs,
-      xor-lt 32 (at .n) (c .moved .result) (at .inv .1) fits,
-      rolling-next (c .before .before .before .before .before .before .args .keyword .now) (at .i) (at .n) (c .moved .result) (search needs) (at .inv .1) fits
-          (c .moved .ensures ∙ ap (λ x. x * 256 ^ (at .i % 4)) (c .before .lower-case .ensures)) ∙ at .inv .2,
+      rolling-next keyword (at .i) (at .n) (c .moved .result) (search needs) (at .inv .2) fits moved ∙ at .inv .1,
+      xor-lt 32 (at .n) (c .moved .result) (at .inv .2) fits,
     )
 
 returns : tie.Need-returns Inv-loop μ-loop
 unfolding rolling
 returns c =
-    rw (drop-of-length-le (c .before .before .before .args .keyword .now) (c .loop-test .left)) at (c .before .loop .inv .2)
+    rw (drop-of-length-le (c .before .before .before .args .keyword .now) (c .loop-test .left)) at (c .before .loop .inv .1)
 
 pub joined-spec : {M : Type 1} → statement M
 joined-spec =

@@ -9,13 +9,13 @@ add-result : tie.Need-add-result
 add-result c = search needs
 
 returns : tie.Need-returns
-returns c = sym (lower-letter _ (c .before .if1 .taken) (c .if2 .taken))
+returns c = sym (lower-letter _ (search needs) (search needs))
 
 returns-2 : tie.Need-returns-2
-returns-2 c = sym (lower-over _ (c .if2 .left))
+returns-2 c = sym (lower-over _ (search needs))
 
 returns-3 : tie.Need-returns-3
-returns-3 c = sym (lower-under _ (c .if1 .left))
+returns-3 c = sym (lower-under _ (search needs))
 
 pub lower-case-spec : {M : Type 1} → statement M
 lower-case-spec = tie.close (tie.spec add-result returns returns-2 returns-3)

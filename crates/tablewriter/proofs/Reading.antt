@@ -1,21 +1,20 @@
 -- Reading a RESET, and a run over its parts: each message is answered 0, and after the last the table is settled with every number of the run
 -- added. Assumes nothing.
-use Prim.Native.Nat.{ℕ, zero, suc, _+_, _-_, _*_, _^_, _≤_, _<_}
-use mathlib.Core.Path.{_≡_, refl, sym, ap, _∙_}
-use mathlib.Core.Bool.{Bool, true, false, cond, not, _&&_, _||_, or-true, and-false}
-use mathlib.Core.List.{List, [], _∷_, _++_, map, append-assoc, append-nil}
+use Prim.Native.Nat.{ℕ, suc, _+_, _≤_, _<_}
+use mathlib.Core.Path.{_≡_, refl, sym, _∙_}
+use mathlib.Core.Bool.{true, false, not, _&&_, _||_, or-true, and-false}
+use mathlib.Core.List.{List, [], _∷_, _++_, append-nil}
 use native.Mathlib.Omega.{arith}
 use native.Mathlib.Numerals.{add-one}
-use lib.Dec.{eqb, leb, ltb}
+use lib.Dec.{eqb}
 use borrow.Author.Tests.{le-leb, eqb-true, eq-eqb, ne-eqb}
-use lib.ListN.{length, getD, take, drop, replicate, length-append}
-use Rattle.laws.specs.Tests.{firstOf, every}
-use Rattle.laws.specs.Bytes.{little, littleBytes}
-use Rattle.laws.proofs.Chunks.{Each, implied, and-both, and-first, and-second, little-back}
+use lib.ListN.{length, replicate, length-append}
+use Rattle.laws.proofs.Chunks.{Each, implied, and-both, and-first, and-second}
+use Rattle.laws.proofs.Writing.{little-of-bytes}
 use Rattle.tables.specs.declared.Table.{Table}
-use Rattle.tables.specs.Patch.{numbers, added, allFit}
-use Rattle.tables.specs.Tables.{Held, waiting, running, settled, ready, goodLength, goodInfinity}
-use Rattle.tables.specs.Updates.{goodReset, goodPatch, inTurn, inRange, isPatch, isLast, updateAnswer, updated, resetBy, movedOn, patchBy}
+use Rattle.tables.specs.Patch.{numbers}
+use Rattle.tables.specs.Tables.{Held, waiting, running, ready, goodLength, goodInfinity}
+use Rattle.tables.specs.Updates.{goodReset, goodPatch, inTurn, inRange, isPatch, updateAnswer, updated, resetBy, movedOn, patchBy}
 use Rattle.tables.proofs.PatchFacts.{Width, four, eight, numbers-append, addedAt, fitAt, addedAt-length, added-twice, fit-twice}
 use Rattle.tablewriter.specs.Writer.{update, resetPayload, patchPayload, runFrom, joined}
 use Rattle.tablewriter.specs.RoundTrip.{answerTo, after, answersTo, afterAll, settledTable, ReadAs, runPayloads}
@@ -76,14 +75,14 @@ resetTo n infinity =
       entries = replicate n infinity;
     }
 
-module _ (room n infinity : ℕ) (small : n < 256 ^ 4) where
+module _ (room n infinity : ℕ) (small : n < 4294967296) where
   reset-passes : goodLength n ≡ true → n ≤ room → goodInfinity infinity ≡ true → goodReset room (resetPayload n infinity) ≡ true
   unfolding goodReset
-  reset-passes good within limit = rw (little-back 4 n small, good, le-leb n room within, limit)
+  reset-passes good within limit = rw (little-of-bytes n small, good, le-leb n room within, limit)
 
   reset-leaves : resetBy (resetPayload n infinity) ≡ resetTo n infinity
   unfolding resetBy
-  reset-leaves = rw (little-back 4 n small)
+  reset-leaves = rw (little-of-bytes n small)
 
   pub reset-taken : (h : Held) (number : List ℕ) → length number ≡ 16 → goodLength n ≡ true → n ≤ room → goodInfinity infinity ≡ true
       → Taken room h (update number (resetPayload n infinity)) (resetTo n infinity)

@@ -1,0 +1,144 @@
+-- The tests by which a query goes on, and what they say in words: the place of a keyword, what a table withholds, the lines it goes to.
+-- Assumes nothing.
+use Prim.Native.Nat.{ℕ, zero, suc, _+_, _-_, _*_, _/_, _^_, _≤_, _<_}
+use native.Mathlib.Nat.{mul-div-mul-right, mul-div-cancel, one-le-pow, pow-suc, mod-lt, div-eq-of-lt, mul-zero, zero-div}
+use native.Mathlib.Omega.{arith}
+use mathlib.Core.Path.{_≡_, refl, sym, ap, _∙_, subst}
+use mathlib.Core.Bool.{Bool, true, false, cond, not, _&&_, _||_}
+use mathlib.Core.Logic.{_↔_, _⊎_, inl, inr, ⊎-elim}
+use mathlib.Core.List.{List, [], _∷_, map, List·Memᴰ, List·Memᴰ·head, List·Memᴰ·tail, List·Memᴰ·cases-cons, List·Memᴰ·not-nil}
+use lib.Dec.{eqb, leb, ltb}
+use lib.Pow.{pow-add}
+use lib.ListN.{length, getD}
+use borrow.Author.Tests.{ltb-true, lt-ltb, leb-true, le-leb, lt-leb, eqb-true, eqb-false, eq-eqb, ne-eqb, not-true}
+use Rattle.laws.specs.Tests.{any, all}
+use Rattle.laws.proofs.Refusals.{clash, and-fst, and-snd, and-intro, or-split, or-left, or-right}
+use Rattle.wire.specs.Header.{payloadOf}
+use Rattle.keywords.specs.Keywords.{keywordsOf}
+use Rattle.keywords.specs.Hash.{hashOf, placeOf, scaled}
+use Rattle.tables.specs.Tables.{settled, lengths}
+use Rattle.tables.specs.Admission.{far, entryOf, withholds}
+use Rattle.protocol.specs.Lines.{isOther}
+use Rattle.protocol.specs.Queries.{usualLimit, textIn, lifeOf, passes, goesOn}
+use Rattle.protocol.specs.Expected.{Expected}
+use Rattle.protocol.specs.Demand3.{halvings, bitsOf, entryFor, Withheld, GoesTo, OwnGoesTo}
+use Rattle.protocol.proofs.Updates.{Sound}
+
+-- the place of a hash: scaled down to 2 to the power b it is the top b bits
+pub scaled-power : (b h : ℕ) → b ≤ 32 → scaled (2 ^ b) h ≡ h / 2 ^ (32 - b)
+scaled-power b h l =
+    let e : 32 - b + b ≡ 32 = omega arith in
+    let f : 2 ^ 32 ≡ 2 ^ (32 - b) * 2 ^ b = ap (λ x. 2 ^ x) (sym e) ∙ pow-add 2 (32 - b) b in
+    ap (λ x. h * 2 ^ b / x) f ∙ mul-div-mul-right h (2 ^ (32 - b)) (one-le-pow b 2 (omega arith))
+
+pub halvings-power : (f b : ℕ) → b ≤ f → halvings f (2 ^ b) ≡ b
+halvings-power zero b l = omega arith
+halvings-power (suc f) zero l = refl
+halvings-power (suc f) (suc b) l =
+    let one : 1 ≤ 2 ^ b = one-le-pow b 2 (omega arith) in
+    let two : 2 ^ suc b ≡ 2 ^ b * 2 = pow-suc 2 b in
+    let more : leb (2 ^ suc b) 1 ≡ false = lt-leb (2 ^ suc b) 1 (omega (arith, one, two)) in
+    let half : 2 ^ suc b / 2 ≡ 2 ^ b = ap (λ x. x / 2) two ∙ mul-div-cancel (2 ^ b) (omega arith) in
+    ap (λ c. cond c 0 (suc (halvings f (2 ^ suc b / 2)))) more ∙ ap suc (ap (halvings f) half ∙ halvings-power f b (omega arith))
+
+-- a length that a RESET may carry is 2 to some power
+power-among : (n : ℕ) (bs : List ℕ) → all (λ b. leb b 32) bs ≡ true → any (eqb n) (map (λ b. 2 ^ b) bs) ≡ true → (b : ℕ) × (b ≤ 32) × (n ≡ 2 ^ b)
+power-among n [] h e = absurd (clash e refl)
+power-among n (b ∷ bs) h e =
+    ⊎-elim (λ z. (b, leb-true b 32 (and-fst (leb b 32) (all (λ b. leb b 32) bs) h), eqb-true n (2 ^ b) z))
+    (λ z. power-among n bs (and-snd (leb b 32) (all (λ b. leb b 32) bs) h) z)
+    (or-split (eqb n (2 ^ b)) (any (eqb n) (map (λ b. 2 ^ b) bs)) e)
+
+exponents : List ℕ
+exponents = 2 ∷ 3 ∷ 4 ∷ 5 ∷ 6 ∷ 7 ∷ 8 ∷ 9 ∷ 10 ∷ 11 ∷ 12 ∷ 13 ∷ 14 ∷ 15 ∷ 16 ∷ []
+
+lengths-powers : (n : ℕ) → any (eqb n) lengths ≡ true → (b : ℕ) × (b ≤ 32) × (n ≡ 2 ^ b)
+unfolding exponents
+lengths-powers n e = power-among n exponents refl e
+
+hash-below : (k : List ℕ) → hashOf k < 2 ^ 32
+unfolding hashOf
+hash-below k = mod-lt _ (omega arith)
+
+pub scaled-place : (n : ℕ) (k : List ℕ) → any (eqb n) (0 ∷ lengths) ≡ true → scaled n (hashOf k) ≡ placeOf (bitsOf n) k
+scaled-place n k e =
+    ⊎-elim
+    (λ z. let y : n ≡ 0 = eqb-true n 0 z in
+    subst (λ (x : ℕ). scaled x (hashOf k) ≡ placeOf (bitsOf x) k) (sym y)
+    (ap (λ x. x / 2 ^ 32) (mul-zero (hashOf k)) ∙ zero-div (2 ^ 32) ∙ sym (div-eq-of-lt (hash-below k))))
+    (λ z. let b = lengths-powers n z in
+    subst (λ (x : ℕ). scaled x (hashOf k) ≡ placeOf (bitsOf x) k) (sym (b .2))
+    (scaled-power (b .0) (hashOf k) (b .1) ∙ ap (λ x. placeOf x k) (sym (halvings-power 32 (b .0) (b .1)))))
+    (or-split (eqb n 0) (any (eqb n) lengths) e)
+
+-- tests and what they say
+not-iff : (b : Bool) {P : Type 0} → (b ≡ true) ↔ P → (not b ≡ true) ↔ (P → ⊥)
+not-iff true e = ((λ z. absurd (clash z refl)), λ f. absurd (f (e .0 refl)))
+not-iff false e = ((λ _ p. clash (e .1 p) refl), λ _. refl)
+
+and-iff : (a b : Bool) {P Q : Type 0} → (a ≡ true) ↔ P → (b ≡ true) ↔ Q → ((a && b) ≡ true) ↔ (P × Q)
+and-iff a b e f = ((λ z. (e .0 (and-fst a b z), f .0 (and-snd a b z))), (λ w. and-intro a b (e .1 (w .0)) (f .1 (w .1))))
+
+or-iff : (a b : Bool) {P Q : Type 0} → (a ≡ true) ↔ P → (b ≡ true) ↔ Q → ((a || b) ≡ true) ↔ (P ⊎ Q)
+or-iff a b e f = (
+  (λ z. ⊎-elim (λ y. inl (e .0 y)) (λ y. inr (f .0 y)) (or-split a b z)),
+  (λ w. ⊎-elim (λ y. or-left a b (e .1 y)) (λ y. or-right a b (f .1 y)) w),
+)
+
+module _ {A : Type 0} (f : A → Bool) (P : A → Type 0) (e : (x : A) → (f x ≡ true) ↔ P x) where
+  any-some : (xs : List A) → any f xs ≡ true → (x : A) × List·Memᴰ x xs × P x
+  any-some [] z = absurd (clash z refl)
+  any-some (x ∷ xs) z =
+      ⊎-elim (λ y. (x, List·Memᴰ·head refl, e x .0 y)) (λ y. let r = any-some xs y in (r .0, List·Memᴰ·tail (r .1), r .2)) (or-split (f x) (any f xs) z)
+
+  some-any : (xs : List A) (x : A) → List·Memᴰ x xs → P x → any f xs ≡ true
+  some-any [] x m p = absurd (List·Memᴰ·not-nil m)
+  some-any (y ∷ ys) x m p =
+      ⊎-elim (λ z. or-left (f y) (any f ys) (subst (λ (v : A). f v ≡ true) z (e x .1 p))) (λ z. or-right (f y) (any f ys) (some-any ys x z p)) (List·Memᴰ·cases-cons m)
+
+  any-iff : (xs : List A) → (any f xs ≡ true) ↔ ((x : A) × List·Memᴰ x xs × P x)
+  any-iff xs = (any-some xs, λ w. some-any xs (w .0) (w .1) (w .2))
+
+-- a table that is expected and sound
+module _ (room : ℕ) (e : Expected) (sound : Sound room (e .held)) where
+  entry-same : (k : List ℕ) → entryOf (e .held) (hashOf k) ≡ entryFor e k
+  entry-same k =
+      ap (λ i. getD (e .held .entries) i 0) (scaled-place (e .held .table .length) k (sound .good) ∙ ap (λ n. placeOf (bitsOf n) k) (sym (sound .full)))
+
+  far-iff : (ttl : ℕ) (k : List ℕ)
+      → (far (e .held .table .infinity) ttl (entryOf (e .held) (hashOf k)) ≡ true) ↔ ((entryFor e k ≡ e .held .table .infinity) ⊎ (ttl < entryFor e k))
+  far-iff ttl k =
+      rw (entry-same k)
+      (or-iff (eqb (entryFor e k) (e .held .table .infinity)) (ltb ttl (entryFor e k))
+      (eqb-true (entryFor e k) (e .held .table .infinity), eq-eqb (entryFor e k) (e .held .table .infinity))
+      (ltb-true ttl (entryFor e k), lt-ltb ttl (entryFor e k)))
+
+  withheld-iff : (text : List ℕ) (ttl : ℕ) → (withholds (e .held) (keywordsOf text) ttl ≡ true) ↔ Withheld e text ttl
+  unfolding withholds
+  withheld-iff text ttl =
+      and-iff (eqb (e .held .table .mark) settled) (any (λ k. far (e .held .table .infinity) ttl (entryOf (e .held) (hashOf k))) (keywordsOf text))
+      (eqb-true (e .held .table .mark) settled, eq-eqb (e .held .table .mark) settled)
+      (any-iff (λ k. far (e .held .table .infinity) ttl (entryOf (e .held) (hashOf k)))
+      (λ k. (entryFor e k ≡ e .held .table .infinity) ⊎ (ttl < entryFor e k))
+      (far-iff ttl)
+      (keywordsOf text))
+
+  passes-iff : (text : List ℕ) (ttl : ℕ) → (passes (e .live) (e .held) text ttl ≡ true) ↔ ((e .live ≡ true) × (Withheld e text ttl → ⊥))
+  passes-iff text ttl =
+      and-iff (e .live) (not (withholds (e .held) (keywordsOf text) ttl)) ((λ z. z), (λ z. z)) (not-iff (withholds (e .held) (keywordsOf text) ttl) (withheld-iff text ttl))
+
+  pub own-goes-iff : (text : List ℕ) → (passes (e .live) (e .held) text usualLimit ≡ true) ↔ OwnGoesTo e text
+  own-goes-iff text = passes-iff text usualLimit
+
+  pub goes-iff : (L l : ℕ) (m : List ℕ) → (goesOn usualLimit l L (e .live) (e .held) m ≡ true) ↔ GoesTo e L l m
+  goes-iff L l m =
+      let life : ℕ = lifeOf usualLimit m in
+      let p = passes-iff (textIn (payloadOf m)) (life - 1) in
+      let q = and-iff (leb 2 life) (passes (e .live) (e .held) (textIn (payloadOf m)) (life - 1)) (leb-true 2 life, le-leb 2 life) p in
+      let r = and-iff (isOther l L) (leb 2 life && passes (e .live) (e .held) (textIn (payloadOf m)) (life - 1)) other q in (
+        (λ z. let w = r .0 z in (w .1 .1 .0, w .0, w .1 .0, w .1 .1 .1)),
+        (λ w. r .1 (w .1, (w .2, (w .0, w .3)))),
+      )
+    where
+      other : (isOther l L ≡ true) ↔ (L ≡ l → ⊥)
+      other = ((λ z. eqb-false L l (not-true (eqb L l) z)), (λ f. rw (ne-eqb L l f)))

@@ -1,0 +1,98 @@
+-- The remembered queries and the stored pongs as newest-first lists: one more goes in front, and closing a line marks its queries as gone.
+-- Assumes nothing.
+use Prim.Native.Nat.{ℕ, zero, suc, _<_}
+use native.Mathlib.Omega.{arith}
+use mathlib.Core.Path.{_≡_, refl, sym, ap, ap₂, _∙_}
+use mathlib.Core.Bool.{Bool, true, false, not, _&&_, _||_}
+use mathlib.Core.List.{List, [], _∷_, map}
+use lib.Dec.{ltb}
+use lib.ListN.{getD, take}
+use lib.Seq.{getD-set-same, getD-set-other}
+use borrow.Author.Tests.{ltb-true, not-true}
+use Rattle.laws.specs.Tests.{any}
+use Rattle.laws.specs.Ring.{keptPlaces}
+use Rattle.laws.proofs.Refusals.{and-fst, and-snd, any-take}
+use Rattle.laws.proofs.Rings.{map-where, map-map, map-getD, kept-below, ring-push}
+use Rattle.protocol.specs.declared.Station.{Station}
+use Rattle.protocol.specs.Memory.{capacity, Number, sameNumber, Query, queryAt, remembered, Found, Absent, At, later, pickFound, find, isFound, seen, remember, noTwice, left}
+use Rattle.protocol.specs.Lines.{withPong, storedPongs}
+use Rattle.protocol.specs.Calls.{closedState}
+use Rattle.protocol.specs.Kept.{asked, leftBy, RemembersNewest, RemembersLeft, StoresNewest}
+
+pub remembered-newest : RemembersNewest
+unfolding remembered remember
+remembered-newest s n who z hc hn =
+    ring-push 511 (s .next) (s .count) hn hc (queryAt (remember s n who)) (queryAt s) (asked n who)
+    (λ i. record {
+      number = record {
+        lo = getD-set-same (s .lo) (s .next) (n .lo) 0 (omega (arith, z .lo)) i;
+        hi = getD-set-same (s .hi) (s .next) (n .hi) 0 (omega (arith, z .hi)) i;
+      };
+      asker = getD-set-same (s .asker) (s .next) who 0 (omega (arith, z .asker)) i;
+    })
+    (λ x ne i. record {
+      number = record {
+        lo = getD-set-other (s .lo) (s .next) x (n .lo) 0 ne i;
+        hi = getD-set-other (s .hi) (s .next) x (n .hi) 0 ne i;
+      };
+      asker = getD-set-other (s .asker) (s .next) x who 0 ne i;
+    })
+
+pub remembered-left : RemembersLeft
+unfolding remembered
+remembered-left s l z =
+    map-where (λ x. ltb x capacity) (queryAt (closedState s l)) (λ x. leftBy l (queryAt s x))
+    (λ x t i. let k : x < capacity = ltb-true x capacity t in
+    record { number = queryAt s x .number; asker = map-getD (left l) (s .asker) x 0 0 (omega (arith, z .asker)) i })
+    (keptPlaces capacity (s .next) (s .count))
+    (kept-below capacity (omega arith) (s .next) (s .count))
+    ∙ sym (map-map (queryAt s) (leftBy l) (keptPlaces capacity (s .next) (s .count)))
+
+pub stored-newest : StoresNewest
+unfolding storedPongs
+stored-newest x p z hc hn =
+    ring-push 9 (x .pongnext) (x .pongcount) hn hc (λ i. getD (withPong x p .pongs) i (record { bytes = []; hops = 0; clock = 0 }))
+    (λ i. getD (x .pongs) i (record { bytes = []; hops = 0; clock = 0 }))
+    p
+    (getD-set-same (x .pongs) (x .pongnext) p (record { bytes = []; hops = 0; clock = 0 }) (omega (arith, z)))
+    (λ i ne. getD-set-other (x .pongs) (x .pongnext) i p (record { bytes = []; hops = 0; clock = 0 }) ne)
+
+-- a number is seen exactly if some remembered query has it
+find-any : (qs : List Query) (n : Number) → isFound (find qs n) ≡ any (λ q. sameNumber (q .number) n) qs
+unfolding find
+find-any [] n = refl
+find-any (q ∷ qs) n = here (sameNumber (q .number) n) (find qs n) ∙ ap (λ b. sameNumber (q .number) n || b) (find-any qs n)
+  where
+    late : (f : Found) → isFound (later f) ≡ isFound f
+    late Absent = refl
+    late (At k a) = refl
+
+    here : (b : Bool) (f : Found) → isFound (pickFound b (At 0 (q .asker)) (later f)) ≡ (b || isFound f)
+    here true f = refl
+    here false f = late f
+
+pub seen-any : (s : Station) (n : Number) → seen s n ≡ any (λ q. sameNumber (q .number) n) (remembered s)
+seen-any s n = find-any (remembered s) n
+
+-- no number twice: among the newest, after one more that was not there, and after a closing
+pub noTwice-take : (k : ℕ) (qs : List Query) → noTwice qs ≡ true → noTwice (take k qs) ≡ true
+unfolding noTwice
+noTwice-take zero qs h = refl
+noTwice-take (suc k) [] h = refl
+noTwice-take (suc k) (q ∷ qs) h =
+    let a : any (λ p. sameNumber (p .number) (q .number)) qs ≡ false
+    = not-true (any (λ p. sameNumber (p .number) (q .number)) qs) (and-fst (not (any (λ p. sameNumber (p .number) (q .number)) qs)) (noTwice qs) h) in
+    rw (any-take (λ p. sameNumber (p .number) (q .number)) k qs a) (noTwice-take k qs (and-snd (not (any (λ p. sameNumber (p .number) (q .number)) qs)) (noTwice qs) h))
+
+pub noTwice-new : (n : Number) (who : ℕ) (qs : List Query) → any (λ q. sameNumber (q .number) n) qs ≡ false → noTwice qs ≡ true → noTwice (asked n who ∷ qs) ≡ true
+unfolding noTwice
+noTwice-new n who qs a h = rw a h
+
+any-left : (l : ℕ) (n : Number) (qs : List Query) → any (λ q. sameNumber (q .number) n) (map (leftBy l) qs) ≡ any (λ q. sameNumber (q .number) n) qs
+any-left l n [] = refl
+any-left l n (q ∷ qs) = ap (λ b. sameNumber (q .number) n || b) (any-left l n qs)
+
+pub noTwice-left : (l : ℕ) (qs : List Query) → noTwice (map (leftBy l) qs) ≡ noTwice qs
+unfolding noTwice
+noTwice-left l [] = refl
+noTwice-left l (q ∷ qs) = ap₂ (λ a b. not a && b) (any-left l (q .number) qs) (noTwice-left l qs)

@@ -1,0 +1,119 @@
+-- What every call keeps: a state in order stays in order, a state out of order comes back untouched, and a refusal leaves what stands.
+-- And what a call does to the remembered queries and the stored pongs, as newest-first lists.
+use Prim.Native.Nat.{ℕ, _/_, _≤_, _<_}
+use mathlib.Core.Path.{_≡_}
+use mathlib.Core.Bool.{Bool, true, false, cond, _&&_}
+use mathlib.Core.List.{List, [], _∷_, map}
+use lib.Dec.{eqb, leb, ltb}
+use lib.ListN.{length, take}
+use Rattle.laws.specs.Tests.{all}
+use Rattle.wire.specs.Header.{kindOf, routeUpdate}
+use Rattle.tables.specs.Tables.{marked, broken}
+use Rattle.protocol.specs.declared.Pong.{Pong}
+use Rattle.protocol.specs.declared.Line.{Line}
+use Rattle.protocol.specs.declared.Station.{Station}
+use Rattle.protocol.specs.declared.Own.{Own}
+use Rattle.protocol.specs.Memory.{capacity, Number, Query, remembered, remember, left}
+use Rattle.protocol.specs.Lines.{lineCount, lineAt, withLine, withTable, withPong, pongCapacity, storedPongs}
+use Rattle.protocol.specs.Order.{inOrder}
+use Rattle.protocol.specs.Outcomes.{Outcome, quiet}
+use Rattle.protocol.specs.Calls.{fresh, opening, closedState, closing, messageOutcome, ownOutcome}
+use Rattle.protocol.specs.Runs.{Call, World, run}
+
+-- the arrays of a state are as long as their types have them
+abbrev pub sizedLine : Line → Bool
+sizedLine x = eqb (length (x .pongs)) pongCapacity && all (λ p. eqb (length (p .bytes)) 14) (x .pongs)
+
+pub record Sized (s : Station) : Type 0 where
+  pub eight : length (s .lines) ≡ lineCount
+  pub lo : length (s .lo) ≡ capacity
+  pub hi : length (s .hi) ≡ capacity
+  pub asker : length (s .asker) ≡ capacity
+  pub pongs : all sizedLine (s .lines) ≡ true
+
+-- a state after a call, and the state before it
+pub record Kept (s s′ : Station) : Type 0 where
+  pub order : inOrder s′ ≡ true
+  pub sized : Sized s′
+  pub room : s′ .room ≡ s .room
+
+-- a fresh state is in order and all its lines are closed
+pub record FreshFacts (n : ℕ) : Type 0 where
+  pub order : inOrder (fresh n .state) ≡ true
+  pub sized : Sized (fresh n .state)
+  pub room : fresh n .state .room ≡ cond (ltb n 32) 0 (n / 8)
+  pub closed : (l : ℕ) → l < lineCount → lineAt (fresh n .state) l .live ≡ false
+
+abbrev pub FreshInOrder : Type 0
+FreshInOrder = (n : ℕ) → FreshFacts n
+
+-- each call keeps a state in order, whatever it is answered
+pub record KeptByCalls (s : Station) : Type 0 where
+  pub opens : (l : ℕ) → Kept s (opening s l .state)
+  pub closes : (l : ℕ) → Kept s (closing s l .state)
+  pub message : (l clock : ℕ) (own : Own) (m : List ℕ) (out : ℕ) (route : List ℕ) → Kept s (messageOutcome s l clock own m out route .state)
+  pub asks : (number text : List ℕ) (out : ℕ) (route : List ℕ) → Kept s (ownOutcome s number text out route .state)
+
+abbrev pub OrderKept : Type 0
+OrderKept = (s : Station) → Sized s → inOrder s ≡ true → KeptByCalls s
+
+-- so does every list of calls
+abbrev pub OrderKeptByLists : Type 0
+OrderKeptByLists = (w : World) (cs : List Call) → Sized (w .state) → inOrder (w .state) ≡ true → Kept (w .state) (run w cs .state)
+
+-- a state out of order is answered 1 and comes back as it was, with the area
+pub record AnsweredOne (s : Station) : Type 0 where
+  pub opens : (l : ℕ) → opening s l ≡ quiet 1 s []
+  pub closes : (l : ℕ) → closing s l ≡ quiet 1 s []
+  pub message : (l clock : ℕ) (own : Own) (m : List ℕ) (out : ℕ) (route : List ℕ) → messageOutcome s l clock own m out route ≡ quiet 1 s route
+  pub asks : (number text : List ℕ) (out : ℕ) (route : List ℕ) → ownOutcome s number text out route ≡ quiet 1 s route
+
+abbrev pub OutOfOrder : Type 0
+OutOfOrder = (s : Station) → inOrder s ≡ false → AnsweredOne s
+
+-- a refusal sends to nobody, writes nothing, searches and delivers nothing, and leaves state and area, but that 14, 15 or 16 for an
+-- arriving update marks its line's table broken
+abbrev pub marksBroken : ℕ → List ℕ → Bool
+marksBroken n m = eqb (kindOf m) routeUpdate && (leb 14 n && leb n 16)
+
+abbrev pub brokenAt : Station → ℕ → Station
+brokenAt s l = withLine s l (withTable (lineAt s l) (marked broken (lineAt s l .table)))
+
+abbrev pub afterRefusal : ℕ → Station → ℕ → List ℕ → Station
+afterRefusal n s l m = cond (marksBroken n m) (brokenAt s l) s
+
+-- an outcome that is refused is `quiet`; the state that it leaves may depend on the answer
+abbrev pub RefusedQuietly : Outcome → (ℕ → Station) → List ℕ → Type 0
+RefusedQuietly o s route = (o .answer ≡ 0 → ⊥) → o ≡ quiet (o .answer) (s (o .answer)) route
+
+pub record RefusalsLeave (s : Station) : Type 0 where
+  pub opens : (l : ℕ) → RefusedQuietly (opening s l) (λ n. s) []
+  pub closes : (l : ℕ) → RefusedQuietly (closing s l) (λ n. s) []
+  pub message : (l clock : ℕ) (own : Own) (m : List ℕ) (out : ℕ) (route : List ℕ)
+      → RefusedQuietly (messageOutcome s l clock own m out route) (λ n. afterRefusal n s l m) route
+  pub asks : (number text : List ℕ) (out : ℕ) (route : List ℕ) → RefusedQuietly (ownOutcome s number text out route) (λ n. s) route
+
+abbrev pub RefusalFrame : Type 0
+RefusalFrame = (s : Station) → RefusalsLeave s
+
+-- the remembered queries after one more, after a closing, and the stored pongs after one more
+abbrev pub asked : Number → ℕ → Query
+asked n who = record { number = n; asker = who }
+
+abbrev pub leftBy : ℕ → Query → Query
+leftBy l q = record { number = q .number; asker = left l (q .asker) }
+
+abbrev pub RemembersNewest : Type 0
+RemembersNewest =
+    (s : Station) (n : Number) (who : ℕ)
+    → Sized s → s .count ≤ capacity → s .next < capacity
+    → remembered (remember s n who) ≡ take capacity (asked n who ∷ remembered s)
+
+abbrev pub RemembersLeft : Type 0
+RemembersLeft = (s : Station) (l : ℕ) → Sized s → remembered (closedState s l) ≡ map (leftBy l) (remembered s)
+
+abbrev pub StoresNewest : Type 0
+StoresNewest =
+    (x : Line) (p : Pong)
+    → length (x .pongs) ≡ pongCapacity → x .pongcount ≤ pongCapacity → x .pongnext < pongCapacity
+    → storedPongs (withPong x p) ≡ take pongCapacity (p ∷ storedPongs x)

@@ -1,0 +1,60 @@
+-- Demand 3 at any place of a list of calls, in the demand's own words: which lines a query goes on to, read off the updates of the line's
+-- opening and off what then stands in state and route area. No expected table is mentioned here.
+use Prim.Native.Nat.{ℕ, _-_, _≤_, _<_, min}
+use mathlib.Core.Path.{_≡_}
+use mathlib.Core.Bool.{Bool, true, false}
+use mathlib.Core.Logic.{_↔_, _⊎_}
+use mathlib.Core.List.{List, [], _∷_, List·Memᴰ}
+use lib.ListN.{length, getD}
+use Rattle.wire.specs.Header.{kindOf, ttlOf, hopsOf, payloadOf}
+use Rattle.keywords.specs.Keywords.{keywordsOf}
+use Rattle.keywords.specs.Hash.{placeOf}
+use Rattle.protocol.specs.declared.Station.{Station}
+use Rattle.protocol.specs.declared.Own.{Own}
+use Rattle.protocol.specs.Lines.{lineAt}
+use Rattle.protocol.specs.Order.{inOrder}
+use Rattle.protocol.specs.Outcomes.{Outcome}
+use Rattle.protocol.specs.Queries.{textIn}
+use Rattle.protocol.specs.Calls.{messageOutcome, ownOutcome}
+use Rattle.protocol.specs.Runs.{Call, World, run, start, Fair}
+use Rattle.protocol.specs.History.{Update, updatesOf, speaks}
+use Rattle.protocol.specs.Demand3.{bitsOf, entriesAt}
+
+-- the entry of a keyword that stands in the route area
+abbrev pub standingEntry : World → ℕ → List ℕ → ℕ
+standingEntry w L k = getD (entriesAt (w .state) L (w .area)) (placeOf (bitsOf (lineAt (w .state) L .table .length)) k) 0
+
+-- line L withholds a text to be sent with this TTL: not in a quiet period (before an accepted RESET of the opening, before a first finished
+-- run since the last, inside a later run, from a refused update to the next accepted RESET), and some keyword's entry is Infinity or exceeds it
+abbrev pub WithheldNow : World → ℕ → List ℕ → ℕ → Type 0
+WithheldNow w L text ttl =
+    (speaks (updatesOf L (w .log)) ≡ true)
+    × ((k : List ℕ)
+    × List·Memᴰ k (keywordsOf text)
+    × ((standingEntry w L k ≡ lineAt (w .state) L .table .infinity) ⊎ (ttl < standingEntry w L k)))
+
+abbrev pub lifeLeft : List ℕ → ℕ
+lifeLeft m = min (ttlOf m) (7 - hopsOf m)
+
+-- an arriving query answered 0 goes on to line L, an own query does
+pub record Forwards (w : World) (L : ℕ) : Type 0 where
+  pub message : (l clock : ℕ) (own : Own) (m : List ℕ) (out : ℕ)
+      → messageOutcome (w .state) l clock own m out (w .area) .answer ≡ 0
+      → kindOf m ≡ 0x80
+      → (getD (messageOutcome (w .state) l clock own m out (w .area) .to) L false ≡ true)
+      ↔ ((lineAt (w .state) L .live ≡ true) × (L ≡ l → ⊥) × (2 ≤ lifeLeft m) × (WithheldNow w L (textIn (payloadOf m)) (lifeLeft m - 1) → ⊥))
+  pub asks : (number text : List ℕ) (out : ℕ)
+      → ownOutcome (w .state) number text out (w .area) .answer ≡ 0
+      → (getD (ownOutcome (w .state) number text out (w .area) .to) L false ≡ true)
+      ↔ ((lineAt (w .state) L .live ≡ true) × (WithheldNow w L text 7 → ⊥))
+
+-- after every list of calls, from any state in order with the line closed
+abbrev pub QuietPeriods : Type 0
+QuietPeriods =
+    (s : Station) (area : List ℕ) (L : ℕ) (cs : List Call)
+    → length (s .lines) ≡ 8
+    → inOrder s ≡ true
+    → L ≤ 7
+    → lineAt s L .live ≡ false
+    → Fair (s .room) cs
+    → Forwards (run (start s area) cs) L

@@ -1,0 +1,2 @@
+-- How the calls are put together.
+pub mod Acting

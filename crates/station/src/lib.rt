@@ -1,0 +1,3 @@
+// Floor 4: the station's calls. The rules are the definitions of crate protocol; the work is done by the crates below, each on the slices and numbers it
+// needs. Only the calls hold a state.
+pub mod acted;

@@ -1,0 +1,203 @@
+-- Laws of the numbers of a PATCH, over the bits of a number.
+use Prim.Native.Nat.{ℕ, zero, suc, _+_, _-_, _*_, _/_, _%_, _^_, _≤_, _<_}
+use mathlib.Core.Path.{_≡_, refl, sym, ap, _∙_}
+use mathlib.Core.Logic.{⊎-elim}
+use mathlib.Core.Bool.{Bool, true, false, cond, _&&_, false≢true, and-assoc, and-true}
+use mathlib.Core.List.{List, [], _∷_, _++_}
+use native.Mathlib.Omega.{arith}
+use native.Mathlib.Numerals.{add-one}
+use lib.Dec.{eqb, leb, ltb}
+use lib.ListN.{length, getD, take, drop, set, length-set, take-append-drop, drop-of-length-le}
+use lib.Seq.{drop-cons, take-suc-set, drop-set-lt, append-snoc}
+use borrow.Author.Tests.{eqb-true, ne-eqb, lt-ltb, le-ltb, le-leb, ltb-true, leb-true}
+use Rattle.tables.specs.Patch.{goodBits, numbers, numberCount, half, gain, loss, fits, sumOf, allFit, added}
+use Rattle.tables.proofs.TestLaws.{either, both-true}
+
+-- what is known of a width: its whole range is twice its half, which is at most 128
+pub record Width (bits : ℕ) : Type 0 where
+  pub whole : 2 ^ bits ≡ half bits + half bits
+  pub small : half bits ≤ 128
+
+-- what holds at 4 and at 8 bits holds at every width
+pub at-widths : (P : ℕ → Type 0) → P 4 → P 8 → (bits : ℕ) → goodBits bits ≡ true → P bits
+at-widths P four eight bits g =
+    ⊎-elim
+    (λ e. rw (eqb-true bits 4 e) four)
+    (λ e. rw (eqb-true bits 8 e) eight)
+    (either (eqb bits 4) (eqb bits 8) g)
+
+pub width : (bits : ℕ) → goodBits bits ≡ true → Width bits
+width = at-widths Width (record { whole = refl; small = omega arith }) (record { whole = refl; small = omega arith })
+
+pub gain-low : (bits v : ℕ) → v < half bits → gain bits v ≡ v
+gain-low bits v h = rw (lt-ltb v (half bits) h)
+
+pub loss-low : (bits v : ℕ) → v < half bits → loss bits v ≡ 0
+loss-low bits v h = rw (lt-ltb v (half bits) h)
+
+pub gain-high : (bits v : ℕ) → half bits ≤ v → gain bits v ≡ 0
+gain-high bits v h = rw (le-ltb v (half bits) h)
+
+pub loss-high : (bits v : ℕ) → half bits ≤ v → loss bits v ≡ 2 ^ bits - v
+loss-high bits v h = rw (le-ltb v (half bits) h)
+
+-- what a number that fits says of the sum
+pub record Fitting (bits infinity v e : ℕ) : Type 0 where
+  pub low : loss bits v < e + gain bits v
+  pub high : e + gain bits v ≤ infinity + loss bits v
+
+pub fitting : (bits infinity v e : ℕ) → fits bits infinity v e ≡ true → Fitting bits infinity v e
+fitting bits infinity v e h =
+    let t = both-true (ltb (loss bits v) (e + gain bits v)) (leb (e + gain bits v) (infinity + loss bits v)) h in
+    record {
+      low = ltb-true (loss bits v) (e + gain bits v) (t .0);
+      high = leb-true (e + gain bits v) (infinity + loss bits v) (t .1);
+    }
+
+-- a width that is not 4 is 8
+pub eight : (bits : ℕ) → goodBits bits ≡ true → (bits ≡ 4 → ⊥) → bits ≡ 8
+eight bits g n =
+    ⊎-elim (λ e. absurd (n (eqb-true bits 4 e))) (λ e. eqb-true bits 8 e) (either (eqb bits 4) (eqb bits 8) g)
+
+pub half-eight : (bits : ℕ) → goodBits bits ≡ true → (bits ≡ 4 → ⊥) → half bits ≡ 128
+half-eight bits g n = ap half (eight bits g n)
+
+-- the numbers at places 2k and 2k + 1 of 4-bit data are the halves of byte k
+pub high-at : (bytes : List ℕ) (k : ℕ) → getD (numbers 4 bytes) (k * 2) 0 ≡ getD bytes k 0 / 16
+unfolding numbers
+high-at [] k = refl
+high-at (b ∷ bs) zero = refl
+high-at (b ∷ bs) (suc k) = let e : suc k * 2 ≡ suc (suc (k * 2)) = omega arith in rw e (high-at bs k)
+
+pub low-at : (bytes : List ℕ) (k : ℕ) → getD (numbers 4 bytes) (suc (k * 2)) 0 ≡ getD bytes k 0 % 16
+unfolding numbers
+low-at [] k = refl
+low-at (b ∷ bs) zero = refl
+low-at (b ∷ bs) (suc k) = let e : suc k * 2 ≡ suc (suc (k * 2)) = omega arith in rw e (low-at bs k)
+
+-- data that is not of 4 bits is its own numbers
+pub numbers-whole : (bits : ℕ) (bytes : List ℕ) → (bits ≡ 4 → ⊥) → numbers bits bytes ≡ bytes
+unfolding numbers
+numbers-whole bits [] n = refl
+numbers-whole bits (b ∷ bs) n = rw (ne-eqb bits 4 n) (ap (λ l. b ∷ l) (numbers-whole bits bs n))
+
+pub numbers-length : (bits : ℕ) (bytes : List ℕ) → length (numbers bits bytes) ≡ numberCount bits (length bytes)
+unfolding numbers
+numbers-length bits [] = by (eqb bits 4)
+  where
+    by : (t : Bool) → 0 ≡ 0 * cond t 2 1
+    by true = refl
+    by false = refl
+numbers-length bits (b ∷ bs) = by (eqb bits 4) (numbers-length bits bs)
+  where
+    by : (t : Bool)
+        → length (numbers bits bs) ≡ length bs * cond t 2 1
+        → length (cond t (b / 16 ∷ b % 16 ∷ numbers bits bs) (b ∷ numbers bits bs)) ≡ suc (length bs) * cond t 2 1
+    by true h = omega arith
+    by false h = omega arith
+
+-- the test of all numbers from place j on: the one at j, then those from j + 1 on
+pub fit-more : (bits infinity j : ℕ) (vs es : List ℕ) → j < length vs → j < length es
+    → allFit bits infinity (drop j vs) (drop j es)
+    ≡ (fits bits infinity (getD vs j 0) (getD es j 0) && allFit bits infinity (drop (j + 1) vs) (drop (j + 1) es))
+unfolding allFit
+fit-more bits infinity j vs es h k = rw (drop-cons vs j 0 h, drop-cons es j 0 k) (simp add-one)
+
+-- entries are at least as many as numbers that all fit
+pub fit-long : (bits infinity : ℕ) (vs es : List ℕ) → allFit bits infinity vs es ≡ true → length vs ≤ length es
+unfolding allFit
+fit-long bits infinity [] es h = omega arith
+fit-long bits infinity (v ∷ vs) [] h = absurd (false≢true h)
+fit-long bits infinity (v ∷ vs) (e ∷ es) h =
+    let k : length vs ≤ length es = fit-long bits infinity vs es (both-true (fits bits infinity v e) (allFit bits infinity vs es) h .1) in
+    omega arith
+
+-- the entries once the number at j is added: those from j + 1 on are left to do
+pub added-more : (bits j : ℕ) (vs es : List ℕ) → j < length vs → j < length es
+    → take j es ++ added bits (drop j vs) (drop j es)
+    ≡ take (j + 1) (set es j (sumOf bits (getD vs j 0) (getD es j 0)))
+    ++ added bits (drop (j + 1) vs) (drop (j + 1) (set es j (sumOf bits (getD vs j 0) (getD es j 0))))
+unfolding added
+added-more bits j vs es h k =
+    let s = sumOf bits (getD vs j 0) (getD es j 0) in
+    rw (drop-cons vs j 0 h, drop-cons es j 0 k)
+    (simp add-one
+    (rw (take-suc-set es j s k, drop-set-lt (suc j) es j s (omega arith))
+    (sym (append-snoc (take j es) s (added bits (drop (suc j) vs) (drop (suc j) es))))))
+
+-- what is known while numbers are added one by one, when those before place j are: what is left to do gives the whole
+pub record Adding (bits : ℕ) (vs old es : List ℕ) (j : ℕ) : Type 0 where
+  pub within : j ≤ length vs
+  pub long : length vs ≤ length es
+  pub same : length es ≡ length old
+  pub fit : allFit bits 255 (drop j vs) (drop j es) ≡ true
+  pub left : take j es ++ added bits (drop j vs) (drop j es) ≡ added bits vs old
+
+pub adding-first : (bits : ℕ) (vs es : List ℕ) → allFit bits 255 vs es ≡ true → Adding bits vs es es 0
+adding-first bits vs es h =
+    record { within = omega arith; long = fit-long bits 255 vs es h; same = refl; fit = h; left = refl }
+
+module _ (bits j : ℕ) (vs old es : List ℕ) (a : Adding bits vs old es j) where
+  pub adding-fits : j < length vs → fits bits 255 (getD vs j 0) (getD es j 0) ≡ true
+  adding-fits h =
+      both-true
+      (fits bits 255 (getD vs j 0) (getD es j 0))
+      (allFit bits 255 (drop (j + 1) vs) (drop (j + 1) es))
+      (sym (fit-more bits 255 j vs es h (omega arith)) ∙ a .fit)
+      .0
+
+  pub adding-more : (s : ℕ) → j < length vs → s ≡ sumOf bits (getD vs j 0) (getD es j 0) → Adding bits vs old (set es j s) (j + 1)
+  adding-more s h e =
+      record {
+        within = omega arith;
+        long = simp length-set (a .long);
+        same = simp length-set (a .same);
+        fit =
+            rw (drop-set-lt (j + 1) es j s (omega arith))
+            (both-true
+            (fits bits 255 (getD vs j 0) (getD es j 0))
+            (allFit bits 255 (drop (j + 1) vs) (drop (j + 1) es))
+            (sym (fit-more bits 255 j vs es h (omega arith)) ∙ a .fit)
+            .1);
+        left = rw e (sym (added-more bits j vs es h (omega arith)) ∙ a .left);
+      }
+
+  pub adding-end : length vs ≤ j → es ≡ added bits vs old
+  unfolding added
+  adding-end h =
+      sym (take-append-drop j es)
+      ∙ ap (λ l. take j es ++ added bits l (drop j es)) (sym (drop-of-length-le vs h))
+      ∙ a .left
+
+-- a test of all numbers with those before place j tested, once the one at j is tested too
+pub testing-more : (bits infinity j : ℕ) (vs es : List ℕ) (good fit : Bool) → j < length vs → j < length es
+    → fit ≡ fits bits infinity (getD vs j 0) (getD es j 0)
+    → (good && allFit bits infinity (drop j vs) (drop j es)) ≡ ((good && fit) && allFit bits infinity (drop (j + 1) vs) (drop (j + 1) es))
+testing-more bits infinity j vs es good fit h k e =
+    ap (λ t. good && t) (fit-more bits infinity j vs es h k)
+    ∙ sym (and-assoc good (fits bits infinity (getD vs j 0) (getD es j 0)) (allFit bits infinity (drop (j + 1) vs) (drop (j + 1) es)))
+    ∙ rw e refl
+
+pub testing-end : (bits infinity j : ℕ) (vs es : List ℕ) (good : Bool) → length vs ≤ j → (good && allFit bits infinity (drop j vs) (drop j es)) ≡ good
+unfolding allFit
+testing-end bits infinity j vs es good h = rw (drop-of-length-le vs h) (and-true good)
+
+pub added-length : (bits : ℕ) (vs es : List ℕ) → length (added bits vs es) ≡ length es
+unfolding added
+added-length bits [] es = refl
+added-length bits (v ∷ vs) [] = refl
+added-length bits (v ∷ vs) (e ∷ es) = ap suc (added-length bits vs es)
+
+-- numbers that fit below an Infinity fit below a larger one
+pub fit-wider : (bits low high : ℕ) (vs es : List ℕ) → low ≤ high → allFit bits low vs es ≡ true → allFit bits high vs es ≡ true
+unfolding allFit
+fit-wider bits low high [] es h a = refl
+fit-wider bits low high (v ∷ vs) [] h a = a
+fit-wider bits low high (v ∷ vs) (e ∷ es) h a =
+    let t = both-true (fits bits low v e) (allFit bits low vs es) a in
+    let f = fitting bits low v e (t .0) in
+    rw (
+      lt-ltb (loss bits v) (e + gain bits v) (f .low),
+      le-leb (e + gain bits v) (high + loss bits v) (omega arith),
+    )
+    (fit-wider bits low high vs es h (t .1))

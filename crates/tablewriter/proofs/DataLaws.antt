@@ -1,0 +1,142 @@
+-- The data of a run: its length, and each byte from the entries it covers.
+use Prim.Native.Nat.{ℕ, zero, suc, _+_, _-_, _*_, _/_, _^_, _≤_, _<_}
+use mathlib.Core.Path.{_≡_, refl, sym, ap, ap₂, _∙_}
+use mathlib.Core.Bool.{Bool, true, false, cond, _&&_, and-eq-true-iff}
+use mathlib.Core.List.{List, [], _∷_}
+use native.Mathlib.Omega.{arith}
+use native.Mathlib.Numerals.{add-one}
+use lib.ListN.{length, getD, drop, length-replicate, getD-replicate, drop-of-length-le}
+use lib.Seq.{drop-cons}
+use lib.Dec.{leb}
+use borrow.Author.Tests.{leb-true, leb-false}
+use Rattle.tables.specs.Patch.{packed}
+use Rattle.tablewriter.specs.Writer.{baseOf, near, allNear, raw, raws}
+use Rattle.tablewriter.specs.Steps.{rawIn, pairIn, dataLength}
+
+-- one raw number for each entry
+module _ (bits : ℕ) where
+  pub raws-length : (es bs : List ℕ) → length bs ≡ length es → length (raws bits es bs) ≡ length es
+  unfolding raws
+  raws-length [] bs h = refl
+  raws-length (e ∷ es) [] h = h
+  raws-length (e ∷ es) (b ∷ bs) h = ap suc (raws-length es bs (omega arith))
+
+  pub raws-at : (es bs : List ℕ) (i : ℕ) → length bs ≡ length es → i < length es
+      → getD (raws bits es bs) i 0 ≡ raw bits (getD es i 0) (getD bs i 0)
+  unfolding raws
+  raws-at [] bs i h k = absurd (omega arith)
+  raws-at (e ∷ es) [] i h k = absurd (omega arith)
+  raws-at (e ∷ es) (b ∷ bs) zero h k = refl
+  raws-at (e ∷ es) (b ∷ bs) (suc i) h k = raws-at es bs i (omega arith) (omega arith)
+
+-- 8 bits: each number is a byte
+pub packed-eight : (rs : List ℕ) → packed 8 rs ≡ rs
+unfolding packed
+packed-eight [] = refl
+packed-eight (u ∷ []) = refl
+packed-eight (u ∷ v ∷ vs) = ap (λ l. u ∷ l) (packed-eight (v ∷ vs))
+
+-- 4 bits: two numbers a byte
+pub packed-four-length : (rs : List ℕ) → length (packed 4 rs) ≡ length rs / 2
+unfolding packed
+packed-four-length [] = refl
+packed-four-length (u ∷ []) = refl
+packed-four-length (u ∷ v ∷ vs) = omega (arith, packed-four-length vs)
+
+pub packed-four-at : (rs : List ℕ) (j : ℕ) → 2 * j + 1 < length rs → getD (packed 4 rs) j 0 ≡ getD rs (2 * j) 0 * 16 + getD rs (2 * j + 1) 0
+unfolding packed
+packed-four-at [] j h = absurd (omega arith)
+packed-four-at (u ∷ []) j h = absurd (omega arith)
+packed-four-at (u ∷ v ∷ vs) zero h = refl
+packed-four-at (u ∷ v ∷ vs) (suc j) h =
+    let e : 2 * suc j ≡ suc (suc (2 * j)) = omega arith in
+    let f : 2 * suc j + 1 ≡ suc (suc (2 * j + 1)) = omega arith in
+    packed-four-at vs j (omega arith)
+    ∙ sym (ap₂ (λ x y. getD (u ∷ v ∷ vs) x 0 * 16 + getD (u ∷ v ∷ vs) y 0) e f)
+
+-- every difference fits: so does the one at i, and the test of those from i on
+pub near-at : (es bs : List ℕ) (i : ℕ) → length bs ≡ length es → i < length es → allNear es bs ≡ true
+    → near (getD es i 0) (getD bs i 0) ≡ true
+unfolding allNear
+near-at [] bs i h k a = absurd (omega arith)
+near-at (e ∷ es) [] i h k a = absurd (omega arith)
+near-at (e ∷ es) (b ∷ bs) zero h k a = and-eq-true-iff (near e b) (allNear es bs) .0 a .0
+near-at (e ∷ es) (b ∷ bs) (suc i) h k a = near-at es bs i (omega arith) (omega arith) (and-eq-true-iff (near e b) (allNear es bs) .0 a .1)
+
+module _ (es bs : List ℕ) (i : ℕ) where
+  near-next : i < length es → i < length bs
+      → allNear (drop i es) (drop i bs) ≡ near (getD es i 0) (getD bs i 0) && allNear (drop (i + 1) es) (drop (i + 1) bs)
+  unfolding allNear
+  near-next h k =
+      ap₂ allNear (drop-cons es i 0 h) (drop-cons bs i 0 k)
+      ∙ ap (λ n. near (getD es i 0) (getD bs i 0) && allNear (drop n es) (drop n bs)) (sym (add-one i))
+
+  pub near-stop : i < length es → i < length bs → near (getD es i 0) (getD bs i 0) ≡ false → allNear (drop i es) (drop i bs) ≡ false
+  near-stop h k e = near-next h k ∙ ap (λ b. b && allNear (drop (i + 1) es) (drop (i + 1) bs)) e
+
+  pub near-on : i < length es → i < length bs → near (getD es i 0) (getD bs i 0) ≡ true
+      → allNear (drop i es) (drop i bs) ≡ allNear (drop (i + 1) es) (drop (i + 1) bs)
+  near-on h k e = near-next h k ∙ ap (λ b. b && allNear (drop (i + 1) es) (drop (i + 1) bs)) e
+
+  pub near-end : length es ≤ i → allNear (drop i es) (drop i bs) ≡ true
+  unfolding allNear
+  near-end h = ap (λ l. allNear l (drop i bs)) (drop-of-length-le es h)
+
+-- what differences are taken from, entry by entry
+pub base-at : (had : Bool) (old new : List ℕ) (infinity i : ℕ) → i < length new
+    → getD (baseOf had old new infinity) i 0 ≡ cond had (getD old i 0) infinity
+base-at true old new infinity i h = refl
+base-at false old new infinity i h = getD-replicate (length new) i infinity 0 h
+
+pub base-length : (had : Bool) (old new : List ℕ) (infinity : ℕ) → (had ≡ true → length old ≡ length new)
+    → length (baseOf had old new infinity) ≡ length new
+base-length true old new infinity h = h refl
+base-length false old new infinity h = length-replicate (length new) infinity
+
+-- the run's data from the entries
+module _ (new base : List ℕ) (like : length base ≡ length new) where
+  pub data-length : (small : Bool) → length (packed (cond small 4 8) (raws (cond small 4 8) new base)) ≡ dataLength small (length new)
+  data-length true = packed-four-length (raws 4 new base) ∙ ap (λ n. n / 2) (raws-length 4 new base like)
+  data-length false = ap length (packed-eight (raws 8 new base)) ∙ raws-length 8 new base like
+
+  -- two entries a byte, the first in its first four bits
+  pub pair-at : (j : ℕ) → j < length new / 2
+      → getD (packed 4 (raws 4 new base)) j 0
+      ≡ pairIn new base (2 * j)
+  pair-at j h =
+      packed-four-at (raws 4 new base) j (omega (arith, raws-length 4 new base like))
+      ∙ ap₂ (λ x y. x * 16 + y) (raws-at 4 new base (2 * j) like (omega arith)) (raws-at 4 new base (2 * j + 1) like (omega arith))
+
+  pub single-at : (j : ℕ) → j < length new → getD (packed 8 (raws 8 new base)) j 0 ≡ rawIn 256 (getD new j 0) (getD base j 0)
+  single-at j h = ap (λ l. getD l j 0) (packed-eight (raws 8 new base)) ∙ raws-at 8 new base j like h
+
+-- a difference that fits is below 2 to the power of its bits
+raw-by : (full e b : ℕ) (t : Bool) → leb b e ≡ t → e < full + b → b ≤ full + e → cond t (e - b) (full + e - b) < full
+raw-by full e b true h j k = omega (arith, leb-true b e h)
+raw-by full e b false h j k = omega (arith, leb-false b e h)
+
+pub raw-wide : (e b : ℕ) → e < 256 → b < 256 → rawIn 256 e b < 256
+raw-wide e b h k = raw-by 256 e b (leb b e) refl (omega arith) (omega arith)
+
+module _ (e b : ℕ) (h : near e b ≡ true) where
+  near-bounds : (e ≤ b + 7) × (b ≤ e + 8)
+  near-bounds =
+      let k = and-eq-true-iff (leb e (b + 7)) (leb b (e + 8)) .0 h in
+      (leb-true e (b + 7) (k .0), leb-true b (e + 8) (k .1))
+
+  pub near-raw : b ≤ 16 + e
+  near-raw = omega (arith, near-bounds .1)
+
+  pub raw-small : rawIn 16 e b < 16
+  raw-small = raw-by 16 e b (leb b e) refl (omega (arith, near-bounds .0)) near-raw
+
+-- the same at entry i, b being what its difference is taken from
+module _ (new base : List ℕ) (like : length base ≡ length new) (all : allNear new base ≡ true) (i b : ℕ) (h : i < length new) (e : b ≡ getD base i 0) where
+  close-at : near (getD new i 0) b ≡ true
+  close-at = rw e (near-at new base i like h all)
+
+  pub base-below : b ≤ 16 + getD new i 0
+  base-below = near-raw (getD new i 0) b close-at
+
+  pub raw-below : (r : ℕ) → r ≡ rawIn 16 (getD new i 0) b → r < 16
+  raw-below r k = rw k (raw-small (getD new i 0) b close-at)

@@ -1,0 +1,143 @@
+use Prim.Native.Nat.{ℕ, _+_, _-_, _≤_, _<_, min}
+use mathlib.Core.Path.{_≡_, ap, sym, _∙_}
+use native.Mathlib.Omega.{arith}
+use lib.ListN.{length, length-take, length-drop}
+use Rattle.tablewriter.specs.Steps.{dataBy}
+use Rattle.tablewriter.proofs.PlanLaws.{plan-length}
+use Rattle.tablewriter.proofs.TurnLaws.{At, begins, ends, turn, turn-data, turn-place, turn-room}
+use borrow.Author.Needs.{needs}
+use Rattle.tablewriter.proofs.run.put_run.Statement.{statement}
+use Rattle.tablewriter.proofs.run.put_run.Tie as tie
+
+abbrev Inv-loop : tie.InvT-loop
+Inv-loop number plan old new out₀ «data» place₀ from₀ at₀ out place from at =
+    («data» ≡ length (dataBy plan old new)) × At number plan (dataBy plan old new) out₀ out place from at
+
+abbrev μ-loop : tie.MeasureT-loop
+μ-loop number plan old new out₀ «data» place₀ from₀ at₀ out place from at = «data» - from
+
+-- what is known once the message's data is counted
+least : (c : tie.After-smaller Inv-loop μ-loop)
+    → c .smaller .result
+    ≡ min (c .before .before .before .before .before .before .before .args .plan .size)
+    (length
+    (dataBy (c .before .before .before .before .before .before .before .args .plan)
+    (c .before .before .before .before .before .before .before .args .old .now)
+    (c .before .before .before .before .before .before .before .args .new .now))
+    - c .before .before .loop .from)
+least c =
+    c .smaller .ensures ∙ ap (λ k. min (c .before .before .before .before .before .before .before .args .plan .size) (k - c .before .before .loop .from)) (c .before .before .loop .inv .0)
+
+bounds : (c : tie.After-smaller Inv-loop μ-loop)
+    → (c .before .before .loop .at + 28 + c .smaller .result ≤ length (c .before .before .loop .out))
+    × (c .before .before .loop .place ≤ c .before .before .before .before .before .before .before .args .plan .count)
+    × (c .before .before .loop .from + c .smaller .result ≤ length (dataBy (c .before .before .before .before .before .before .before .args .plan) (c .before .before .before .before .before .before .before .args .old .now) (c .before .before .before .before .before .before .before .args .new .now)))
+    × (c .smaller .result ≤ 4091)
+    × (0 < c .smaller .result)
+bounds c =
+    let x = c .before .before .before .before .before .before .before .args in
+    let q = c .before .before .before .before .before .before .before .pre in
+    let i = c .before .before .loop in
+    let l = least c in
+    let m : i .from < length (dataBy (x .plan) (x .old .now) (x .new .now)) = omega arith in (
+      omega (arith, turn-room (x .number) (omega arith) (x .plan) (q .some) (dataBy (x .plan) (x .old .now) (x .new .now)) (x .out .now) (i .out) (i .place) (i .from) (i .at) (i .inv .1) (c .smaller .result) m l, i .inv .1 .long, q .fits),
+      turn-place (x .number) (omega arith) (x .plan) (q .some) (dataBy (x .plan) (x .old .now) (x .new .now)) (x .out .now) (i .out) (i .place) (i .from) (i .at) (i .inv .1) (c .smaller .result) m l,
+      turn-data (x .number) (omega arith) (x .plan) (q .some) (dataBy (x .plan) (x .old .now) (x .new .now)) (x .out .now) (i .out) (i .place) (i .from) (i .at) (i .inv .1) (c .smaller .result) m l,
+      omega (arith, q .most),
+      omega (arith, q .some),
+    )
+
+data-length-requires : tie.Need-data-length-requires Inv-loop μ-loop
+data-length-requires c κs = search needs
+
+loop-holds : tie.Need-loop-holds Inv-loop μ-loop
+loop-holds c =
+    let x = c .before .before .before .before .args in
+    let q = c .before .before .before .before .pre in (
+      c .data-length .ensures ∙ sym (plan-length (x .plan) (x .old .now) (x .new .now) (q .sound)),
+      begins (x .number) (x .plan) (dataBy (x .plan) (x .old .now) (x .new .now)) (x .out .now) (q .parts),
+    )
+
+sub-smaller : tie.Need-sub-smaller Inv-loop μ-loop
+sub-smaller c = search needs
+
+smaller-requires : tie.Need-smaller-requires Inv-loop μ-loop
+smaller-requires c κs = search needs
+
+add-end : tie.Need-add-end Inv-loop μ-loop
+add-end c = omega (arith, bounds c .0)
+
+add-end-2 : tie.Need-add-end-2 Inv-loop μ-loop
+add-end-2 c = omega (arith, bounds c .0)
+
+cast-put-patch : tie.Need-cast-put-patch Inv-loop μ-loop
+cast-put-patch c = omega (arith, bounds c .1)
+
+sub-put-patch : tie.Need-sub-put-patch Inv-loop μ-loop
+sub-put-patch c = search needs
+
+part-put-patch-start : tie.Need-part-put-patch-start Inv-loop μ-loop
+part-put-patch-start c = search needs
+
+part-put-patch-end : tie.Need-part-put-patch-end Inv-loop μ-loop
+part-put-patch-end c = bounds c .0
+
+put-patch-requires : tie.Need-put-patch-requires Inv-loop μ-loop
+put-patch-requires c κs =
+    let b = bounds (c .before) in
+    (c .before .before .before .before .before .before .before .before .pre .sound, b .2, b .3, simp (length-take, length-drop) (omega (arith, b .0)))
+
+add-from : tie.Need-add-from Inv-loop μ-loop
+add-from c = omega (arith, bounds (c .before .before .before .before) .2, c .before .before .before .before .before .before .loop .inv .0)
+
+add-place : tie.Need-add-place Inv-loop μ-loop
+add-place c = omega (arith, bounds (c .before .before .before .before) .1)
+
+loop-less : tie.Need-loop-less Inv-loop μ-loop
+loop-less c = omega (arith, bounds (c .before .before .before .before) .4)
+
+loop-again : tie.Need-loop-again Inv-loop μ-loop
+loop-again c =
+    let x = c .before .before .before .before .before .before .before .before .before .before .before .args in
+    let q = c .before .before .before .before .before .before .before .before .before .before .before .pre in
+    let i = c .before .before .before .before .before .before .loop in
+    let n = c .before .before .before .before .smaller .result in
+    let b = bounds (c .before .before .before .before) in
+    let m : i .from < length (dataBy (x .plan) (x .old .now) (x .new .now)) = omega arith in (
+      i .inv .0,
+      turn (x .number) (omega arith) (x .plan) (q .some) (dataBy (x .plan) (x .old .now) (x .new .now)) (x .out .now) (i .out) (i .place) (i .from) (i .at) (i .inv .1) n m (least (c .before .before .before .before)) (i .at + 28 + n - i .at) _ (omega arith) (omega (arith, b .0)) (c .before .before .put-patch .ensures),
+    )
+
+same-length : tie.Need-same-length Inv-loop μ-loop
+same-length c = c .before .loop .inv .1 .long
+
+returns : tie.Need-returns Inv-loop μ-loop
+returns c =
+    let x = c .before .before .before .before .before .before .args in
+    let q = c .before .before .before .before .before .before .pre in
+    let i = c .before .loop in
+    ends (x .number) (omega arith) (x .plan) (q .some) (dataBy (x .plan) (x .old .now) (x .new .now)) (x .out .now) (i .out) (i .place) (i .from) (i .at) (i .inv .1) (omega arith)
+
+pub put-run-spec : {M : Type 1} → statement M
+put-run-spec =
+    tie.close
+    (tie.spec
+    Inv-loop
+    μ-loop
+    data-length-requires
+    loop-holds
+    sub-smaller
+    smaller-requires
+    add-end
+    add-end-2
+    cast-put-patch
+    sub-put-patch
+    part-put-patch-start
+    part-put-patch-end
+    put-patch-requires
+    add-from
+    add-place
+    loop-less
+    loop-again
+    same-length
+    returns)
