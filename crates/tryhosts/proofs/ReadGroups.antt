@@ -309,7 +309,7 @@ module _ (p : Pair) (ps : List Pair) (hs : all isHost (p ∷ ps) ≡ true) where
 
   line-value : leading isBlank value ≡ 0 → valueFor tryName (line ∷ []) ≡ value
   unfolding valueFor lower compared
-  line-value f = rw (f, append-nil, append-nil)
+  line-value f = rw f (append-nil (value ++ []) ∙ append-nil value)
 
   value-good : all goodPair (itemsOf value) ≡ true
   value-good = ap (all goodPair) (pairs-items (p ∷ ps) hs) ∙ pairs-good (p ∷ ps) hs
