@@ -4,7 +4,8 @@ pub mod Over
 pub mod Parts
 pub mod Writing
 pub mod Chunks
--- Facts on lists and numbers that proofs of several crates cite.
+pub mod Text
+pub mod Decimal
 pub mod Refusals
 pub mod Overlay
 pub mod Rings

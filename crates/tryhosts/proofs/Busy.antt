@@ -15,7 +15,7 @@ use Rattle.tryhosts.specs.Writing.{led, Put}
 use Rattle.tryhosts.specs.declared.Pair.{Pair}
 use Rattle.tryhosts.specs.declared.Pairs.{Pairs}
 use Rattle.tryhosts.specs.declared.Wrote.{Wrote}
-use Rattle.tryhosts.proofs.Parsing.{and-left}
+use Rattle.laws.proofs.Refusals.{and-fst}
 use Rattle.tryhosts.proofs.Putting.{put-then}
 
 -- each pair behind a byte is the byte and the pairs with commas between them
@@ -82,7 +82,7 @@ module _ (pairs : Pairs) (k : length (pairs .pairs) ≡ 32) (z : pairs .count �
 
 pub can-few : (pairs : Pairs) → canWrite pairs ≡ true → pairs .count ≤ 32
 unfolding canWrite
-can-few pairs h = leb-true (pairs .count) 32 (and-left (leb (pairs .count) 32) (all hasPort (pairsIn pairs)) h)
+can-few pairs h = leb-true (pairs .count) 32 (and-fst (leb (pairs .count) 32) (all hasPort (pairsIn pairs)) h)
 
 module _ (pairs : Pairs) (area : List ℕ) where
   abbrev Answers : Wrote → List ℕ → Type 0

@@ -1,3 +1,4 @@
+-- Vectors, laws of the definitions, and what is proved of them.
 pub mod Vectors
 pub mod Cuts
 pub mod Numbers
@@ -11,3 +12,4 @@ pub mod Busy
 pub mod ReadBack
 pub mod Asking
 pub mod ReadGroups
+pub mod Six

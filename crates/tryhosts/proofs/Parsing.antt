@@ -9,6 +9,7 @@ use lib.ListN.{length, take, drop}
 use lib.Seq.{length-take-le}
 use Rattle.laws.specs.Tests.{all}
 use Rattle.laws.proofs.Parts.{part-tail}
+use Rattle.laws.proofs.Refusals.{and-fst, and-snd}
 use Rattle.tryhosts.specs.Decimal.{isNumber, number}
 use Rattle.tryhosts.specs.Pairs.{dot, colon, upTo, past, isOctet, isPort, goodPair, pairIn}
 use Rattle.tryhosts.specs.Reading.{numberOr, OctetIn, noParse, parsedFrom, parsedOf, kept, takenOf}
@@ -38,14 +39,6 @@ octet-rest s text o h = part-tail (o .next) text ∙ h .left
 
 -- ---- a pair
 
-pub and-left : (a b : Bool) → (a && b) ≡ true → a ≡ true
-and-left true b h = refl
-and-left false b h = h
-
-pub and-right : (a b : Bool) → (a && b) ≡ true → b ≡ true
-and-right true b h = h
-and-right false b h = let z : _≡_ {A = ℕ} 0 1 = cc in absurd (omega arith)
-
 gather : (a b c d p : Bool) → (a && (b && (c && (d && p)))) ≡ ((a && (b && (c && (d && true)))) && p)
 gather true true true true p = refl
 gather true true true false p = refl
@@ -63,7 +56,7 @@ port-test false n = refl
 
 number-good : (w : ℕ) (t : List ℕ) (x : Bool) → (isNumber w t && x) ≡ true → numberOr w t ≡ number t
 unfolding numberOr
-number-good w t x h = rw (and-left (isNumber w t) x h)
+number-good w t x h = rw (and-fst (isNumber w t) x h)
 
 module _ (t₀ t₁ t₂ t₃ t₄ : List ℕ) where
   abbrev allGood : Bool
@@ -75,12 +68,12 @@ module _ (t₀ t₁ t₂ t₃ t₄ : List ℕ) where
   picked : (x : Bool) → allGood ≡ x → cond x (record { good = true; pair = record { address = numberOr 3 t₀ ∷ numberOr 3 t₁ ∷ numberOr 3 t₂ ∷ numberOr 3 t₃ ∷ []; port = numberOr 5 t₄ } }) noParse ≡ cond x parsed noParse
   picked false e = refl
   picked true e =
-      let o = and-left (all isOctet (t₀ ∷ t₁ ∷ t₂ ∷ t₃ ∷ [])) (isPort t₄) e in
-      let p = and-right (all isOctet (t₀ ∷ t₁ ∷ t₂ ∷ t₃ ∷ [])) (isPort t₄) e in
-      let o₁ = and-right (isOctet t₀) (all isOctet (t₁ ∷ t₂ ∷ t₃ ∷ [])) o in
-      let o₂ = and-right (isOctet t₁) (all isOctet (t₂ ∷ t₃ ∷ [])) o₁ in
-      let o₃ = and-right (isOctet t₂) (all isOctet (t₃ ∷ [])) o₂ in
-      rw (number-good 3 t₀ (leb (number t₀) 255) (and-left (isOctet t₀) (all isOctet (t₁ ∷ t₂ ∷ t₃ ∷ [])) o), number-good 3 t₁ (leb (number t₁) 255) (and-left (isOctet t₁) (all isOctet (t₂ ∷ t₃ ∷ [])) o₁), number-good 3 t₂ (leb (number t₂) 255) (and-left (isOctet t₂) (all isOctet (t₃ ∷ [])) o₂), number-good 3 t₃ (leb (number t₃) 255) (and-left (isOctet t₃) true o₃), number-good 5 t₄ (leb 1 (number t₄) && leb (number t₄) 65535) p)
+      let o = and-fst (all isOctet (t₀ ∷ t₁ ∷ t₂ ∷ t₃ ∷ [])) (isPort t₄) e in
+      let p = and-snd (all isOctet (t₀ ∷ t₁ ∷ t₂ ∷ t₃ ∷ [])) (isPort t₄) e in
+      let o₁ = and-snd (isOctet t₀) (all isOctet (t₁ ∷ t₂ ∷ t₃ ∷ [])) o in
+      let o₂ = and-snd (isOctet t₁) (all isOctet (t₂ ∷ t₃ ∷ [])) o₁ in
+      let o₃ = and-snd (isOctet t₂) (all isOctet (t₃ ∷ [])) o₂ in
+      rw (number-good 3 t₀ (leb (number t₀) 255) (and-fst (isOctet t₀) (all isOctet (t₁ ∷ t₂ ∷ t₃ ∷ [])) o), number-good 3 t₁ (leb (number t₁) 255) (and-fst (isOctet t₁) (all isOctet (t₂ ∷ t₃ ∷ [])) o₁), number-good 3 t₂ (leb (number t₂) 255) (and-fst (isOctet t₂) (all isOctet (t₃ ∷ [])) o₂), number-good 3 t₃ (leb (number t₃) 255) (and-fst (isOctet t₃) true o₃), number-good 5 t₄ (leb 1 (number t₄) && leb (number t₄) 65535) p)
 
   parse : parsedFrom (numberOr 3 t₀) (numberOr 3 t₁) (numberOr 3 t₂) (numberOr 3 t₃) (numberOr 5 t₄) ≡ cond allGood parsed noParse
   unfolding parsedFrom numberOr

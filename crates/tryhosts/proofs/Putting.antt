@@ -9,7 +9,7 @@ use borrow.Author.Tests.{lt-ltb, le-ltb}
 use lib.ListN.{length, getD, drop, set, length-set, length-append, drop-of-length-le}
 use lib.Seq.{drop-cons}
 use Rattle.laws.specs.Parts.{over}
-use Rattle.laws.proofs.Text.{over-none, over-set, over-append, over-length}
+use Rattle.laws.proofs.Text.{over-none, over-set, over-append}
 use Rattle.laws.proofs.Decimal.{over-byte, over-last}
 use Rattle.tryhosts.specs.Decimal.{decimal}
 use Rattle.tryhosts.specs.Pairs.{dot, colon}

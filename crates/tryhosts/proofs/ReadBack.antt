@@ -18,13 +18,13 @@ use Rattle.tryhosts.specs.declared.Pair.{Pair}
 use Rattle.tryhosts.proofs.Cuts.{itemOnto, items-step}
 use Rattle.tryhosts.proofs.Items.{no-items}
 use Rattle.tryhosts.proofs.Digits.{size-one, size-two, size-three, size-four, size-five}
-use Rattle.tryhosts.proofs.Parsing.{and-left, and-right}
+use Rattle.laws.proofs.Refusals.{and-fst, and-snd}
 
 -- ---- lists
 
 pub all-append : (f : ℕ → Bool) (xs ys : List ℕ) → all f xs ≡ true → all f ys ≡ true → all f (xs ++ ys) ≡ true
 all-append f [] ys h k = k
-all-append f (x ∷ xs) ys h k = rw (and-left (f x) (all f xs) h) (all-append f xs ys (and-right (f x) (all f xs) h) k)
+all-append f (x ∷ xs) ys h k = rw (and-fst (f x) (all f xs) h) (all-append f xs ys (and-snd (f x) (all f xs) h) k)
 
 numberFrom-append : (n : ℕ) (xs ys : List ℕ) → numberFrom n (xs ++ ys) ≡ numberFrom (numberFrom n xs) ys
 numberFrom-append n [] ys = refl
@@ -96,22 +96,22 @@ clean s text = all (λ b. not (eqb b s)) text
 
 pub digit-clean : (s : ℕ) → isDigit s ≡ false → (xs : List ℕ) → all isDigit xs ≡ true → clean s xs ≡ true
 digit-clean s d [] h = refl
-digit-clean s d (x ∷ xs) h = go (eqb x s) refl (digit-clean s d xs (and-right (isDigit x) (all isDigit xs) h))
+digit-clean s d (x ∷ xs) h = go (eqb x s) refl (digit-clean s d xs (and-snd (isDigit x) (all isDigit xs) h))
   where
     go : (t : Bool) → eqb x s ≡ t → clean s xs ≡ true → (not t && clean s xs) ≡ true
     go false e k = k
     go true e k =
-        let i : isDigit s ≡ true = ap isDigit (sym (eqb-true x s e)) ∙ and-left (isDigit x) (all isDigit xs) h in
+        let i : isDigit s ≡ true = ap isDigit (sym (eqb-true x s e)) ∙ and-fst (isDigit x) (all isDigit xs) h in
         let z : _≡_ {A = Bool} true false = sym i ∙ d in
         let y : _≡_ {A = ℕ} 0 1 = cc in
         absurd (omega arith)
 
 module _ (s : ℕ) where
   other : (x : ℕ) (xs : List ℕ) → clean s (x ∷ xs) ≡ true → eqb x s ≡ false
-  other x xs h = not-true (eqb x s) (and-left (not (eqb x s)) (clean s xs) h)
+  other x xs h = not-true (eqb x s) (and-fst (not (eqb x s)) (clean s xs) h)
 
   others : (x : ℕ) (xs : List ℕ) → clean s (x ∷ xs) ≡ true → clean s xs ≡ true
-  others x xs h = and-right (not (eqb x s)) (clean s xs) h
+  others x xs h = and-snd (not (eqb x s)) (clean s xs) h
 
   upTo-clean : (xs ys : List ℕ) → clean s xs ≡ true → upTo s (xs ++ (s ∷ ys)) ≡ xs
   unfolding upTo
@@ -191,8 +191,8 @@ four (a ∷ b ∷ c ∷ d ∷ e ∷ r) h = absurd (omega arith)
 
 octets-below : (xs : List ℕ) (k : ℕ) → all (λ b. leb b 255) xs ≡ true → getD xs k 0 ≤ 255
 octets-below [] k h = omega arith
-octets-below (x ∷ xs) zero h = leb-true x 255 (and-left (leb x 255) (all (λ b. leb b 255) xs) h)
-octets-below (x ∷ xs) (suc k) h = octets-below xs k (and-right (leb x 255) (all (λ b. leb b 255) xs) h)
+octets-below (x ∷ xs) zero h = leb-true x 255 (and-fst (leb x 255) (all (λ b. leb b 255) xs) h)
+octets-below (x ∷ xs) (suc k) h = octets-below xs k (and-snd (leb x 255) (all (λ b. leb b 255) xs) h)
 
 host : (p : Pair) → isHost p ≡ true → Host p
 host p h =
@@ -200,13 +200,13 @@ host p h =
     let b = all (λ x. leb x 255) (p .address) in
     let c = leb 1 (p .port) in
     let d = leb (p .port) 65535 in
-    let h₁ = and-right a (b && (c && (d && true))) h in
-    let h₂ = and-right b (c && (d && true)) h₁ in
+    let h₁ = and-snd a (b && (c && (d && true))) h in
+    let h₂ = and-snd b (c && (d && true)) h₁ in
     record {
-      address = four (p .address) (eqb-true (length (p .address)) 4 (and-left a (b && (c && (d && true))) h));
-      octet = λ k. octets-below (p .address) k (and-left b (c && (d && true)) h₁);
-      least = leb-true 1 (p .port) (and-left c (d && true) h₂);
-      most = leb-true (p .port) 65535 (and-left d true (and-right c (d && true) h₂));
+      address = four (p .address) (eqb-true (length (p .address)) 4 (and-fst a (b && (c && (d && true))) h));
+      octet = λ k. octets-below (p .address) k (and-fst b (c && (d && true)) h₁);
+      least = leb-true 1 (p .port) (and-fst c (d && true) h₂);
+      most = leb-true (p .port) 65535 (and-fst d true (and-snd c (d && true) h₂));
     }
 
 pair-good : (p : Pair) → Host p → goodPair (pairText p) ≡ true
@@ -229,7 +229,7 @@ pair-in p h =
 bare-digits : (xs ys : List ℕ) → 1 ≤ length xs → all isDigit xs ≡ true → bare (xs ++ ys) ≡ xs ++ ys
 unfolding bare
 bare-digits [] ys l h = absurd (omega arith)
-bare-digits (x ∷ xs) ys l h = rw (not-true (eqb x space) (and-left (not (eqb x space)) (clean space xs) (digit-clean space refl (x ∷ xs) h)))
+bare-digits (x ∷ xs) ys l h = rw (not-true (eqb x space) (and-fst (not (eqb x space)) (clean space xs) (digit-clean space refl (x ∷ xs) h)))
 
 item-some : (xs ys : List ℕ) (items : List (List ℕ)) → 1 ≤ length xs → itemOnto (xs ++ ys) items ≡ (xs ++ ys) ∷ items
 item-some [] ys items l = absurd (omega arith)
@@ -254,7 +254,7 @@ pair-commas : (p : Pair) → clean comma (pairText p) ≡ true
 pair-commas p = pair-clean p comma refl refl refl
 
 pub host-first : (p : Pair) (ps : List Pair) → all isHost (p ∷ ps) ≡ true → Host p
-host-first p ps h = host p (and-left (isHost p) (all isHost ps) h)
+host-first p ps h = host p (and-fst (isHost p) (all isHost ps) h)
 
 none-left : itemsOf (bare []) ≡ []
 unfolding itemsOf pieces filled bare
@@ -269,18 +269,18 @@ pairs-items (p ∷ []) h =
     (pair-item p [] (host-first p [] h))
 pairs-items (p ∷ q ∷ qs) h =
     let rest = pairsText (q ∷ qs) in
-    let k = and-right (isHost p) (all isHost (q ∷ qs)) h in
+    let k = and-snd (isHost p) (all isHost (q ∷ qs)) h in
     items-step (pairText p ++ (comma ∷ rest))
     ∙ rw (upTo-clean comma (pairText p) rest (pair-commas p), past-clean comma (pairText p) rest (pair-commas p), pairs-bare q qs (host-first q qs k), pairs-items (q ∷ qs) k)
     (pair-item p (map pairText (q ∷ qs)) (host-first p (q ∷ qs) h))
 
 pub pairs-good : (ps : List Pair) → all isHost ps ≡ true → all goodPair (map pairText ps) ≡ true
 pairs-good [] h = refl
-pairs-good (p ∷ ps) h = rw (pair-good p (host-first p ps h)) (pairs-good ps (and-right (isHost p) (all isHost ps) h))
+pairs-good (p ∷ ps) h = rw (pair-good p (host-first p ps h)) (pairs-good ps (and-snd (isHost p) (all isHost ps) h))
 
 pub pairs-same : (ps : List Pair) → all isHost ps ≡ true → map pairIn (map pairText ps) ≡ ps
 pairs-same [] h = refl
-pairs-same (p ∷ ps) h = ap₂ (λ x xs. x ∷ xs) (pair-in p (host-first p ps h)) (pairs-same ps (and-right (isHost p) (all isHost ps) h))
+pairs-same (p ∷ ps) h = ap₂ (λ x xs. x ∷ xs) (pair-in p (host-first p ps h)) (pairs-same ps (and-snd (isHost p) (all isHost ps) h))
 
 pub read-back : ReadBack
 unfolding triedOf readAnswer pairsOf

@@ -24,7 +24,7 @@ use Rattle.tryhosts.specs.Tried.{tryValue, groupAnswer, groupTried}
 use Rattle.tryhosts.specs.Groups.{crlf, octetOf, busyLine, tryFront, tryName, pairText, pairsText, tryLine, greetingBytes, okBytes, busyBytes}
 use Rattle.tryhosts.specs.Claims.{isHost, ReadAs, GroupsReadBack}
 use Rattle.tryhosts.specs.declared.Pair.{Pair}
-use Rattle.tryhosts.proofs.Parsing.{and-left, and-right}
+use Rattle.laws.proofs.Refusals.{and-fst, and-snd}
 use Rattle.tryhosts.proofs.ReadBack.{all-append, clean, digit-clean, pair-clean, Host, host-first, Digits, below-thousand, below-most, part, behind₁, pair-split, decimal-all, pairs-items, pairs-good, pairs-same}
 use Rattle.tryhosts.proofs.Putting.{pair-size}
 
@@ -47,21 +47,21 @@ not-lf b h e = let z : isText 10 ≡ true = rw e at h in let y : _≡_ {A = ℕ}
 
 text-at : (xs : List ℕ) (i : ℕ) → i < length xs → all isText xs ≡ true → isText (getD xs i 0) ≡ true
 text-at [] i h t = absurd (omega arith)
-text-at (x ∷ xs) zero h t = and-left (isText x) (all isText xs) t
-text-at (x ∷ xs) (suc i) h t = text-at xs i (omega arith) (and-right (isText x) (all isText xs) t)
+text-at (x ∷ xs) zero h t = and-fst (isText x) (all isText xs) t
+text-at (x ∷ xs) (suc i) h t = text-at xs i (omega arith) (and-snd (isText x) (all isText xs) t)
 
 lines-row : (l r : List ℕ) → all isText l ≡ true → linesOf (l ++ (13 ∷ 10 ∷ r)) ≡ l ∷ linesOf r
 lines-row [] r h = refl
-lines-row (a ∷ []) r h = rw (ne-eqb a 13 (not-cr a (and-left (isText a) true h)))
+lines-row (a ∷ []) r h = rw (ne-eqb a 13 (not-cr a (and-fst (isText a) true h)))
 lines-row (a ∷ b ∷ l) r h =
-    rw (ne-eqb a 13 (not-cr a (and-left (isText a) (all isText (b ∷ l)) h)))
-    (ap (onto a) (lines-row (b ∷ l) r (and-right (isText a) (all isText (b ∷ l)) h)))
+    rw (ne-eqb a 13 (not-cr a (and-fst (isText a) (all isText (b ∷ l)) h)))
+    (ap (onto a) (lines-row (b ∷ l) r (and-snd (isText a) (all isText (b ∷ l)) h)))
 
 lines-rows : (ls : List (List ℕ)) → all isLine ls ≡ true → linesOf (rows ls) ≡ ls
 lines-rows [] h = refl
 lines-rows (l ∷ ls) h =
-    lines-row l (rows ls) (and-right (leb 1 (length l)) (all isText l) (and-left (isLine l) (all isLine ls) h))
-    ∙ ap (λ x. l ∷ x) (lines-rows ls (and-right (isLine l) (all isLine ls) h))
+    lines-row l (rows ls) (and-snd (leb 1 (length l)) (all isText l) (and-fst (isLine l) (all isLine ls) h))
+    ∙ ap (λ x. l ∷ x) (lines-rows ls (and-snd (isLine l) (all isLine ls) h))
 
 -- ---- the empty line is the first
 
@@ -124,16 +124,16 @@ module _ (l r : List ℕ) (some : 1 ≤ length l) (t : all isText l ≡ true) wh
 -- none stands before the end of the lines
 none-before : (ls : List (List ℕ)) → all isLine ls ≡ true → (k : ℕ) → k < length (rows ls) → EmptyLineAt (rows ls ++ crlf) k → ⊥
 none-before [] h k b e = omega arith
-none-before (l ∷ ls) h k b e = go (ltb k (length l + 2)) refl (none-before ls (and-right (isLine l) (all isLine ls) h))
+none-before (l ∷ ls) h k b e = go (ltb k (length l + 2)) refl (none-before ls (and-snd (isLine l) (all isLine ls) h))
   where
     here : isLine l ≡ true
-    here = and-left (isLine l) (all isLine ls) h
+    here = and-fst (isLine l) (all isLine ls) h
 
     some : 1 ≤ length l
-    some = leb-true 1 (length l) (and-left (leb 1 (length l)) (all isText l) here)
+    some = leb-true 1 (length l) (and-fst (leb 1 (length l)) (all isText l) here)
 
     text : all isText l ≡ true
-    text = and-right (leb 1 (length l)) (all isText l) here
+    text = and-snd (leb 1 (length l)) (all isText l) here
 
     split : rows (l ∷ ls) ++ crlf ≡ l ++ (13 ∷ 10 ∷ (rows ls ++ crlf))
     split = append-assoc l (13 ∷ 10 ∷ rows ls) crlf
@@ -188,8 +188,8 @@ module _ (s : ℕ) (d : isDigit s ≡ false) (e : eqb dot s ≡ false) (f : eqb 
 text-from : (xs : List ℕ) → clean 13 xs ≡ true → clean 10 xs ≡ true → all isText xs ≡ true
 text-from [] a b = refl
 text-from (x ∷ xs) a b =
-    rw (not-true (eqb x 13) (and-left (not (eqb x 13)) (clean 13 xs) a), not-true (eqb x 10) (and-left (not (eqb x 10)) (clean 10 xs) b))
-    (text-from xs (and-right (not (eqb x 13)) (clean 13 xs) a) (and-right (not (eqb x 10)) (clean 10 xs) b))
+    rw (not-true (eqb x 13) (and-fst (not (eqb x 13)) (clean 13 xs) a), not-true (eqb x 10) (and-fst (not (eqb x 10)) (clean 10 xs) b))
+    (text-from xs (and-snd (not (eqb x 13)) (clean 13 xs) a) (and-snd (not (eqb x 10)) (clean 10 xs) b))
 
 pairs-are-text : (ps : List Pair) → all isText (pairsText ps) ≡ true
 pairs-are-text ps = text-from (pairsText ps) (pairs-clean 13 refl refl refl refl ps) (pairs-clean 10 refl refl refl refl ps)
@@ -198,7 +198,7 @@ pairs-are-text ps = text-from (pairsText ps) (pairs-clean 13 refl refl refl refl
 no-blank : (xs ys : List ℕ) → 1 ≤ length xs → all isDigit xs ≡ true → leading isBlank (xs ++ ys) ≡ 0
 no-blank [] ys n h = absurd (omega arith)
 no-blank (x ∷ xs) ys n h =
-    rw (not-true (eqb x 32) (and-left (not (eqb x 32)) (clean 32 xs) (digit-clean 32 refl (x ∷ xs) h)), not-true (eqb x 9) (and-left (not (eqb x 9)) (clean 9 xs) (digit-clean 9 refl (x ∷ xs) h)))
+    rw (not-true (eqb x 32) (and-fst (not (eqb x 32)) (clean 32 xs) (digit-clean 32 refl (x ∷ xs) h)), not-true (eqb x 9) (and-fst (not (eqb x 9)) (clean 9 xs) (digit-clean 9 refl (x ∷ xs) h)))
 
 -- a pair has at most 29 bytes
 pair-small : (p : Pair) → Host p → length (pairText p) ≤ 29
@@ -211,7 +211,7 @@ unfolding pairsText
 pairs-small [] h = omega arith
 pairs-small (p ∷ []) h = omega (arith, pair-small p (host-first p [] h))
 pairs-small (p ∷ q ∷ qs) h =
-    omega (arith, pair-small p (host-first p (q ∷ qs) h), pairs-small (q ∷ qs) (and-right (isHost p) (all isHost (q ∷ qs)) h), length-append (pairText p) (comma ∷ pairsText (q ∷ qs)))
+    omega (arith, pair-small p (host-first p (q ∷ qs) h), pairs-small (q ∷ qs) (and-snd (isHost p) (all isHost (q ∷ qs)) h), length-append (pairText p) (comma ∷ pairsText (q ∷ qs)))
 
 -- ---- a group of two lines
 
@@ -231,7 +231,7 @@ module _ (first second : List ℕ) (h : all isLine (first ∷ second ∷ []) ≡
       ap linesOf (ap (λ n. take n text) e ∙ take-append-seam body crlf) ∙ lines-rows (first ∷ second ∷ []) h
 
   first-text : all isText first ≡ true
-  first-text = and-right (leb 1 (length first)) (all isText first) (and-left (isLine first) (all isLine (second ∷ [])) h)
+  first-text = and-snd (leb 1 (length first)) (all isText first) (and-fst (isLine first) (all isLine (second ∷ [])) h)
 
   understood-is : understood text (length body + 2) ≡ true
   unfolding understood
@@ -309,7 +309,7 @@ module _ (p : Pair) (ps : List Pair) (hs : all isHost (p ∷ ps) ≡ true) where
 
   line-value : leading isBlank value ≡ 0 → valueFor tryName (line ∷ []) ≡ value
   unfolding valueFor lower compared
-  line-value f = rw (f, append-nil, append-nil)
+  line-value f = rw f (append-nil (value ++ []) ∙ append-nil value)
 
   value-good : all goodPair (itemsOf value) ≡ true
   value-good = ap (all goodPair) (pairs-items (p ∷ ps) hs) ∙ pairs-good (p ∷ ps) hs

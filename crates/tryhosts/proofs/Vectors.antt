@@ -5,9 +5,15 @@ use mathlib.Core.Path.{_≡_, refl}
 use mathlib.Core.List.{List, [], _∷_, map}
 use Rattle.laws.specs.Text.{codes}
 use Rattle.tryhosts.specs.Decimal.{decimal}
-use Rattle.tryhosts.specs.Pairs.{itemsOf, pieces, bare, filled, upTo, past, goodPair, pairIn, pairsOf, readAnswer}
+use Rattle.tryhosts.specs.Pairs.{itemsOf, pieces, bare, filled, upTo, past, goodPair, pairIn, pairsFrom, pairsOf, readAnswer}
 use Rattle.tryhosts.specs.Groups.{pairText, pairsText, tryLine, busyBytes}
+use Rattle.tryhosts.specs.Tried.{groupAnswer, groupTried}
 use Rattle.tryhosts.specs.declared.Pair.{Pair}
+use Rattle.handshake.specs.Text.{lower, compared, digitOf, digitValue}
+use Rattle.handshake.specs.Lines.{endsAt, groupLength}
+use Rattle.handshake.specs.Start.{versionLength, statusOk, greetingFrom, replyFrom, startOf}
+use Rattle.handshake.specs.Fields.{isAbsent, valueFor}
+use Rattle.handshake.specs.Group.{understood}
 
 -- the answers to these values
 abbrev answers : List String → List ℕ
@@ -51,3 +57,12 @@ busyAlone = refl
 busyWithTwo : busyBytes (host 1 2 3 4 1234 ∷ host 10 0 255 13 20 ∷ []) ≡ codes "GNUTELLA/0.6 503 Busy\r\nX-Try: 1.2.3.4:1234,10.0.255.13:20\r\n\r\n"
 unfolding busyBytes tryLine pairsText pairText decimal
 busyWithTwo = refl
+
+-- groups, each with its answer, the bytes used and how many hosts it lists
+abbrev asked : String → ℕ × ℕ × ℕ
+asked text = (groupTried (codes text) .answer, groupTried (codes text) .used, groupTried (codes text) .pairs .count)
+
+-- two fields, one on two lines; no such field; a bad pair; no end; not understood
+groups : map asked ("GNUTELLA CONNECT/0.6\r\nX-Try: 1.2.3.4:5\r\nx-try: 6.7.8.9:1,\r\n 1.1.1.1:1\r\n\r\n" ∷ "GNUTELLA/0.6 200 OK\r\nA: b\r\n\r\n" ∷ "GNUTELLA/0.6 503 Busy\r\nX-Try: 1.2.3.4:0\r\n\r\n" ∷ "GNUTELLA CONNECT/0.6\r\n" ∷ "X-Try: 1.2.3.4:5\r\n\r\n" ∷ []) ≡ (0, 73, 3) ∷ (0, 29, 0) ∷ (6, 43, 0) ∷ (4, 0, 0) ∷ (17, 0, 0) ∷ []
+unfolding groupLength endsAt lower compared digitOf digitValue versionLength statusOk greetingFrom replyFrom startOf isAbsent valueFor understood groupTried groupAnswer pairsFrom pairsOf itemsOf pieces bare filled goodPair pairIn upTo past
+groups = refl

@@ -1,12 +1,13 @@
 -- What is proved of pairs and groups, besides the functions' contracts.
 use Prim.Native.Nat.{ℕ, _≤_}
 use mathlib.Core.Path.{_≡_}
-use mathlib.Core.Bool.{Bool, true}
+use mathlib.Core.Logic.{_↔_}
+use mathlib.Core.Bool.{Bool, true, not}
 use mathlib.Core.List.{List, [], _∷_}
 use lib.Dec.{eqb, leb}
 use lib.ListN.{length}
-use Rattle.laws.specs.Tests.{every, all}
-use Rattle.tryhosts.specs.Pairs.{pairsFrom, triedOf}
+use Rattle.laws.specs.Tests.{every, any, all}
+use Rattle.tryhosts.specs.Pairs.{itemsOf, goodPair, pairsFrom, triedOf}
 use Rattle.handshake.specs.Group.{readGroup}
 use Rattle.handshake.specs.declared.Group.{Group}
 use Rattle.tryhosts.specs.Groups.{pairsText, greetingBytes, okBytes, busyBytes}
@@ -18,6 +19,10 @@ abbrev pub isHost : Pair → Bool
 isHost p =
     every
     (eqb (length (p .address)) 4 ∷ all (λ b. leb b 255) (p .address) ∷ leb 1 (p .port) ∷ leb (p .port) 65535 ∷ [])
+
+-- a value is answered 6 exactly where one of its items is no pair, wherever it stands
+abbrev pub SixExactly : Type 0
+SixExactly = (value : List ℕ) → (triedOf value .answer ≡ 6) ↔ (any (λ item. not (goodPair item)) (itemsOf value) ≡ true)
 
 -- up to 32 hosts, written, are read as the same hosts
 abbrev pub ReadBack : Type 0

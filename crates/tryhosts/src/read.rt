@@ -3,25 +3,28 @@ use crate::Pair;
 use crate::Pairs;
 use crate::Tried;
 ghost use mathlib.Core.Path.{_≡_};
-ghost use Prim.Native.Nat.{ℕ, _+_, _<_, _≤_, min};
-ghost use lib.ListN.{length, take, drop};
-ghost use Rattle.tryhosts.specs.Pairs.{upTo, comma, noPair, pairsFrom, triedOf};
+ghost use Prim.Native.Nat.{_+_, _<_, _≤_, min};
+ghost use lib.ListN.{length};
+ghost use Rattle.tryhosts.specs.Pairs.{upTo, comma, pairsFrom, triedOf};
 ghost use Rattle.tryhosts.specs.Reading.{numberOr, OctetIn, parsedFrom, parsedOf, kept, takenOf, Skips};
 ghost use mathlib.Core.List.{[]};
 
 // Stands for a text that is no number: above every octet and every port.
 const NO_NUMBER: u32 = 100000;
 
+// The number of an octet's text, and where the text goes on behind its separator.
 struct Octet {
     number: u32,
     next: usize,
 }
 
+// An item read as a pair; a bad one has no pair.
 struct Parsed {
     good: bool,
     pair: Pair,
 }
 
+// The pairs after an item; `good` says that it was not a bad one.
 struct Taken {
     good: bool,
     pairs: Pairs,
@@ -198,6 +201,7 @@ fn skip(text: &[u8], end: usize) -> usize
     next
 }
 
+// No pairs at all.
 pub(crate) fn no_pairs() -> Pairs
     ensures { λ r. ⌜ r ≡ pairsFrom [] ⌝ }
 {
