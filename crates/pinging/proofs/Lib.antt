@@ -5,3 +5,4 @@ pub mod WalkLaws
 pub mod SendLaws
 pub mod Joined
 pub mod Theorems
+pub mod Vectors
