@@ -6,8 +6,6 @@ pub mod Whole
 pub mod Reading
 pub mod Accepted
 pub mod RoundTrip
-pub mod PartFacts
-pub mod WriterFacts
 pub mod Octets
 pub mod DataLaws
 pub mod RunLaws

@@ -24,6 +24,10 @@ fn wide(b: u8) -> u64 {
     b as u64
 }
 
+pub fn byte(b: u8) {
+    number(wide(b));
+}
+
 // The bytes as numbers, with commas.
 pub fn list(bytes: &[u8]) {
     let mut i = 0;
@@ -31,7 +35,7 @@ pub fn list(bytes: &[u8]) {
         if 0 < i {
             io::write_all(1, b",");
         }
-        number(wide(bytes[i]));
+        byte(bytes[i]);
         i += 1;
     }
 }

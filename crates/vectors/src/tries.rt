@@ -5,13 +5,13 @@ use tryhosts::Pairs;
 
 fn pair_words(p: Pair) {
     let address = p.address;
-    print::number(address[0] as u64);
+    print::byte(address[0]);
     io::write_all(1, b".");
-    print::number(address[1] as u64);
+    print::byte(address[1]);
     io::write_all(1, b".");
-    print::number(address[2] as u64);
+    print::byte(address[2]);
     io::write_all(1, b".");
-    print::number(address[3] as u64);
+    print::byte(address[3]);
     io::write_all(1, b":");
     print::number(p.port as u64);
 }
@@ -201,10 +201,14 @@ fn writes() {
         &mut out,
     );
     busy(b"port0", one(pair(1, 2, 3, 4, 0)), &mut out);
-    greeting(b"greetingshort", &mut out[..23]);
-    ok(b"okshort", &mut out[..22]);
-    busy(b"busyshort", none(), &mut out[..24]);
-    busy(b"port0short", one(pair(1, 2, 3, 4, 0)), &mut out[..0]);
+    let mut most = [0u8; 23];
+    greeting(b"greetingshort", &mut most);
+    let mut less = [0u8; 22];
+    ok(b"okshort", &mut less);
+    let mut more = [0u8; 24];
+    busy(b"busyshort", none(), &mut more);
+    let mut empty = [0u8; 1];
+    busy(b"port0short", one(pair(1, 2, 3, 4, 0)), &mut empty[..0]);
 }
 
 pub fn all() {

@@ -32,8 +32,7 @@ returns c =
     let x = c .before .before .before .before .before .before .before .before .before .args in
     let h = c .before .before .before .before .before .before .put-header in
     let n : length (x .number) ≡ 16 = omega arith in
-    let b : length (x .bytes) ≡ 14 = omega arith in
-    (
+    let b : length (x .bytes) ≡ 14 = omega arith in (
       sym (message-length (x .number) pongType (x .ttl) (x .hops) (x .bytes) n ∙ omega arith),
       (refl, put-message (x .number) (x .bytes) (x .part .now) (h .last .1 .1 .1 .1 .1 .0) (c .before .before .put-bytes .last .1 .0) (x .ttl) (x .hops) n b (omega arith) (h .ensures) (c .before .before .put-bytes .ensures)),
     )

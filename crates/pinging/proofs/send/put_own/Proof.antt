@@ -27,11 +27,11 @@ returns-2 c =
     let x = c .before .before .before .before .before .before .before .before .args in
     let p = c .before .before .put-pong in
     let d = own-said (x .own) (x .number) (c .before .before .before .before .own-payload .result) (x .part .now) (p .last .1 .1 .1 .1 .0) (x .ttl) (p .result) (x .probe)
-        (sym (c .before .before .before .before .before .before .speaks .ensures) ∙ not-false _ (c .before .before .before .before .before .if1 .left))
-        (c .before .before .before .before .own-payload .ensures)
-        (p .ensures .0)
-        (p .ensures .1 .0)
-        (p .ensures .1 .1) in
+    (sym (c .before .before .before .before .before .before .speaks .ensures) ∙ not-false _ (c .before .before .before .before .before .if1 .left))
+    (c .before .before .before .before .own-payload .ensures)
+    (p .ensures .0)
+    (p .ensures .1 .0)
+    (p .ensures .1 .1) in
     (d .0, (omega arith, d .1))
 
 pub put-own-spec : {M : Type 1} → statement M
