@@ -13,6 +13,4 @@ pub mod RingScan
 pub mod InPlace
 pub mod Truth
 -- Laws on lists and numbers that proofs of several crates cite.
-pub mod Text
-pub mod Decimal
 pub mod Passing
