@@ -8,3 +8,4 @@ pub mod Chunks
 pub mod Refusals
 pub mod Overlay
 pub mod Rings
+pub mod Ranks

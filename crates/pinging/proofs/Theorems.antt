@@ -1,6 +1,6 @@
 -- What the definitions say of pings and pongs: when a ping comes too soon, how many pongs go out, and that old ones don't count.
 -- Assumes nothing.
-use Prim.Native.Nat.{ℕ, zero, suc, _+_, _*_, _≤_, _<_, min}
+use Prim.Native.Nat.{ℕ, _+_, _*_, _≤_, _<_, min}
 use mathlib.Core.Path.{_≡_, refl, sym, ap, _∙_}
 use mathlib.Core.Bool.{Bool, true, false, cond, not, _&&_, _||_}
 use mathlib.Core.List.{List, [], _∷_, _++_}
@@ -16,7 +16,7 @@ use Rattle.protocol.specs.declared.Own.{Own}
 use Rattle.protocol.specs.Lines.{elapsed}
 use Rattle.protocol.specs.Pings.{keepIf, isFresh}
 use Rattle.pinging.specs.Numbers.{probing, pingNumber}
-use Rattle.pinging.specs.Sending.{walkIn, storedFor, ownCount, pongCount, countWritten}
+use Rattle.pinging.specs.Sending.{walkIn, storedFor, pongCount, countWritten}
 use Rattle.pinging.proofs.WalkLaws.{keep-append}
 
 -- a ping that is neither refused for its TTL nor a probe, less than 1,000 ms after a kept time
