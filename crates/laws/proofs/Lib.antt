@@ -14,3 +14,4 @@ pub mod InPlace
 pub mod Truth
 -- Laws on lists and numbers that proofs of several crates cite.
 pub mod Passing
+pub mod Ranks

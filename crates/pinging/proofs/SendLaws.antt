@@ -1,9 +1,9 @@
 -- The messages that are sent.
 -- Assumes nothing.
-use Prim.Native.Nat.{ℕ, zero, suc, _+_, _-_, _*_, _/_, _%_, _≤_, _<_, min, max}
+use Prim.Native.Nat.{ℕ, _+_, _-_, _*_, _/_, _%_, _≤_, _<_, min, max}
 use mathlib.Core.Path.{_≡_, refl, sym, ap, ap₂, _∙_}
 use mathlib.Core.Bool.{Bool, true, false, cond, _||_}
-use mathlib.Core.List.{List, [], _∷_, _++_, map, append-nil}
+use mathlib.Core.List.{List, [], _∷_, _++_, append-nil}
 use native.Mathlib.Omega.{arith}
 use lib.ListN.{length, getD, take, drop, length-append}
 use lib.Seq.{take-nil}
@@ -20,7 +20,7 @@ use Rattle.protocol.specs.declared.Own.{Own}
 use Rattle.protocol.specs.Lines.{elapsed, isOther, nowhere, storedPongs}
 use Rattle.protocol.specs.Pings.{pongType, ownPong, ranked, keepIf, isFresh}
 use Rattle.pinging.specs.Sending.{pongMessage, storedMessage, storedBytes, storedFor, turnOf, placeOf, ownBytes, pongsFor, pongsWritten, ownCount, pongCount, countWritten}
-use Rattle.pinging.proofs.Ranks.{two-front, four-front, over-split, over-none}
+use Rattle.laws.proofs.Ranks.{two-front, four-front, over-split, over-none}
 use Rattle.pinging.proofs.RingLaws.{pongIn, pongAt, ranked-place}
 use Rattle.pinging.proofs.WalkLaws.{turnAt, leftFrom, walk-turns, left-next, left-none, ten-next, turn-one, bytes-append}
 

@@ -1,5 +1,5 @@
 -- The bytes passed stand at the front.
-use Prim.Native.Nat.{_≤_, _-_, _+_}
+use Prim.Native.Nat.{_≤_, _-_}
 use mathlib.Core.Path.{_≡_, refl, ap, _∙_}
 use native.Mathlib.Omega.{arith}
 use lib.ListN.{length, getD, take, set, length-set}
@@ -7,8 +7,8 @@ use lib.Seq.{take-all}
 use borrow.Author.Needs.{needs}
 use Rattle.laws.specs.Parts.{over}
 use Rattle.laws.proofs.Writing.{byte-next}
-use Rattle.pinging.proofs.messages.put_bytes.Statement.{statement}
-use Rattle.pinging.proofs.messages.put_bytes.Tie as tie
+use Rattle.pinging.proofs.send.put_bytes.Statement.{statement}
+use Rattle.pinging.proofs.send.put_bytes.Tie as tie
 
 abbrev Inv-loop : tie.InvT-loop
 Inv-loop part₀ bytes i₀ part i = (i ≤ 14) × (part ≡ over 0 (take i bytes) part₀) × (length part ≡ length part₀)

@@ -1,15 +1,18 @@
 -- The places of a ring by rank, lists of a known length, and bytes that fill an area.
 -- Assumes nothing.
-use Prim.Native.Nat.{ℕ, zero, suc, _+_, _-_, _%_, _≤_, _<_}
+use Prim.Native.Nat.{ℕ, zero, suc, _+_, _-_, _%_, _≤_, _<_, min}
 use mathlib.Core.Path.{_≡_, refl, sym, ap, _∙_}
+use mathlib.Core.Bool.{Bool, true, false}
 use mathlib.Core.List.{List, [], _∷_, _++_, append-assoc, append-nil}
 use native.Mathlib.Omega.{arith}
 use native.Mathlib.Nat.{mod-eq-of-lt, add-mod-right}
+use lib.Dec.{leb}
 use lib.ListN.{length, getD, take, drop, length-append, take-append-drop, drop-of-length-le}
-use lib.Seq.{length-take-le}
+use lib.Seq.{length-take-le, take-all}
+use borrow.Author.Tests.{leb-true, leb-false}
 use Rattle.laws.specs.Parts.{over}
 use Rattle.laws.specs.Ring.{back, placesBefore}
 use Rattle.laws.proofs.Writing.{written-next}
 
 -- what is as long as the area fills it
 pub over-all : (bs area : List ℕ) → length bs ≡ length area → over 0 bs area ≡ bs
@@ -81,3 +84,15 @@ place-high c (suc n) (suc r) zero hp hr hc hn =
     ap (λ b. getD (placesBefore c b n) r 0) (back-first c hp) ∙ place-low c n r (c - 1) (omega arith) (omega arith) (omega arith) ∙ omega arith
 place-high c (suc n) (suc r) (suc q) hp hr hc hn =
     ap (λ b. getD (placesBefore c b n) r 0) (back-other c q hp) ∙ place-high c n r q (omega arith) (omega arith) (omega arith) (omega arith) ∙ omega arith
+
+-- as many of the first n as are there
+pub take-there : (n i : ℕ) (l : List ℕ) → i ≡ min n (length l) → take i l ≡ take n l
+take-there n i l e = go (leb n (length l)) refl
+  where
+    go : (b : Bool) → leb n (length l) ≡ b → take i l ≡ take n l
+    go true q = let h : n ≤ length l = leb-true n (length l) q in let k : i ≡ n = omega arith in ap (λ j. take j l) k
+    go false q =
+        let h : length l < n = leb-false n (length l) q in
+        let k : length l ≤ i = omega arith in
+        let j : length l ≤ n = omega arith in
+        take-all i l k ∙ sym (take-all n l j)

@@ -1,13 +1,13 @@
 -- The header, and the bytes behind it.
-use mathlib.Core.Path.{_≡_, refl, sym, ap, _∙_}
+use mathlib.Core.Path.{_≡_, refl, sym, _∙_}
 use native.Mathlib.Omega.{arith}
 use lib.ListN.{length}
 use borrow.Author.Needs.{needs}
 use Rattle.wire.proofs.HeaderLaws.{message-length}
 use Rattle.protocol.specs.Pings.{pongType}
 use Rattle.pinging.proofs.SendLaws.{put-message}
-use Rattle.pinging.proofs.messages.put_pong.Statement.{statement}
-use Rattle.pinging.proofs.messages.put_pong.Tie as tie
+use Rattle.pinging.proofs.send.put_pong.Statement.{statement}
+use Rattle.pinging.proofs.send.put_pong.Tie as tie
 
 put-header-requires : tie.Need-put-header-requires
 put-header-requires c κs = search needs

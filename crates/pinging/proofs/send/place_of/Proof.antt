@@ -2,8 +2,8 @@
 use borrow.Author.Needs.{needs}
 use borrow.Author.Tests.{le-leb, lt-leb, lt-ltb, le-ltb}
 use Rattle.pinging.specs.Sending.{placeOf}
-use Rattle.pinging.proofs.ring.place_of.Statement.{statement}
-use Rattle.pinging.proofs.ring.place_of.Tie as tie
+use Rattle.pinging.proofs.send.place_of.Statement.{statement}
+use Rattle.pinging.proofs.send.place_of.Tie as tie
 
 returns : tie.Need-returns
 unfolding placeOf
