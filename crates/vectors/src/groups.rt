@@ -65,23 +65,29 @@ fn others() {
     row(b"crend", b"GNUTELLA/0.6 200 OK\r\nA: x\r\r\n\r\n");
 }
 
-// A greeting with one field, whose CR and LF stand at place n, twice; of it the first `size` bytes.
-fn cut(label: &[u8], n: usize, size: usize) {
-    let mut area = [b'x'; 5000];
-    print::put(&mut area, 0, b"GNUTELLA CONNECT/0.6\r\nA: ");
-    print::put(&mut area, n, b"\r\n\r\n");
-    if size <= 5000 {
-        row(label, &area[..size]);
-    }
+// A greeting with one field, whose CR and LF stand at place n, twice, as far as the area reaches.
+fn long(label: &[u8], area: &mut [u8], n: usize) {
+    print::put(&mut *area, 0, b"GNUTELLA CONNECT/0.6\r\nA: ");
+    print::put(&mut *area, n, b"\r\n\r\n");
+    row(label, area);
+}
+
+fn longs() {
+    let mut most = [b'x'; 4096];
+    long(b"end4096", &mut most, 4092);
+    let mut over = [b'x'; 4097];
+    long(b"end4097", &mut over, 4093);
+    let mut far = [b'x'; 5000];
+    long(b"end5000", &mut far, 4996);
+    let mut less = [b'x'; 4095];
+    long(b"cut4095", &mut less, 4092);
+    let mut cut = [b'x'; 4096];
+    long(b"cut4096", &mut cut, 4093);
 }
 
 pub fn all() {
     starts();
     versions();
     others();
-    cut(b"end4096", 4092, 4096);
-    cut(b"end4097", 4093, 4097);
-    cut(b"end5000", 4996, 5000);
-    cut(b"cut4095", 4092, 4095);
-    cut(b"cut4096", 4093, 4096);
+    longs();
 }

@@ -121,20 +121,26 @@ fn numbers() {
     );
 }
 
-// n pairs `1.2.3.4:5` with commas, and then `last`, in a group.
-fn many(label: &[u8], n: usize, last: &[u8]) {
-    let mut area = [0u8; 600];
-    print::put(&mut area, 0, b"GNUTELLA/0.6 503 Busy\r\nX-Try: ");
+// n pairs `1.2.3.4:5`, each with a comma, behind the name of the field; where the last of them ends.
+fn put_pairs(area: &mut [u8], n: usize) -> usize {
     let mut at: usize = 30;
     let mut i: usize = 0;
     while i < n {
         if 500 < at {
-            return;
+            return at;
         }
-        print::put(&mut area, at, b"1.2.3.4:5,");
+        print::put(&mut *area, at, b"1.2.3.4:5,");
         at += 10;
         i += 1;
     }
+    at
+}
+
+// So many pairs, and then `last`, in a group.
+fn many(label: &[u8], n: usize, last: &[u8]) {
+    let mut area = [0u8; 600];
+    print::put(&mut area, 0, b"GNUTELLA/0.6 503 Busy\r\nX-Try: ");
+    let at = put_pairs(&mut area, n);
     print::put(&mut area, at, last);
     row(label, &area);
 }
