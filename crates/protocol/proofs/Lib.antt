@@ -12,3 +12,4 @@ pub mod Matching
 pub mod Demand3
 pub mod Periods
 pub mod History
+pub mod Demand2

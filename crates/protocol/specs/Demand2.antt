@@ -243,12 +243,12 @@ Demand2 =
     → inOrder s ≡ true
     → AllRouted (remembered s) (start s area) cs
 
--- Gone stays gone: no call after any list makes a line or here of it; it leaves only as one among the last 512 no more
+-- Gone stays gone: after any list, no later list makes a line or here of it; it only leaves, as one among the last 512 no more
 abbrev pub GoneForever : Type 0
 GoneForever =
-    (s : Station) (area : List ℕ) (cs : List Call) (c : Call) (x : Number)
+    (s : Station) (area : List ℕ) (cs later : List Call) (x : Number)
     → Sized s
     → inOrder s ≡ true
     → origin (run (start s area) cs .log) (remembered s) x ≡ Gone
-    → (origin (step (run (start s area) cs) c .log) (remembered s) x ≡ Gone)
-    ⊎ (origin (step (run (start s area) cs) c .log) (remembered s) x ≡ Unknown)
+    → (origin (run (run (start s area) cs) later .log) (remembered s) x ≡ Gone)
+    ⊎ ((ps qs : List Call) × (later ≡ ps ++ qs) × (origin (run (run (start s area) cs) ps .log) (remembered s) x ≡ Unknown))
