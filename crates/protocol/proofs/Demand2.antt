@@ -1,4 +1,4 @@
--- Demand 2, proved: each call of a list is routed as its log says, and a gone query stays gone.
+-- Demand 2, proved: each call of a list is routed as its log says.
 -- Assumes nothing.
 use Prim.Native.Nat.{ℕ, zero, suc, _+_, _-_, _/_, _≤_, _<_, max}
 use native.Mathlib.Omega.{arith}
@@ -27,11 +27,11 @@ use Rattle.protocol.specs.Pings.{pingType, pongType, isProbe, flat, ping
 use Rattle.protocol.specs.Calls.{openingRules, opening, closedState, closingRules, closing, shortOutput, otherRoom, notOpen, earlyRules, early, updateOutcome, byType, arriving, ownRules, asking, messageOutcome, ownOutcome}
 use Rattle.protocol.specs.Runs.{Call, Open, Close, Message, Ask, World, lent, outcomeOf, step, run, start}
 use Rattle.protocol.specs.Periods.{lifeLeft}
-use Rattle.protocol.specs.Demand2.{openings, Origin, Unknown, Here, From, Gone, origin, askerNow, Areas, Acceptable, OwnAcceptable, Answered, QueryTo, OwnTo, HitBy, HitRouted, Part, written, Writes, NoHit, Silent, MessageRouted, AskRouted, Routed, AllRouted, Demand2, GoneForever}
+use Rattle.protocol.specs.Demand2.{openings, Origin, Unknown, Here, From, Gone, origin, askerNow, Areas, Acceptable, OwnAcceptable, Answered, QueryTo, OwnTo, HitBy, HitRouted, Part, written, Writes, NoHit, Silent, MessageRouted, AskRouted, Routed, AllRouted, Demand2}
 use Rattle.protocol.proofs.Forwarding.{and-iff, other-iff}
 use Rattle.protocol.proofs.Outcomes.{of-pick, of-refused, eachLine-at, is-open, LetIn, let-in, early-unsent}
 use Rattle.protocol.proofs.Refused.{refusal-frame}
-use Rattle.protocol.proofs.History.{known, SameLookUp, Since, Invariant, begins, goes-on, holds-after, looked-up}
+use Rattle.protocol.proofs.History.{known, unknown-of, known-if, SameLookUp, Since, Invariant, begins, goes-on, holds-after, looked-up}
 
 -- Answers of refusals: no test held; the one before the last numbers
 none-refused : (cs : List (Bool × ℕ)) → NoRefusal cs → firstOf cs ≡ 0
@@ -48,19 +48,6 @@ stop false n r k ne e = absurd (ne e)
 
 answer-taken : (n : ℕ) (s : Station) (route : List ℕ) (o : Outcome) → o .answer ≡ 0 → refusedOr n s route o .answer ≡ n
 answer-taken n s route o e = of-refused (λ (r : Outcome). r .answer ≡ n) n s route o (λ z. e ∙ sym z) (λ _. refl)
-
--- what only a look-up decides
-unknown-of : (o : Origin) → known o ≡ false → o ≡ Unknown
-unknown-of Unknown e = refl
-unknown-of Here e = absurd (clash refl e)
-unknown-of (From l n) e = absurd (clash refl e)
-unknown-of Gone e = absurd (clash refl e)
-
-known-if : (o : Origin) → (o ≡ Unknown → ⊥) → known o ≡ true
-known-if Unknown e = absurd (e refl)
-known-if Here e = refl
-known-if (From l n) e = refl
-known-if Gone e = refl
 
 -- Lines: a query goes to those that the rules name
 not-is : (b : Bool) → (not b ≡ true) ↔ (b ≡ false)

@@ -60,6 +60,18 @@ openingOf Here = 0
 openingOf (From l n) = n
 openingOf Gone = 0
 
+pub unknown-of : (o : Origin) → known o ≡ false → o ≡ Unknown
+unknown-of Unknown e = refl
+unknown-of Here e = absurd (clash refl e)
+unknown-of (From l n) e = absurd (clash refl e)
+unknown-of Gone e = absurd (clash refl e)
+
+pub known-if : (o : Origin) → (o ≡ Unknown → ⊥) → known o ≡ true
+known-if Unknown e = absurd (e refl)
+known-if Here e = refl
+known-if (From l n) e = refl
+known-if Gone e = refl
+
 -- a query that came by a line: neither here nor gone, and the line has not closed
 from-line : (a b : Bool) (k n l e : ℕ) → pickOrigin a Here (pickOrigin b Gone (From k n)) ≡ From l e → (a ≡ false) × (b ≡ false) × (k ≡ l) × (n ≡ e)
 from-line true b k n l e q = absurd (clash refl (sym (ap isFrom q)))
@@ -163,27 +175,27 @@ module _ (base : List Query) (d : Made) (ds : List Made) (shut : ℕ → Bool) w
   history-passed t = rw t
 
 -- What a call does to the memory: it takes a query, closes a line, or neither
-record Takes (s : Station) (c : Call) (o : Outcome) : Type 0 where
+pub record Takes (s : Station) (c : Call) (o : Outcome) : Type 0 where
   pub taken : took c (o .answer) ≡ true
   pub unclosed : (l : ℕ) → closed c (o .answer) l ≡ false
   pub memory : remembered (o .state) ≡ take capacity (asked (broughtNumber c) (broughtBy c) ∷ remembered s)
   pub unseen : seen s (broughtNumber c) ≡ false
   pub fits : askerFits (s .lines) (broughtBy c) ≡ true
 
-record Closes (s : Station) (c : Call) (o : Outcome) : Type 0 where
+pub record Closes (s : Station) (c : Call) (o : Outcome) : Type 0 where
   pub passed : took c (o .answer) ≡ false
   pub line : ℕ
   pub below : line ≤ 7
   pub closes : (l : ℕ) → closed c (o .answer) l ≡ eqb l line
   pub memory : remembered (o .state) ≡ map (leftBy line) (remembered s)
 
-record Passes (s : Station) (c : Call) (o : Outcome) : Type 0 where
+pub record Passes (s : Station) (c : Call) (o : Outcome) : Type 0 where
   pub passed : took c (o .answer) ≡ false
   pub unclosed : (l : ℕ) → closed c (o .answer) l ≡ false
   pub memory : remembered (o .state) ≡ remembered s
 
 -- and an open line that it does not close stays open, and is not opened again
-record Effect (s : Station) (c : Call) (o : Outcome) : Type 0 where
+pub record Effect (s : Station) (c : Call) (o : Outcome) : Type 0 where
   pub does : Takes s c o ⊎ (Closes s c o ⊎ Passes s c o)
   pub stays : (l : ℕ) → lineAt s l .live ≡ true → closed c (o .answer) l ≡ false → (opened c (o .answer) l ≡ false) × (lineAt (o .state) l .live ≡ true)
 
@@ -347,7 +359,7 @@ module _ (s : Station) (z : Sized s) (o : inOrder s ≡ true) where
       })
       (refused-effect s (Close l) (firstOf (closingRules s l)) [])
 
-call-effect : (w : World) → Sized (w .state) → inOrder (w .state) ≡ true → (c : Call) → Effect (w .state) c (outcomeOf w c)
+pub call-effect : (w : World) → Sized (w .state) → inOrder (w .state) ≡ true → (c : Call) → Effect (w .state) c (outcomeOf w c)
 call-effect w z o (Open l) = opening-effect (w .state) z o l
 call-effect w z o (Close l) = closing-effect (w .state) z o l
 call-effect w z o (Message l clock own m out a) = message-effect (w .state) z o l clock own m out a (lent a (w .area))

@@ -13,3 +13,4 @@ pub mod Demand3
 pub mod Periods
 pub mod History
 pub mod Demand2
+pub mod Gone
