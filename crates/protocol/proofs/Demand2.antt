@@ -31,7 +31,7 @@ use Rattle.protocol.specs.Demand2.{openings, Origin, Unknown, Here, From
 use Rattle.protocol.proofs.Forwarding.{and-iff, other-iff}
 use Rattle.protocol.proofs.Outcomes.{of-pick, of-refused, eachLine-at, is-open, LetIn, let-in, early-unsent}
 use Rattle.protocol.proofs.Refused.{refusal-frame}
-use Rattle.protocol.proofs.History.{known, unknown-of, known-if, SameLookUp, Since, Invariant, begins, goes-on, holds-after, looked-up}
+use Rattle.protocol.proofs.Origins.{known, unknown-of, known-if, SameLookUp, Since, Invariant, begins, goes-on, holds-after, looked-up}
 
 -- Answers of refusals: no test held; the one before the last numbers
 none-refused : (cs : List (Bool × ℕ)) → NoRefusal cs → firstOf cs ≡ 0

@@ -16,7 +16,7 @@ use Rattle.protocol.specs.Outcomes.{Outcome}
 use Rattle.protocol.specs.Runs.{Call, World, outcomeOf, step, run, start}
 use Rattle.protocol.specs.Kept.{asked, leftBy}
 use Rattle.protocol.specs.Demand2.{broughtNumber, broughtBy, Origin, Unknown, Here, From, Gone, origin, askerNow, GoneForever}
-use Rattle.protocol.proofs.History.{known, unknown-of, SameLookUp, Since, Takes, Closes, Passes, Effect, call-effect, Invariant, begins, goes-on, holds-after, looked-up}
+use Rattle.protocol.proofs.Origins.{known, unknown-of, SameLookUp, Since, Takes, Closes, Passes, Effect, call-effect, Invariant, begins, goes-on, holds-after, looked-up}
 
 -- In the remembered queries: gone is still gone after a closing, and after one more query gone or not there
 asker-later : (f : Found) → askerOf (later f) ≡ askerOf f

@@ -11,6 +11,6 @@ pub mod Refused
 pub mod Matching
 pub mod Demand3
 pub mod Periods
-pub mod History
+pub mod Origins
 pub mod Demand2
 pub mod Gone

@@ -12,12 +12,14 @@ use Rattle.wire.specs.Header.{kindOf, ttlOf, hopsOf, sizeOf, payloadOf, numberO
 use Rattle.keywords.specs.Keywords.{keywordsOf}
 use Rattle.tables.specs.Admission.{withholds}
 use Rattle.protocol.specs.declared.Station.{Station}
-use Rattle.protocol.specs.Memory.{capacity, here, gone, Number, numberIn, sameNumber, Query, remembered}
+use Rattle.protocol.specs.declared.Own.{Own}
+use Rattle.protocol.specs.Memory.{capacity, here, gone, Number, numberIn, sameNumber, Query, remembered, noTwice}
 use Rattle.protocol.specs.Lines.{lineAt, heldAt}
 use Rattle.protocol.specs.Order.{inOrder}
 use Rattle.protocol.specs.Outcomes.{Outcome, unsent, nobody, onlyTo, writtenFor}
 use Rattle.protocol.specs.Queries.{textIn, ownPayload}
-use Rattle.protocol.specs.Runs.{Call, Open, Close, Message, Ask, Made, World, lent, outcomeOf, step, run, start}
+use Rattle.protocol.specs.Calls.{fresh}
+use Rattle.protocol.specs.Runs.{Area, Call, Open, Close, Message, Ask, Made, World, lent, outcomeOf, step, run, start}
 use Rattle.protocol.specs.Periods.{lifeLeft}
 use Rattle.protocol.specs.Kept.{Sized}
 
@@ -70,16 +72,16 @@ abbrev pub past : (ℕ → Bool) → Number → ℕ → ℕ → Past
 past shut x who n = record { number = x; asker = who; shut = shut who; opening = n }
 
 -- all queries that were taken, the newest first, then those remembered before the log began; `shut` says which lines have closed since
-unfoldable pub history : (ℕ → Bool) → List Made → List Query → List Past
-history shut [] base = map (λ q. past shut (q .number) (q .asker) 0) base
-history shut (d ∷ ds) base =
+unfoldable pub allTaken : (ℕ → Bool) → List Made → List Query → List Past
+allTaken shut [] base = map (λ q. past shut (q .number) (q .asker) 0) base
+allTaken shut (d ∷ ds) base =
     cond (took (d .call) (d .outcome .answer))
-    (past shut (broughtNumber (d .call)) (broughtBy (d .call)) (openings (broughtBy (d .call)) ds) ∷ history shut ds base)
-    (history (λ l. shut l || closed (d .call) (d .outcome .answer) l) ds base)
+    (past shut (broughtNumber (d .call)) (broughtBy (d .call)) (openings (broughtBy (d .call)) ds) ∷ allTaken shut ds base)
+    (allTaken (λ l. shut l || closed (d .call) (d .outcome .answer) l) ds base)
 
 -- the last 512 of them
 abbrev pub lastTaken : List Made → List Query → List Past
-lastTaken log base = take capacity (history (λ l. false) log base)
+lastTaken log base = take capacity (allTaken (λ l. false) log base)
 
 -- where a query came from: not among the last 512; here; a line that has not closed since, in its opening of this count; one that has
 pub data Origin : Type 0 where
@@ -112,12 +114,16 @@ askerNow Gone = gone
 abbrev pub standing : Past → Query
 standing p = record { number = p .number; asker = askerNow (originOf p) }
 
+pub record MemoryIs (s : Station) (log : List Made) (base : List Query) : Type 0 where
+  pub last : remembered s ≡ map standing (lastTaken log base)
+  pub once : noTwice (map standing (lastTaken log base)) ≡ true
+
 abbrev pub MemoryHistory : Type 0
 MemoryHistory =
     (s : Station) (area : List ℕ) (cs : List Call)
     → Sized s
     → inOrder s ≡ true
-    → remembered (run (start s area) cs .state) ≡ map standing (lastTaken (run (start s area) cs .log) (remembered s))
+    → MemoryIs (run (start s area) cs .state) (run (start s area) cs .log) (remembered s)
 
 -- Queries. The areas that are lent fit the state
 pub record Areas (s : Station) (out : ℕ) (route : List ℕ) : Type 0 where
@@ -252,3 +258,32 @@ GoneForever =
     → origin (run (start s area) cs .log) (remembered s) x ≡ Gone
     → (origin (run (run (start s area) cs) later .log) (remembered s) x ≡ Gone)
     ⊎ ((ps qs : List Call) × (later ≡ ps ++ qs) × (origin (run (run (start s area) cs) ps .log) (remembered s) x ≡ Unknown))
+
+-- With the log laid open, from a fresh state: where a hit goes to line l, some call of the log took a query with its number by that line; fewer
+-- than 512 were taken since; and the line, now open, has not been closed since, nor opened more often than it had been by then
+abbrev pub takenIn : List Made → ℕ
+takenIn [] = 0
+takenIn (d ∷ ds) = cond (took (d .call) (d .outcome .answer)) (suc (takenIn ds)) (takenIn ds)
+
+pub record Brought (log : List Made) (x : Number) (l : ℕ) : Type 0 where
+  pub newer : List Made
+  pub taking : Made
+  pub older : List Made
+  pub split : log ≡ newer ++ (taking ∷ older)
+  pub taken : took (taking .call) (taking .outcome .answer) ≡ true
+  pub number : broughtNumber (taking .call) ≡ x
+  pub by : broughtBy (taking .call) ≡ l
+  pub among : takenIn newer < 512
+  pub unclosed : any (λ d. closed (d .call) (d .outcome .answer) l) newer ≡ false
+  pub same : openings l log ≡ openings l older
+
+abbrev pub BackOnly : World → Type 0
+BackOnly w =
+    (l clock : ℕ) (own : Own) (m : List ℕ) (out : ℕ) (a : Area) (k : ℕ)
+    → kindOf m ≡ 0x81
+    → k < 8
+    → getD (outcomeOf w (Message l clock own m out a) .to) k false ≡ true
+    → (lineAt (w .state) k .live ≡ true) × Brought (w .log) (numberIn m) k
+
+abbrev pub AnswersBack : Type 0
+AnswersBack = (n : ℕ) (area : List ℕ) (cs : List Call) → BackOnly (run (start (fresh n .state) area) cs)

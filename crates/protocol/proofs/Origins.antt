@@ -19,7 +19,7 @@ use Rattle.tables.specs.Updates.{updated}
 use Rattle.protocol.specs.declared.Line.{Line}
 use Rattle.protocol.specs.declared.Station.{Station}
 use Rattle.protocol.specs.declared.Own.{Own}
-use Rattle.protocol.specs.Memory.{capacity, here, gone, Number, numberIn, sameNumber, Query, queryAt, remembered, Found, Absent, At, later, pickFound, find, isFound, askerOf, seen, remember, left}
+use Rattle.protocol.specs.Memory.{capacity, here, gone, Number, numberIn, sameNumber, Query, queryAt, remembered, Found, Absent, At, later, pickFound, find, isFound, askerOf, seen, remember, noTwice, left}
 use Rattle.protocol.specs.Lines.{lineCount, emptyLine, nowhere, lineAt, withLine, withTable, pingedAt, withPong, heldAt}
 use Rattle.protocol.specs.Order.{askerFits, inOrder}
 use Rattle.protocol.specs.Outcomes.{Outcome, quiet}
@@ -29,7 +29,7 @@ use Rattle.protocol.specs.Pings.{pingType, pongType, isProbe, pingRules,
 use Rattle.protocol.specs.Calls.{openingRules, opening, closedState, closingRules, closing, early, updateOutcome, byType, arriving, ownRules, asking, messageOutcome, ownOutcome}
 use Rattle.protocol.specs.Runs.{Area, Call, Open, Close, Message, Ask, Made, World, lent, outcomeOf, step, run, start}
 use Rattle.protocol.specs.Kept.{Sized, Kept, asked, leftBy}
-use Rattle.protocol.specs.Demand2.{took, broughtNumber, broughtBy, opened, closed, openings, Past, past, history, lastTaken, Origin, Unknown, Here, From, Gone, pickOrigin, originOf, lookUp, origin, askerNow, standing, MemoryHistory}
+use Rattle.protocol.specs.Demand2.{took, broughtNumber, broughtBy, opened, closed, openings, Past, past, allTaken, lastTaken, Origin, Unknown, Here, From, Gone, pickOrigin, originOf, lookUp, origin, askerNow, standing, MemoryHistory}
 use Rattle.protocol.proofs.Outcomes.{of-pick, of-refused, other-type, is-open, LetIn, let-in, asked-in}
 use Rattle.protocol.proofs.InOrder.{StateFacts, state-facts}
 use Rattle.protocol.proofs.Memory.{remembered-newest, remembered-left}
@@ -83,7 +83,7 @@ known-of true b k n = refl
 known-of false true k n = refl
 known-of false false k n = refl
 
--- a look-up in the remembered queries is one in the history
+-- a look-up in the remembered queries is one in the allTaken
 pub record SameLookUp (f : Found) (o : Origin) : Type 0 where
   pub found : isFound f ≡ known o
   pub asker : askerOf f ≡ askerNow o
@@ -150,15 +150,15 @@ module _ (l : ℕ) (h : l ≤ 7) where
   choice-left true p p′ xs xs′ ys ys′ e f g = ap₂ _∷_ e f
   choice-left false p p′ xs xs′ ys ys′ e f g = g
 
-  history-left : (base : List Query) (ds : List Made) (shut shut′ : ℕ → Bool) → ((k : ℕ) → shut′ k ≡ (shut k || eqb k l))
-      → map standing (history shut′ ds base) ≡ map (leftBy l) (map standing (history shut ds base))
-  unfolding history
-  history-left base [] shut shut′ e = base-left shut shut′ e base
-  history-left base (d ∷ ds) shut shut′ e =
+  taken-left : (base : List Query) (ds : List Made) (shut shut′ : ℕ → Bool) → ((k : ℕ) → shut′ k ≡ (shut k || eqb k l))
+      → map standing (allTaken shut′ ds base) ≡ map (leftBy l) (map standing (allTaken shut ds base))
+  unfolding allTaken
+  taken-left base [] shut shut′ e = base-left shut shut′ e base
+  taken-left base (d ∷ ds) shut shut′ e =
       choice-left (took (d .call) (d .outcome .answer)) _ _ _ _ _ _
       (standing-left shut shut′ e (broughtNumber (d .call)) (broughtBy (d .call)) (openings (broughtBy (d .call)) ds))
-      (history-left base ds shut shut′ e)
-      (history-left base ds (λ k. shut k || closed (d .call) (d .outcome .answer) k) (λ k. shut′ k || closed (d .call) (d .outcome .answer) k)
+      (taken-left base ds shut shut′ e)
+      (taken-left base ds (λ k. shut k || closed (d .call) (d .outcome .answer) k) (λ k. shut′ k || closed (d .call) (d .outcome .answer) k)
       (λ k. ap (λ b. b || closed (d .call) (d .outcome .answer) k) (e k) ∙ or-turn (shut k) (eqb k l) (closed (d .call) (d .outcome .answer) k)))
 
 -- one entry of the log
@@ -166,13 +166,13 @@ module _ (base : List Query) (d : Made) (ds : List Made) (shut : ℕ → Bool) w
   abbrev pub newest : Past
   newest = past shut (broughtNumber (d .call)) (broughtBy (d .call)) (openings (broughtBy (d .call)) ds)
 
-  history-took : took (d .call) (d .outcome .answer) ≡ true → history shut (d ∷ ds) base ≡ newest ∷ history shut ds base
-  unfolding history
-  history-took t = rw t
+  taken-took : took (d .call) (d .outcome .answer) ≡ true → allTaken shut (d ∷ ds) base ≡ newest ∷ allTaken shut ds base
+  unfolding allTaken
+  taken-took t = rw t
 
-  history-passed : took (d .call) (d .outcome .answer) ≡ false → history shut (d ∷ ds) base ≡ history (λ l. shut l || closed (d .call) (d .outcome .answer) l) ds base
-  unfolding history
-  history-passed t = rw t
+  taken-passed : took (d .call) (d .outcome .answer) ≡ false → allTaken shut (d ∷ ds) base ≡ allTaken (λ l. shut l || closed (d .call) (d .outcome .answer) l) ds base
+  unfolding allTaken
+  taken-passed t = rw t
 
 -- What a call does to the memory: it takes a query, closes a line, or neither
 pub record Takes (s : Station) (c : Call) (o : Outcome) : Type 0 where
@@ -374,7 +374,7 @@ pub record Since (shut : ℕ → Bool) (w : World) (l n : ℕ) : Type 0 where
   pub same : openings l (w .log) ≡ n
 
 abbrev AllSince : List Query → World → Type 0
-AllSince base w = (shut : ℕ → Bool) (n : ℕ) (x : Number) (l e : ℕ) → lookUp (take n (history shut (w .log) base)) x ≡ From l e → Since shut w l e
+AllSince base w = (shut : ℕ → Bool) (n : ℕ) (x : Number) (l e : ℕ) → lookUp (take n (allTaken shut (w .log) base)) x ≡ From l e → Since shut w l e
 
 pub record Invariant (base : List Query) (w : World) : Type 0 where
   pub sized : Sized (w .state)
@@ -454,7 +454,7 @@ remembered-length s =
     (λ _. omega arith)
 
 pub begins : (s : Station) (area : List ℕ) → Sized s → inOrder s ≡ true → Invariant (remembered s) (start s area)
-unfolding history
+unfolding allTaken
 begins s area z o =
     let ps : List Past = map (λ q. past (λ l. false) (q .number) (q .asker) 0) (remembered s) in
     let n : length ps ≤ capacity = rw (length-map) (remembered-length s) in
@@ -498,44 +498,44 @@ module _ (base : List Query) (w : World) (v : Invariant base w) (c : Call) where
     took-memory =
         t .memory
         ∙ ap (λ qs. take capacity (asked (broughtNumber c) (broughtBy c) ∷ qs)) (v .memory)
-        ∙ push 511 (asked (broughtNumber c) (broughtBy c)) (newest base d (w .log) (λ l. false)) (history (λ l. false) (w .log) base) (standing-now (broughtNumber c) (broughtBy c) (openings (broughtBy c) (w .log)))
-        ∙ ap (λ ps. map standing (take capacity ps)) (sym (history-took base d (w .log) (λ l. false) (t .taken)))
+        ∙ push 511 (asked (broughtNumber c) (broughtBy c)) (newest base d (w .log) (λ l. false)) (allTaken (λ l. false) (w .log) base) (standing-now (broughtNumber c) (broughtBy c) (openings (broughtBy c) (w .log)))
+        ∙ ap (λ ps. map standing (take capacity ps)) (sym (taken-took base d (w .log) (λ l. false) (t .taken)))
 
     carried : (shut : ℕ → Bool) (l e : ℕ) → Since shut w l e → Since shut (step w c) l e
     carried shut l e h = carry shut shut l e h (h .unshut) (t .unclosed l)
 
     took-since : (shut : ℕ → Bool) (n : ℕ) (x : Number) (l e : ℕ)
-        → lookUp (take n (newest base d (w .log) shut ∷ history shut (w .log) base)) x ≡ From l e → Since shut (step w c) l e
+        → lookUp (take n (newest base d (w .log) shut ∷ allTaken shut (w .log) base)) x ≡ From l e → Since shut (step w c) l e
     took-since shut zero x l e q = absurd (no-from 0 x l e q)
     took-since shut (suc n) x l e q =
         ⊎-elim
         (λ h. carried shut l e (since-taken shut w (broughtNumber c) (broughtBy c) (openings (broughtBy c) (w .log)) l e (t .fits) refl h))
         (λ h. carried shut l e (v .since shut n x l e h))
-        (pick-from (sameNumber (broughtNumber c) x) (originOf (newest base d (w .log) shut)) (lookUp (take n (history shut (w .log) base)) x) l e q)
+        (pick-from (sameNumber (broughtNumber c) x) (originOf (newest base d (w .log) shut)) (lookUp (take n (allTaken shut (w .log) base)) x) l e q)
 
   -- no query taken
   passed-since : took c (o .answer) ≡ false → AllSince base (step w c)
   passed-since t shut n x l e q =
-      let h = v .since (λ k. shut k || closed c (o .answer) k) n x l e (rw (history-passed base d (w .log) shut t) at q) in
+      let h = v .since (λ k. shut k || closed c (o .answer) k) n x l e (rw (taken-passed base d (w .log) shut t) at q) in
       carry shut (λ k. shut k || closed c (o .answer) k) l e h (or-fst (shut l) (closed c (o .answer) l) (h .unshut)) (or-snd (shut l) (closed c (o .answer) l) (h .unshut))
 
   closed-memory : Closes s c o → remembered (o .state) ≡ map standing (lastTaken (d ∷ w .log) base)
   closed-memory t =
-      let hs : List Past = history (λ l. false) (w .log) base in
-      let hs′ : List Past = history (λ l. closed c (o .answer) l) (w .log) base in
+      let hs : List Past = allTaken (λ l. false) (w .log) base in
+      let hs′ : List Past = allTaken (λ l. closed c (o .answer) l) (w .log) base in
       t .memory
       ∙ ap (map (leftBy (t .line))) (v .memory ∙ map-take standing capacity hs)
       ∙ map-take (leftBy (t .line)) capacity (map standing hs)
-      ∙ ap (take capacity) (sym (history-left (t .line) (t .below) base (w .log) (λ l. false) (λ l. closed c (o .answer) l) (t .closes)))
+      ∙ ap (take capacity) (sym (taken-left (t .line) (t .below) base (w .log) (λ l. false) (λ l. closed c (o .answer) l) (t .closes)))
       ∙ sym (map-take standing capacity hs′)
-      ∙ ap (λ ps. map standing (take capacity ps)) (sym (history-passed base d (w .log) (λ l. false) (t .passed)))
+      ∙ ap (λ ps. map standing (take capacity ps)) (sym (taken-passed base d (w .log) (λ l. false) (t .passed)))
 
   passed-memory : Passes s c o → remembered (o .state) ≡ map standing (lastTaken (d ∷ w .log) base)
   passed-memory t =
       t .memory
       ∙ v .memory
-      ∙ ap (λ (f : ℕ → Bool). map standing (take capacity (history f (w .log) base))) (λ i l. sym (t .unclosed l) i)
-      ∙ ap (λ ps. map standing (take capacity ps)) (sym (history-passed base d (w .log) (λ l. false) (t .passed)))
+      ∙ ap (λ (f : ℕ → Bool). map standing (take capacity (allTaken f (w .log) base))) (λ i l. sym (t .unclosed l) i)
+      ∙ ap (λ ps. map standing (take capacity ps)) (sym (taken-passed base d (w .log) (λ l. false) (t .passed)))
 
   pub goes-on : Invariant base (step w c)
   goes-on =
@@ -545,7 +545,7 @@ module _ (base : List Query) (w : World) (v : Invariant base w) (c : Call) where
         order = k .order;
         memory = ⊎-elim took-memory (⊎-elim closed-memory passed-memory) (eff .does);
         since = ⊎-elim
-            (λ t shut n x l e q. took-since t shut n x l e (rw (history-took base d (w .log) shut (t .taken)) at q))
+            (λ t shut n x l e q. took-since t shut n x l e (rw (taken-took base d (w .log) shut (t .taken)) at q))
             (⊎-elim (λ t. passed-since (t .passed)) (λ t. passed-since (t .passed)))
             (eff .does);
       }
@@ -555,7 +555,9 @@ holds-after base w [] v = v
 holds-after base w (c ∷ cs) v = holds-after base (step w c) cs (goes-on base w v c)
 
 pub memory-history : MemoryHistory
-memory-history s area cs z o = holds-after (remembered s) (start s area) cs (begins s area z o) .memory
+memory-history s area cs z o =
+    let v = holds-after (remembered s) (start s area) cs (begins s area z o) in
+    record { last = v .memory; once = ap noTwice (sym (v .memory)) ∙ state-facts (run (start s area) cs .state) (v .order) .twice }
 
 -- a look-up in the state is one in the log
 pub looked-up : (base : List Query) (w : World) → Invariant base w → (x : Number) → SameLookUp (find (remembered (w .state)) x) (origin (w .log) base x)
