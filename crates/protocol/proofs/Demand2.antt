@@ -403,7 +403,7 @@ module _ (base : List Query) (w : World) (v : Invariant base w) where
       (hit-routed w m route (hitFound (w .state) m) (origin (w .log) base (numberIn m)) (looked-up base w v (numberIn m)) (λ l n. v .since (λ _. false) capacity (numberIn m) l n)))
       (λ ne u. absurd (clash (early-unsent (w .state) l m out (length route) ne) u))
 
-  routed : (c : Call) → Routed base w c (outcomeOf w c)
+  pub routed : (c : Call) → Routed base w c (outcomeOf w c)
   routed (Open l) = opening-silent (w .state) l
   routed (Close l) = closing-silent (w .state) l
   routed (Message l clock own m out a) =

@@ -16,7 +16,7 @@ use Rattle.protocol.specs.Outcomes.{Outcome}
 use Rattle.protocol.specs.Runs.{Call, World, outcomeOf, step, run, start}
 use Rattle.protocol.specs.Kept.{asked, leftBy}
 use Rattle.protocol.specs.Demand2.{broughtNumber, broughtBy, Origin, Unknown, Here, From, Gone, origin, askerNow, GoneForever}
-use Rattle.protocol.proofs.Origins.{known, unknown-of, SameLookUp, Since, Takes, Closes, Passes, Effect, call-effect, Invariant, begins, goes-on, holds-after, looked-up}
+use Rattle.protocol.proofs.Origins.{known, unknown-of, same-number, SameLookUp, Since, Takes, Closes, Passes, Effect, call-effect, Invariant, begins, goes-on, holds-after, looked-up}
 
 -- In the remembered queries: gone is still gone after a closing, and after one more query gone or not there
 asker-later : (f : Found) → askerOf (later f) ≡ askerOf f
@@ -52,12 +52,6 @@ gone-take (suc n) x (q ∷ qs) e = go (sameNumber (q .number) x) (gone-take n x 
         → GoneOrAbsent (pickFound b (At 0 (q .asker)) (later (find (take n qs) x)))
     go true h e = inl e
     go false h e = gone-later (find (take n qs) x) (h (sym (asker-later (find qs x)) ∙ e))
-
-same-number : (x y : Number) → sameNumber x y ≡ true → x ≡ y
-same-number x y e =
-    let a : x .lo ≡ y .lo = eqb-true (x .lo) (y .lo) (and-fst (eqb (x .lo) (y .lo)) (eqb (x .hi) (y .hi)) e) in
-    let b : x .hi ≡ y .hi = eqb-true (x .hi) (y .hi) (and-snd (eqb (x .lo) (y .lo)) (eqb (x .hi) (y .hi)) e) in
-    λ i. record { lo = a i; hi = b i }
 
 found-gone : (f : Found) → isFound f ≡ false → askerOf f ≡ gone → ⊥
 found-gone Absent u e = absurd (omega arith)

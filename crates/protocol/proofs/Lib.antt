@@ -14,3 +14,4 @@ pub mod Periods
 pub mod Origins
 pub mod Demand2
 pub mod Gone
+pub mod Back

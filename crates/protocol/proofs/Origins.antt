@@ -73,7 +73,7 @@ known-if (From l n) e = refl
 known-if Gone e = refl
 
 -- a query that came by a line: neither here nor gone, and the line has not closed
-from-line : (a b : Bool) (k n l e : ℕ) → pickOrigin a Here (pickOrigin b Gone (From k n)) ≡ From l e → (a ≡ false) × (b ≡ false) × (k ≡ l) × (n ≡ e)
+pub from-line : (a b : Bool) (k n l e : ℕ) → pickOrigin a Here (pickOrigin b Gone (From k n)) ≡ From l e → (a ≡ false) × (b ≡ false) × (k ≡ l) × (n ≡ e)
 from-line true b k n l e q = absurd (clash refl (sym (ap isFrom q)))
 from-line false true k n l e q = absurd (clash refl (sym (ap isFrom q)))
 from-line false false k n l e q = (refl, refl, ap lineOf q, ap openingOf q)
@@ -83,7 +83,14 @@ known-of true b k n = refl
 known-of false true k n = refl
 known-of false false k n = refl
 
--- a look-up in the remembered queries is one in the allTaken
+-- one number, by its halves
+pub same-number : (x y : Number) → sameNumber x y ≡ true → x ≡ y
+same-number x y e =
+    let a : x .lo ≡ y .lo = eqb-true (x .lo) (y .lo) (and-fst (eqb (x .lo) (y .lo)) (eqb (x .hi) (y .hi)) e) in
+    let b : x .hi ≡ y .hi = eqb-true (x .hi) (y .hi) (and-snd (eqb (x .lo) (y .lo)) (eqb (x .hi) (y .hi)) e) in
+    λ i. record { lo = a i; hi = b i }
+
+-- a look-up in the remembered queries is one in the log
 pub record SameLookUp (f : Found) (o : Origin) : Type 0 where
   pub found : isFound f ≡ known o
   pub asker : askerOf f ≡ askerNow o
@@ -166,11 +173,11 @@ module _ (base : List Query) (d : Made) (ds : List Made) (shut : ℕ → Bool) w
   abbrev pub newest : Past
   newest = past shut (broughtNumber (d .call)) (broughtBy (d .call)) (openings (broughtBy (d .call)) ds)
 
-  taken-took : took (d .call) (d .outcome .answer) ≡ true → allTaken shut (d ∷ ds) base ≡ newest ∷ allTaken shut ds base
+  pub taken-took : took (d .call) (d .outcome .answer) ≡ true → allTaken shut (d ∷ ds) base ≡ newest ∷ allTaken shut ds base
   unfolding allTaken
   taken-took t = rw t
 
-  taken-passed : took (d .call) (d .outcome .answer) ≡ false → allTaken shut (d ∷ ds) base ≡ allTaken (λ l. shut l || closed (d .call) (d .outcome .answer) l) ds base
+  pub taken-passed : took (d .call) (d .outcome .answer) ≡ false → allTaken shut (d ∷ ds) base ≡ allTaken (λ l. shut l || closed (d .call) (d .outcome .answer) l) ds base
   unfolding allTaken
   taken-passed t = rw t
 
@@ -382,7 +389,7 @@ pub record Invariant (base : List Query) (w : World) : Type 0 where
   pub memory : remembered (w .state) ≡ map standing (lastTaken (w .log) base)
   pub since : AllSince base w
 
-no-from : (n : ℕ) (x : Number) (l e : ℕ) → lookUp (take n []) x ≡ From l e → ⊥
+pub no-from : (n : ℕ) (x : Number) (l e : ℕ) → lookUp (take n []) x ≡ From l e → ⊥
 no-from zero x l e q = clash refl (sym (ap isFrom q))
 no-from (suc n) x l e q = clash refl (sym (ap isFrom q))
 
