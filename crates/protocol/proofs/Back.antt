@@ -12,12 +12,12 @@ use Rattle.laws.specs.Tests.{any}
 use Rattle.laws.specs.Ring.{keptPlaces}
 use Rattle.laws.proofs.Refusals.{clash, or-fst, or-snd}
 use Rattle.wire.specs.Header.{kindOf, ttlOf, hopsOf, sizeOf}
-use Rattle.protocol.specs.Memory.{capacity, here, gone, Number, numberIn, sameNumber, Query, remembered}
+use Rattle.protocol.specs.Memory.{capacity, here, gone, Number, numberIn, sameNumber, remembered}
 use Rattle.protocol.specs.Lines.{lineAt}
 use Rattle.protocol.specs.Outcomes.{Outcome, nobody, onlyTo, unsent}
 use Rattle.protocol.specs.Calls.{fresh}
 use Rattle.protocol.specs.Runs.{Call, Open, Close, Message, Ask, Made, World, lent, outcomeOf, run, start}
-use Rattle.protocol.specs.Demand2.{took, broughtNumber, broughtBy, closed, openings, Past, past, allTaken, Origin, Unknown, Here, From, Gone, pickOrigin, originOf, lookUp, origin, HitBy, MessageRouted, takenIn, Brought, BackOnly, AnswersBack}
+use Rattle.protocol.specs.Demand2.{took, broughtNumber, broughtBy, closed, openings, Past, past, allTaken, Origin, Unknown, Here, From, Gone, originOf, lookUp, origin, HitBy, MessageRouted, takenIn, Brought, BackOnly, AnswersBack}
 use Rattle.protocol.proofs.Outcomes.{eachLine-at}
 use Rattle.protocol.proofs.Kept.{fresh-in-order}
 use Rattle.protocol.proofs.Origins.{from-line, no-from, same-number, taken-took, taken-passed, Since, Invariant, begins, holds-after}

@@ -1,37 +1,37 @@
 -- Demand 2, proved: each call of a list is routed as its log says.
 -- Assumes nothing.
-use Prim.Native.Nat.{ℕ, zero, suc, _+_, _-_, _/_, _≤_, _<_, max}
+use Prim.Native.Nat.{ℕ, _+_, _-_, _/_, _≤_, _<_, max}
 use native.Mathlib.Omega.{arith}
 use mathlib.Core.Path.{_≡_, refl, sym, ap, ap₂, _∙_}
 use mathlib.Core.Bool.{Bool, true, false, cond, not, _&&_, _||_}
-use mathlib.Core.Logic.{_↔_, _⊎_, inl, inr, ⊎-elim}
+use mathlib.Core.Logic.{_↔_, inl, inr}
 use mathlib.Core.List.{List, [], _∷_, _++_, map, append-nil, append-assoc}
 use lib.Dec.{eqb, leb, ltb}
-use lib.ListN.{length, getD, take, drop}
-use borrow.Author.Tests.{leb-true, le-leb, lt-leb, leb-false, ltb-true, lt-ltb, ltb-false, le-ltb, eqb-true, eqb-false, eq-eqb, ne-eqb, not-true, not-false}
+use lib.ListN.{length, getD}
+use borrow.Author.Tests.{leb-true, le-leb, lt-leb, leb-false, lt-ltb, ltb-false, le-ltb, eqb-true, eqb-false, eq-eqb, ne-eqb, not-true, not-false}
 use Rattle.laws.specs.Tests.{firstOf, any}
-use Rattle.laws.proofs.Refusals.{clash, and-snd, or-fst, or-snd, of-choice, no-refusal, NoRefusal}
+use Rattle.laws.proofs.Refusals.{clash, or-fst, or-snd, of-choice, no-refusal, NoRefusal}
 use Rattle.wire.specs.Header.{kindOf, ttlOf, hopsOf, sizeOf, payloadOf, numberOf, routeUpdate, message}
 use Rattle.keywords.specs.Keywords.{keywordsOf}
 use Rattle.tables.specs.Admission.{withholds}
 use Rattle.protocol.specs.declared.Pong.{Pong}
 use Rattle.protocol.specs.declared.Station.{Station}
 use Rattle.protocol.specs.declared.Own.{Own}
-use Rattle.protocol.specs.Memory.{capacity, here, gone, Number, numberIn, sameNumber, Query, remembered, Found, isFound, askerOf, find, seen}
+use Rattle.protocol.specs.Memory.{capacity, here, gone, numberIn, Query, remembered, Found, seen}
 use Rattle.protocol.specs.Lines.{isOther, emptyLine, lineAt, withLine, withPong, heldAt}
 use Rattle.protocol.specs.Order.{inOrder}
-use Rattle.protocol.specs.Outcomes.{Outcome, quiet, refusedOr, unsent, writtenFor}
-use Rattle.protocol.specs.Queries.{usualLimit, queryType, textIn, hasText, lifeOf, passes, goesOn, queryRules, queryTo, queryOn, queryTaken, queryOutcome, ownPayload, ownBytes, ownTo, ownTaken}
+use Rattle.protocol.specs.Outcomes.{Outcome, quiet, refusedOr, unsent}
+use Rattle.protocol.specs.Queries.{usualLimit, queryType, textIn, hasText, passes, goesOn, queryRules, queryTo, queryOn, queryTaken, queryOutcome, ownPayload, ownBytes, ownTo, ownTaken}
 use Rattle.protocol.specs.Hits.{hitType, hitRules, hitFound, hitTaken, hitOutcome}
 use Rattle.protocol.specs.Pings.{pingType, pongType, isProbe, flat, pingRules, pongRules, pongBytes, ownPong, ownSent, storedSent, pongsSent, pingTaken, pingOutcome, arrivedPong, pongOutcome}
-use Rattle.protocol.specs.Calls.{openingRules, opening, closedState, closingRules, closing, shortOutput, otherRoom, notOpen, earlyRules, early, updateOutcome, byType, arriving, ownRules, asking, messageOutcome, ownOutcome}
-use Rattle.protocol.specs.Runs.{Call, Open, Close, Message, Ask, World, lent, outcomeOf, step, run, start}
+use Rattle.protocol.specs.Calls.{openingRules, opening, closedState, closingRules, closing, shortOutput, otherRoom, earlyRules, early, updateOutcome, byType, arriving, ownRules, asking, messageOutcome, ownOutcome}
+use Rattle.protocol.specs.Runs.{Call, Open, Close, Message, Ask, World, lent, outcomeOf, step, start}
 use Rattle.protocol.specs.Periods.{lifeLeft}
-use Rattle.protocol.specs.Demand2.{openings, Origin, Unknown, Here, From, Gone, origin, askerNow, Areas, Acceptable, OwnAcceptable, Answered, QueryTo, OwnTo, HitBy, HitRouted, Part, written, Writes, NoHit, Silent, MessageRouted, AskRouted, Routed, AllRouted, Demand2}
+use Rattle.protocol.specs.Demand2.{Origin, Unknown, Here, From, Gone, origin, Areas, Acceptable, OwnAcceptable, Answered, QueryTo, OwnTo, HitBy, HitRouted, Part, written, Writes, NoHit, Silent, Routed, AllRouted, Demand2}
 use Rattle.protocol.proofs.Forwarding.{and-iff, other-iff}
-use Rattle.protocol.proofs.Outcomes.{of-pick, of-refused, eachLine-at, is-open, LetIn, let-in, early-unsent}
+use Rattle.protocol.proofs.Outcomes.{of-pick, of-refused, eachLine-at, LetIn, let-in, early-unsent}
 use Rattle.protocol.proofs.Refused.{refusal-frame}
-use Rattle.protocol.proofs.Origins.{known, unknown-of, known-if, SameLookUp, Since, Invariant, begins, goes-on, holds-after, looked-up}
+use Rattle.protocol.proofs.Origins.{known, unknown-of, known-if, SameLookUp, Since, Invariant, begins, goes-on, looked-up}
 
 -- Answers of refusals: no test held; the one before the last numbers
 none-refused : (cs : List (Bool × ℕ)) → NoRefusal cs → firstOf cs ≡ 0
@@ -285,23 +285,23 @@ module _ (s : Station) (o : inOrder s ≡ true) (l : ℕ) (m : List ℕ) (out : 
       record {
         taken = (
           (λ e. let p = let-through (firstOf (queryRules usualLimit s m)) 0 refl (sym (answer-query clock own k) ∙ e) in
-          let q : NoRefusal (queryRules usualLimit s m) = no-refusal (queryRules usualLimit s m) refl (p .1) in
-          (acceptable-of (record { early′ = p .0; text = q .0; life = q .1 .0 }), unknown-of from (sym v ∙ q .1 .1 .0))),
+              let q : NoRefusal (queryRules usualLimit s m) = no-refusal (queryRules usualLimit s m) refl (p .1) in
+              (acceptable-of (record { early′ = p .0; text = q .0; life = q .1 .0 }), unknown-of from (sym v ∙ q .1 .1 .0))),
           (λ a. let t = tests-of (a .0) in
-          answer-query clock own k
-          ∙ ap (λ b. cond b (firstOf (queryRules usualLimit s m)) (early s l m out (length route))) (eq-eqb (early s l m out (length route)) 0 (t .early′))
-          ∙ none-refused (queryRules usualLimit s m) (t .text, (t .life, (v ∙ ap known (a .1), (rises (a .0), tt))))),
+              answer-query clock own k
+              ∙ ap (λ b. cond b (firstOf (queryRules usualLimit s m)) (early s l m out (length route))) (eq-eqb (early s l m out (length route)) 0 (t .early′))
+              ∙ none-refused (queryRules usualLimit s m) (t .text, (t .life, (v ∙ ap known (a .1), (rises (a .0), tt))))),
         );
         repeats = (
           (λ e. let p = let-through (firstOf (queryRules usualLimit s m)) 9 refl (sym (answer-query clock own k) ∙ e) in
-          let a = skip badText 6 _ 9 (λ z. absurd (omega arith)) (p .1) in
-          let b = skip badLife 8 _ 9 (λ z. absurd (omega arith)) (a .1) in
-          let c = stop (seen s (numberIn m)) 9 (cond (eqb (hopsOf m) 255) 12 0) 9 (last (eqb (hopsOf m) 255)) (b .1) in
-          (acceptable-of (record { early′ = p .0; text = a .0; life = b .0 }), λ z. clash (sym v ∙ c) (ap known z))),
+              let a = skip badText 6 _ 9 (λ z. absurd (omega arith)) (p .1) in
+              let b = skip badLife 8 _ 9 (λ z. absurd (omega arith)) (a .1) in
+              let c = stop (seen s (numberIn m)) 9 (cond (eqb (hopsOf m) 255) 12 0) 9 (last (eqb (hopsOf m) 255)) (b .1) in
+              (acceptable-of (record { early′ = p .0; text = a .0; life = b .0 }), λ z. clash (sym v ∙ c) (ap known z))),
           (λ a. let t = tests-of (a .0) in
-          answer-query clock own k
-          ∙ ap (λ b. cond b (firstOf (queryRules usualLimit s m)) (early s l m out (length route))) (eq-eqb (early s l m out (length route)) 0 (t .early′))
-          ∙ rw (t .text, t .life, v, known-if from (a .1))),
+              answer-query clock own k
+              ∙ ap (λ b. cond b (firstOf (queryRules usualLimit s m)) (early s l m out (length route))) (eq-eqb (early s l m out (length route)) 0 (t .early′))
+              ∙ rw (t .text, t .life, v, known-if from (a .1))),
         );
       }
     where
@@ -333,20 +333,20 @@ module _ (s : Station) (o : inOrder s ≡ true) (number text : List ℕ) (out : 
       record {
         taken = (
           (λ e. let q : NoRefusal (ownRules s number text out (length route)) = no-refusal (ownRules s number text out (length route)) refl (sym answer-own ∙ e) in
-          (acceptable (q .1 .0) (q .1 .1 .0) (q .1 .1 .1 .0), unknown-of from (sym v ∙ q .1 .1 .1 .1 .0))),
+              (acceptable (q .1 .0) (q .1 .1 .0) (q .1 .1 .1 .0), unknown-of from (sym v ∙ q .1 .1 .1 .1 .0))),
           (λ a. answer-own
-          ∙ none-refused (ownRules s number text out (length route))
-          (rw o, (areas-fit s out route (a .0 .areas), (le-ltb 4093 (length text) (a .0 .size), (a .0 .noZero, (v ∙ ap known (a .1), tt)))))),
+              ∙ none-refused (ownRules s number text out (length route))
+              (rw o, (areas-fit s out route (a .0 .areas), (le-ltb 4093 (length text) (a .0 .size), (a .0 .noZero, (v ∙ ap known (a .1), tt)))))),
         );
         repeats = (
           (λ e. let a = skip (not (inOrder s)) 1 _ 9 (λ z. absurd (omega arith)) (sym answer-own ∙ e) in
-          let b = skip (shortOutput out || otherRoom s (length route)) 2 _ 9 (λ z. absurd (omega arith)) (a .1) in
-          let c = skip (ltb 4093 (length text)) 5 _ 9 (λ z. absurd (omega arith)) (b .1) in
-          let d = skip (any (eqb 0) text) 6 _ 9 (λ z. absurd (omega arith)) (c .1) in
-          let f = stop (seen s (numberIn number)) 9 0 9 (λ z. absurd (omega arith)) (d .1) in
-          (acceptable (b .0) (c .0) (d .0), λ z. clash (sym v ∙ f) (ap known z))),
+              let b = skip (shortOutput out || otherRoom s (length route)) 2 _ 9 (λ z. absurd (omega arith)) (a .1) in
+              let c = skip (ltb 4093 (length text)) 5 _ 9 (λ z. absurd (omega arith)) (b .1) in
+              let d = skip (any (eqb 0) text) 6 _ 9 (λ z. absurd (omega arith)) (c .1) in
+              let f = stop (seen s (numberIn number)) 9 0 9 (λ z. absurd (omega arith)) (d .1) in
+              (acceptable (b .0) (c .0) (d .0), λ z. clash (sym v ∙ f) (ap known z))),
           (λ a. answer-own
-          ∙ rw (o, areas-fit s out route (a .0 .areas), le-ltb 4093 (length text) (a .0 .size), a .0 .noZero, v, known-if from (a .1))),
+              ∙ rw (o, areas-fit s out route (a .0 .areas), le-ltb 4093 (length text) (a .0 .size), a .0 .noZero, v, known-if from (a .1))),
         );
       }
     where

@@ -8,15 +8,13 @@ use mathlib.Core.Logic.{_⊎_, inl, inr, ⊎-elim}
 use mathlib.Core.List.{List, [], _∷_, _++_, map}
 use lib.Dec.{eqb}
 use lib.ListN.{take}
-use borrow.Author.Tests.{eqb-true}
-use Rattle.laws.proofs.Refusals.{clash, and-fst, and-snd, of-choice}
-use Rattle.protocol.specs.declared.Station.{Station}
+use Rattle.laws.proofs.Refusals.{clash, of-choice}
 use Rattle.protocol.specs.Memory.{capacity, gone, Number, sameNumber, Query, remembered, Found, Absent, At, later, pickFound, find, isFound, askerOf, left}
-use Rattle.protocol.specs.Outcomes.{Outcome}
-use Rattle.protocol.specs.Runs.{Call, World, outcomeOf, step, run, start}
+use Rattle.protocol.specs.Runs.{Call, World, step, run, start}
 use Rattle.protocol.specs.Kept.{asked, leftBy}
 use Rattle.protocol.specs.Demand2.{broughtNumber, broughtBy, Origin, Unknown, Here, From, Gone, origin, askerNow, GoneForever}
-use Rattle.protocol.proofs.Origins.{known, unknown-of, same-number, SameLookUp, Since, Takes, Closes, Passes, Effect, call-effect, Invariant, begins, goes-on, holds-after, looked-up}
+use Rattle.protocol.proofs.Effects.{call-effect}
+use Rattle.protocol.proofs.Origins.{unknown-of, same-number, SameLookUp, Invariant, begins, goes-on, holds-after, looked-up}
 
 -- In the remembered queries: gone is still gone after a closing, and after one more query gone or not there
 asker-later : (f : Found) → askerOf (later f) ≡ askerOf f

@@ -11,6 +11,7 @@ pub mod Refused
 pub mod Matching
 pub mod Demand3
 pub mod Periods
+pub mod Effects
 pub mod Origins
 pub mod Demand2
 pub mod Gone

@@ -1,6 +1,6 @@
 -- Demand 2, over lists of calls: an unseen query goes to exactly the neighbours that the rules name, and a hit goes back only over the same
 -- opening of the line its query came by, while that query is among the last 512. Where a query came from is read off the log alone.
-use Prim.Native.Nat.{ℕ, zero, suc, _+_, _-_, _/_, _≤_, _<_}
+use Prim.Native.Nat.{ℕ, suc, _+_, _-_, _/_, _≤_, _<_}
 use mathlib.Core.Path.{_≡_}
 use mathlib.Core.Bool.{Bool, true, false, cond, _&&_, _||_}
 use mathlib.Core.Logic.{_↔_, _⊎_}
