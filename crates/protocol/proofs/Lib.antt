@@ -16,3 +16,4 @@ pub mod Origins
 pub mod Demand2
 pub mod Gone
 pub mod Back
+pub mod LateHits
