@@ -2,7 +2,7 @@
 -- 513th query, by which the oldest of 512 is forgotten.
 use Prim.Native.Nat.{ℕ, zero, suc}
 use mathlib.Core.Path.{_≡_, refl}
-use mathlib.Core.Bool.{Bool, true, false}
+use mathlib.Core.Bool.{true, false}
 use mathlib.Core.List.{List, [], _∷_, map}
 use lib.ListN.{replicate}
 use Rattle.laws.specs.Ring.{keptPlaces}
@@ -11,15 +11,16 @@ use Rattle.keywords.specs.Keywords.{keywordsOf, pieces, filled}
 use Rattle.keywords.specs.Hash.{hashOf, word}
 use Rattle.tables.specs.Tables.{goodLength, tableInOrder}
 use Rattle.tables.specs.Admission.{withholds}
+use Rattle.protocol.specs.declared.Station.{Station}
 use Rattle.protocol.specs.declared.Own.{Own}
-use Rattle.protocol.specs.Memory.{numberIn, remembered, find, remember, noTwice}
-use Rattle.protocol.specs.Lines.{storedPongs}
+use Rattle.protocol.specs.Memory.{here, Number, numberIn, remembered, Absent, At, find, remember, noTwice}
+use Rattle.protocol.specs.Lines.{emptyLine, storedPongs}
 use Rattle.protocol.specs.Order.{lineInOrder, inOrder}
 use Rattle.protocol.specs.Queries.{untilZero, queryOutcome}
 use Rattle.protocol.specs.Hits.{hitOutcome}
 use Rattle.protocol.specs.Calls.{fresh, opening, closing, early, byType, arriving, asking}
 use Rattle.protocol.specs.Runs.{Call, Open, Close, Message, Ask, Same, World, run, start}
-use Rattle.protocol.specs.Demand2.{allTaken, Here, From, Gone, origin, AllRouted}
+use Rattle.protocol.specs.Demand2.{allTaken, Here, Gone, origin, AllRouted}
 use Rattle.protocol.proofs.Kept.{fresh-in-order}
 use Rattle.protocol.proofs.Demand2.{demand2}
 
@@ -70,3 +71,36 @@ late-origins = (refl, refl)
 -- the premises of demand 2 can be met
 late-routed : AllRouted (remembered (fresh 32 .state)) (start (fresh 32 .state) (replicate 32 0)) lateHits
 late-routed = demand2 (fresh 32 .state) (replicate 32 0) lateHits (fresh-in-order 32 .sized) (fresh-in-order 32 .order)
+
+-- a state that remembers 512 queries asked here, of the numbers 1 to 512, number 1 the oldest
+counting : ℕ → ℕ → List ℕ
+counting zero from = []
+counting (suc n) from = from ∷ counting n (suc from)
+
+full : Station
+full =
+    record {
+      room = 4;
+      lines = replicate 8 (emptyLine false);
+      lo = counting 512 1;
+      hi = replicate 512 0;
+      asker = replicate 512 here;
+      count = 512;
+      next = 0;
+    }
+
+small : ℕ → Number
+small n = record { lo = n; hi = 0 }
+
+-- the oldest of 512 is known; after one more it is not, and the next is the oldest
+oldest : find (remembered full) (small 1) ≡ At 511 here
+unfolding counting full small keptPlaces remembered find
+oldest = refl
+
+forgotten : find (remembered (remember full (small 600) here)) (small 1) ≡ Absent
+unfolding counting full small keptPlaces remembered find remember
+forgotten = refl
+
+oldest-then : find (remembered (remember full (small 600) here)) (small 2) ≡ At 511 here
+unfolding counting full small keptPlaces remembered find remember
+oldest-then = refl
