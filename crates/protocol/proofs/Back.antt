@@ -4,7 +4,7 @@ use Prim.Native.Nat.{ℕ, zero, suc, _≤_, _<_}
 use native.Mathlib.Omega.{arith}
 use mathlib.Core.Path.{_≡_, refl, sym, ap, _∙_}
 use mathlib.Core.Bool.{Bool, true, false, cond, _||_}
-use mathlib.Core.List.{List, [], _∷_, _++_}
+use mathlib.Core.List.{List, [], _∷_}
 use lib.Dec.{eqb, ltb}
 use lib.ListN.{getD, take}
 use borrow.Author.Tests.{eqb-true, eqb-false, ltb-true, ltb-false}
@@ -24,18 +24,8 @@ use Rattle.protocol.proofs.Origins.{from-line, no-from, same-number, ta
 use Rattle.protocol.proofs.Demand2.{routed}
 
 -- the call that took a query, within the n newest, where `shut` says which lines have closed since the log
-record Taking (n : ℕ) (shut : ℕ → Bool) (log : List Made) (x : Number) (l e : ℕ) : Type 0 where
-  pub newer : List Made
-  pub taking : Made
-  pub older : List Made
-  pub split : log ≡ newer ++ (taking ∷ older)
-  pub taken : took (taking .call) (taking .outcome .answer) ≡ true
-  pub number : broughtNumber (taking .call) ≡ x
-  pub by : broughtBy (taking .call) ≡ l
-  pub among : takenIn newer < n
-  pub unshut : shut l ≡ false
-  pub unclosed : any (λ d. closed (d .call) (d .outcome .answer) l) newer ≡ false
-  pub then : openings l older ≡ e
+abbrev Taking : ℕ → (ℕ → Bool) → List Made → Number → ℕ → ℕ → Type 0
+Taking n shut log x l e = (shut l ≡ false) × Brought n log x l e
 
 took-unclosed : (c : Call) (n l : ℕ) → took c n ≡ true → closed c n l ≡ false
 took-unclosed (Open k) n l t = refl
@@ -51,25 +41,26 @@ module _ (d : Made) (ds : List Made) (shut : ℕ → Bool) (x : Number) (l e : �
   newest-taking : (n : ℕ) → took (d .call) (d .outcome .answer) ≡ true → sameNumber (broughtNumber (d .call)) x ≡ true → originOf brought ≡ From l e → Taking (suc n) shut (d ∷ ds) x l e
   newest-taking n t same q =
       let who : ℕ = broughtBy (d .call) in
-      let h = from-line (eqb who here) (eqb who gone || shut who) who (openings who ds) l e q in
-      record {
-        newer = [];
-        taking = d;
-        older = ds;
-        split = refl;
-        taken = t;
-        number = same-number (broughtNumber (d .call)) x same;
-        by = h .2;
-        among = omega arith;
-        unshut = ap shut (sym (h .2)) ∙ or-snd (eqb who gone) (shut who) (h .1);
-        unclosed = refl;
-        then = ap (λ k. openings k ds) (sym (h .2)) ∙ h .3;
-      }
+      let h = from-line (eqb who here) (eqb who gone || shut who) who (openings who ds) l e q in (
+        ap shut (sym (h .2)) ∙ or-snd (eqb who gone) (shut who) (h .1),
+        record {
+          newer = [];
+          taking = d;
+          older = ds;
+          split = refl;
+          taken = t;
+          number = same-number (broughtNumber (d .call)) x same;
+          by = h .2;
+          among = omega arith;
+          unclosed = refl;
+          before = ap (λ k. openings k ds) (sym (h .2)) ∙ h .3;
+        },
+      )
 
   -- it is older
-  older-taking : (n k : ℕ) (shut′ : ℕ → Bool) → Taking k shut′ ds x l e → ((j : ℕ) → j < k → cond (took (d .call) (d .outcome .answer)) (suc j) j < n)
-      → shut l ≡ false → closed (d .call) (d .outcome .answer) l ≡ false → Taking n shut (d ∷ ds) x l e
-  older-taking n k shut′ r more u c =
+  older-taking : (n k : ℕ) → Brought k ds x l e → ((j : ℕ) → j < k → cond (took (d .call) (d .outcome .answer)) (suc j) j < n)
+      → closed (d .call) (d .outcome .answer) l ≡ false → Brought n (d ∷ ds) x l e
+  older-taking n k r more c =
       record {
         newer = d ∷ r .newer;
         taking = r .taking;
@@ -79,9 +70,8 @@ module _ (d : Made) (ds : List Made) (shut : ℕ → Bool) (x : Number) (l e : �
         number = r .number;
         by = r .by;
         among = more (takenIn (r .newer)) (r .among);
-        unshut = u;
         unclosed = ap (λ b. b || any (λ d. closed (d .call) (d .outcome .answer) l) (r .newer)) c ∙ r .unclosed;
-        then = r .then;
+        before = r .before;
       }
 
   module _ (ih : (n : ℕ) (shut : ℕ → Bool) → lookUp (take n (allTaken shut ds [])) x ≡ From l e → Taking n shut ds x l e) where
@@ -93,7 +83,7 @@ module _ (d : Made) (ds : List Made) (shut : ℕ → Bool) (x : Number) (l e : �
         go true s = newest-taking n t s (rw s at q)
         go false s =
             let r : Taking n shut ds x l e = ih n shut (rw s at q) in
-            older-taking (suc n) n shut r (λ j h. rw t (omega arith)) (r .unshut) (took-unclosed (d .call) (d .outcome .answer) l t)
+            (r .0, older-taking (suc n) n (r .1) (λ j h. rw t (omega arith)) (took-unclosed (d .call) (d .outcome .answer) l t))
 
     step-taking : (n : ℕ) → lookUp (take n (allTaken shut (d ∷ ds) [])) x ≡ From l e → Taking n shut (d ∷ ds) x l e
     step-taking n q = go (took (d .call) (d .outcome .answer)) refl
@@ -103,9 +93,7 @@ module _ (d : Made) (ds : List Made) (shut : ℕ → Bool) (x : Number) (l e : �
         go false t =
             let r : Taking n (λ k. shut k || closed (d .call) (d .outcome .answer) k) ds x l e
             = ih n (λ k. shut k || closed (d .call) (d .outcome .answer) k) (rw (taken-passed [] d ds shut t) at q) in
-            older-taking n n (λ k. shut k || closed (d .call) (d .outcome .answer) k) r (λ j h. rw t h)
-            (or-fst (shut l) (closed (d .call) (d .outcome .answer) l) (r .unshut))
-            (or-snd (shut l) (closed (d .call) (d .outcome .answer) l) (r .unshut))
+            (or-fst (shut l) (closed (d .call) (d .outcome .answer) l) (r .0), older-taking n n (r .1) (λ j h. rw t h) (or-snd (shut l) (closed (d .call) (d .outcome .answer) l) (r .0)))
 
 find-taking : (x : Number) (l e : ℕ) (log : List Made) (n : ℕ) (shut : ℕ → Bool) → lookUp (take n (allTaken shut log [])) x ≡ From l e → Taking n shut log x l e
 unfolding allTaken
@@ -114,24 +102,11 @@ find-taking x l e (d ∷ ds) n shut q = step-taking d ds shut x l e (λ n shut. 
 
 -- a world whose log began with nothing remembered
 module _ (w : World) (v : Invariant [] w) where
-  back-from : (x : Number) (l e : ℕ) → origin (w .log) [] x ≡ From l e → (lineAt (w .state) l .live ≡ true) × Brought (w .log) x l
+  back-from : (x : Number) (l e : ℕ) → origin (w .log) [] x ≡ From l e → (lineAt (w .state) l .live ≡ true) × Brought 512 (w .log) x l (openings l (w .log))
   back-from x l e q =
       let r : Taking capacity (λ _. false) (w .log) x l e = find-taking x l e (w .log) capacity (λ _. false) q in
-      let s : Since (λ _. false) w l e = v .since (λ _. false) capacity x l e q in (
-        s .live,
-        record {
-          newer = r .newer;
-          taking = r .taking;
-          older = r .older;
-          split = r .split;
-          taken = r .taken;
-          number = r .number;
-          by = r .by;
-          among = r .among;
-          unclosed = r .unclosed;
-          same = s .same ∙ sym (r .then);
-        },
-      )
+      let s : Since (λ _. false) w l e = v .since (λ _. false) capacity x l e q in
+      (s .live, rw (s .same) (r .1))
 
   -- a hit that goes to line k has a query from there
   to-nobody : (o : Outcome) (k : ℕ) → k < 8 → getD (o .to) k false ≡ true → o .to ≡ nobody → ⊥

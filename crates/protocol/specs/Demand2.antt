@@ -259,13 +259,13 @@ GoneForever =
     → (origin (run (run (start s area) cs) later .log) (remembered s) x ≡ Gone)
     ⊎ ((ps qs : List Call) × (later ≡ ps ++ qs) × (origin (run (run (start s area) cs) ps .log) (remembered s) x ≡ Unknown))
 
--- With the log laid open, from a fresh state: where a hit goes to line l, some call of the log took a query with its number by that line; fewer
--- than 512 were taken since; and the line, now open, has not been closed since, nor opened more often than it had been by then
+-- With the log laid open, from a fresh state: where a hit goes to line l, that line is open and some call of the log took a query with its
+-- number by it; since then fewer than 512 were taken, the line was not closed, and it has been opened as often now as it had been then
 abbrev pub takenIn : List Made → ℕ
 takenIn [] = 0
 takenIn (d ∷ ds) = cond (took (d .call) (d .outcome .answer)) (suc (takenIn ds)) (takenIn ds)
 
-pub record Brought (log : List Made) (x : Number) (l : ℕ) : Type 0 where
+pub record Brought (n : ℕ) (log : List Made) (x : Number) (l opening : ℕ) : Type 0 where
   pub newer : List Made
   pub taking : Made
   pub older : List Made
@@ -273,9 +273,9 @@ pub record Brought (log : List Made) (x : Number) (l : ℕ) : Type 0 where
   pub taken : took (taking .call) (taking .outcome .answer) ≡ true
   pub number : broughtNumber (taking .call) ≡ x
   pub by : broughtBy (taking .call) ≡ l
-  pub among : takenIn newer < 512
+  pub among : takenIn newer < n
   pub unclosed : any (λ d. closed (d .call) (d .outcome .answer) l) newer ≡ false
-  pub same : openings l log ≡ openings l older
+  pub before : openings l older ≡ opening
 
 abbrev pub BackOnly : World → Type 0
 BackOnly w =
@@ -283,7 +283,7 @@ BackOnly w =
     → kindOf m ≡ 0x81
     → k < 8
     → getD (outcomeOf w (Message l clock own m out a) .to) k false ≡ true
-    → (lineAt (w .state) k .live ≡ true) × Brought (w .log) (numberIn m) k
+    → (lineAt (w .state) k .live ≡ true) × Brought 512 (w .log) (numberIn m) k (openings k (w .log))
 
 abbrev pub AnswersBack : Type 0
 AnswersBack = (n : ℕ) (area : List ℕ) (cs : List Call) → BackOnly (run (start (fresh n .state) area) cs)
