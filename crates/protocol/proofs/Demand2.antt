@@ -17,7 +17,7 @@ use Rattle.tables.specs.Admission.{withholds}
 use Rattle.protocol.specs.declared.Pong.{Pong}
 use Rattle.protocol.specs.declared.Station.{Station}
 use Rattle.protocol.specs.declared.Own.{Own}
-use Rattle.protocol.specs.Memory.{capacity, here, gone, numberIn, Query, remembered, Found, seen}
+use Rattle.protocol.specs.Memory.{capacity, here, gone, numberIn, Query, remembered, Found, seen, remember}
 use Rattle.protocol.specs.Lines.{isOther, emptyLine, lineAt, withLine, withPong, heldAt}
 use Rattle.protocol.specs.Order.{inOrder}
 use Rattle.protocol.specs.Outcomes.{Outcome, quiet, refusedOr, unsent}
@@ -55,6 +55,7 @@ not-is b = (not-true b, (λ e. rw e))
 
 module _ (s : Station) (route : List ℕ) where
   query-to : (l : ℕ) (m : List ℕ) → QueryTo s route l m (queryTaken usualLimit s l m route)
+  unfolding remember
   query-to l m =
       record {
         eight = refl;
@@ -70,9 +71,12 @@ module _ (s : Station) (route : List ℕ) where
               (λ v. at ∙ r .1 (v .1, (v .2, (v .0, v .3)))),
             );
         sent = refl;
+        search = (refl, refl, refl);
+        lines = refl;
       }
 
   own-to : (number text : List ℕ) → OwnTo s route number text (ownTaken usualLimit s number text route)
+  unfolding remember
   own-to number text =
       record {
         eight = refl;
@@ -83,6 +87,8 @@ module _ (s : Station) (route : List ℕ) where
             let p = and-iff (lineAt s k .live) (not held) ((λ z. z), (λ z. z)) (not-is held) in
             ((λ z. p .0 (sym at ∙ z)), (λ v. at ∙ p .1 v));
         sent = refl;
+        search = refl;
+        lines = refl;
       }
 
 -- Bytes: messages of one type

@@ -17,3 +17,4 @@ pub mod Demand2
 pub mod Gone
 pub mod Back
 pub mod LateHits
+pub mod Numbers

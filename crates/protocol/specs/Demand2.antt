@@ -5,9 +5,9 @@ use mathlib.Core.Path.{_≡_}
 use mathlib.Core.Bool.{Bool, true, false, cond, _&&_, _||_}
 use mathlib.Core.Logic.{_↔_, _⊎_}
 use mathlib.Core.List.{List, [], _∷_, _++_, map}
-use lib.Dec.{eqb}
+use lib.Dec.{eqb, ltb}
 use lib.ListN.{length, getD, take, drop}
-use Rattle.laws.specs.Tests.{any}
+use Rattle.laws.specs.Tests.{any, all}
 use Rattle.wire.specs.Header.{kindOf, ttlOf, hopsOf, sizeOf, payloadOf, numberOf, message}
 use Rattle.keywords.specs.Keywords.{keywordsOf}
 use Rattle.tables.specs.Admission.{withholds}
@@ -83,6 +83,16 @@ allTaken shut (d ∷ ds) base =
 abbrev pub lastTaken : List Made → List Query → List Past
 lastTaken log base = take capacity (allTaken (λ l. false) log base)
 
+-- numbers are the same exactly if their 16 bytes are
+abbrev pub SameBytes : Type 0
+SameBytes =
+    (a b : List ℕ)
+    → all (λ x. ltb x 256) a ≡ true
+    → all (λ x. ltb x 256) b ≡ true
+    → 16 ≤ length a
+    → 16 ≤ length b
+    → (sameNumber (numberIn a) (numberIn b) ≡ true) ↔ (numberOf a ≡ numberOf b)
+
 -- where a query came from: not among the last 512; here; a line that has not closed since, in its opening of this count; one that has
 pub data Origin : Type 0 where
   Unknown : Origin
@@ -153,7 +163,8 @@ pub record Answered (acceptable : Type 0) (from : Origin) (o : Outcome) : Type 0
   pub taken : (o .answer ≡ 0) ↔ (acceptable × (from ≡ Unknown))
   pub repeats : (o .answer ≡ 9) ↔ (acceptable × (from ≡ Unknown → ⊥))
 
--- a taken one goes, written once, to exactly the lines that are open, others than its own, with life 2 or more, that do not withhold it
+-- a taken one goes, written once, to exactly the lines that are open, others than its own, with life 2 or more, that do not withhold it; it
+-- is offered to the local search, and an own one is not
 pub record QueryTo (s : Station) (route : List ℕ) (l : ℕ) (m : List ℕ) (o : Outcome) : Type 0 where
   pub eight : length (o .to) ≡ 8
   pub to : (k : ℕ) → k < 8
@@ -163,12 +174,16 @@ pub record QueryTo (s : Station) (route : List ℕ) (l : ℕ) (m : List ℕ) (o 
       × (2 ≤ lifeLeft m)
       × (withholds (heldAt s k route) (keywordsOf (textIn (payloadOf m))) (lifeLeft m - 1) ≡ false))
   pub sent : o .sent ≡ writtenFor (o .to) (message (numberOf m) 0x80 (lifeLeft m - 1) (hopsOf m + 1) (payloadOf m))
+  pub search : (o .search ≡ true) × (o .textat ≡ 25) × (o .textlen ≡ length (textIn (payloadOf m)))
+  pub lines : o .state .lines ≡ s .lines
 
 pub record OwnTo (s : Station) (route number text : List ℕ) (o : Outcome) : Type 0 where
   pub eight : length (o .to) ≡ 8
   pub to : (k : ℕ) → k < 8
       → (getD (o .to) k false ≡ true) ↔ ((lineAt s k .live ≡ true) × (withholds (heldAt s k route) (keywordsOf text) 7 ≡ false))
   pub sent : o .sent ≡ writtenFor (o .to) (message number 0x80 7 0 (ownPayload text))
+  pub search : o .search ≡ false
+  pub lines : o .state .lines ≡ s .lines
 
 -- Hits. What one with TTL 1 or more and 27 bytes of payload is answered, by where its query came from. It goes back over a line that is
 -- open, and that has been since the query came: it has been opened as often now as it had been then
