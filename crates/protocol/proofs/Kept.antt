@@ -93,7 +93,7 @@ module _ (s : Station) (z : Sized s) (o : inOrder s ≡ true) (l : ℕ) (l≤7 :
   line-below : l < length (s .lines)
   line-below = omega (arith, z .eight)
 
-  open-still : (lineAt s l .live ≡ true → x .live ≡ true) → (a : ℕ) → getD (s .lines) a nowhere .live ≡ true → getD (set (s .lines) l x) a nowhere .live ≡ true
+  pub open-still : (lineAt s l .live ≡ true → x .live ≡ true) → (a : ℕ) → getD (s .lines) a nowhere .live ≡ true → getD (set (s .lines) l x) a nowhere .live ≡ true
   open-still g a e = go (eqb a l) refl
     where
       go : (b : Bool) → eqb a l ≡ b → getD (set (s .lines) l x) a nowhere .live ≡ true
