@@ -11,3 +11,4 @@ pub mod Refused
 pub mod Matching
 pub mod Demand3
 pub mod Periods
+pub mod Blind
