@@ -15,7 +15,7 @@ use Rattle.wire.specs.Header.{numberOf, kindOf, ttlOf, hopsOf, sizeOf, payloadO
 use Rattle.tables.specs.Updates.{updateAnswer}
 use Rattle.protocol.specs.declared.Station.{Station}
 use Rattle.protocol.specs.declared.Own.{Own}
-use Rattle.protocol.specs.Memory.{numberIn}
+use Rattle.protocol.specs.Memory.{Found, numberIn}
 use Rattle.protocol.specs.Lines.{lineAt, withLine, withPong, heldAt}
 use Rattle.protocol.specs.Outcomes.{Outcome, quiet, refusedOr, pickOutcome}
 use Rattle.protocol.specs.Queries.{usualLimit, queryType, queryRules, queryTaken, queryOutcome}
@@ -58,9 +58,12 @@ module _ (m′ m : List ℕ) (r : ReadsAlike m′ m) (s : Station) (l : ℕ) whe
   unfolding queryOutcome
   same-query limit route = rw (r .payload, r .ttl, r .hops, r .halves, r .number)
 
+  same-hit-rules : (f : Found) → firstOf (hitRules f m′) ≡ firstOf (hitRules f m)
+  same-hit-rules f = simp (r .size, r .ttl, r .hops)
+
   same-hit : (route : List ℕ) → hitOutcome s m′ route ≡ hitOutcome s m route
   unfolding hitOutcome
-  same-hit route = rw (r .payload, r .size, r .ttl, r .hops, r .halves, r .number)
+  same-hit route = rw (r .halves, same-hit-rules (hitFound s m), r .payload, r .ttl, r .hops, r .number)
 
   same-types : (limit clock : ℕ) (own : Own) (route : List ℕ) → byType limit s l clock own m′ route ≡ byType limit s l clock own m route
   unfolding byType
@@ -74,7 +77,7 @@ taken-alike : (m′ m : List ℕ) → ReadsAlike m′ m → TakenAlike m′ m
 taken-alike m′ m r =
     record {
       outcome = λ s l clock own out route. same-arriving m′ m r s l usualLimit clock own out route;
-      result = λ s l clock own out route. rw (same-arriving m′ m r s l usualLimit clock own out route, r .size);
+      result = λ s l clock own out route. simp (same-arriving m′ m r s l usualLimit clock own out route, r .size);
     }
 
 -- a whole message reads alike, whatever follows it
