@@ -1,0 +1,3 @@
+-- The round trip through the station.
+pub mod Feeding
+pub mod InTurn
