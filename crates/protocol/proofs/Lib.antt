@@ -18,3 +18,4 @@ pub mod Gone
 pub mod Back
 pub mod LateHits
 pub mod Numbers
+pub mod Blind
