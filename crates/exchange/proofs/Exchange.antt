@@ -1,10 +1,10 @@
 -- The round trip through the station: the writer's bytes, taken by message calls, leave the new table and nothing else changed.
 -- Assumes nothing.
-use Prim.Native.Nat.{ℕ, suc, _+_, _*_, _≤_, _<_}
+use Prim.Native.Nat.{ℕ, suc, _+_, _*_, _≤_}
 use native.Mathlib.Omega.{arith}
 use native.Mathlib.Nat.{le-refl}
 use mathlib.Core.Path.{_≡_, refl, sym, ap, ap₂, _∙_, subst}
-use mathlib.Core.Bool.{Bool, true, false, cond, not, _&&_, _||_}
+use mathlib.Core.Bool.{Bool, true, false, cond, not, _||_}
 use mathlib.Core.List.{List, [], _∷_, _++_, map}
 use lib.Dec.{eqb, leb}
 use lib.ListN.{length, take, drop, length-replicate}
@@ -28,10 +28,10 @@ use Rattle.tablewriter.proofs.RoundTrip.{round-trip, written-bytes}
 use Rattle.protocol.specs.declared.Line.{Line}
 use Rattle.protocol.specs.declared.Station.{Station}
 use Rattle.protocol.specs.Memory.{remembered}
-use Rattle.protocol.specs.Lines.{lineAt, withLine, withTable, partOf, heldAt}
+use Rattle.protocol.specs.Lines.{lineAt, withTable, partOf, heldAt}
 use Rattle.protocol.proofs.InOrder.{facts-at}
 use Rattle.protocol.proofs.Matching.{line-set, line-other}
-use Rattle.exchange.specs.Feeding.{Turn, Fed, fed, fedBy}
+use Rattle.exchange.specs.Feeding.{Turn, Fed, fed}
 use Rattle.exchange.specs.Exchange.{Listening, SettledAt, Exchanged, StationRoundTrip}
 use Rattle.exchange.proofs.Feeding.{Full, patch-full, Sendable, line-below, part-inside}
 use Rattle.exchange.proofs.InTurn.{AllFull, FedTo, feeding}

@@ -5,7 +5,7 @@ use native.Mathlib.Omega.{arith}
 use mathlib.Core.Path.{_≡_, refl}
 use mathlib.Core.Bool.{true, false}
 use mathlib.Core.List.{List, [], _∷_, map}
-use lib.ListN.{replicate, length}
+use lib.ListN.{replicate}
 use Rattle.laws.specs.Ring.{keptPlaces}
 use Rattle.wire.specs.Header.{message}
 use Rattle.tables.specs.Tables.{goodLength, tableInOrder}
@@ -13,7 +13,6 @@ use Rattle.tables.specs.Patch.{numbers, packed, added, allFit}
 use Rattle.tables.specs.Updates.{updateAnswer, updated, goodReset, goodPatch, inTurn, inRange, resetBy, movedOn, patchBy, brokenBy}
 use Rattle.tablewriter.specs.Writer.{allNear, raws, dataOf, chunks, runFrom, messagesOf, joined, goodTable, writerAnswer, writerBytes, writerResult, writerOut}
 use Rattle.tablewriter.specs.RoundTrip.{settledAs}
-use Rattle.protocol.specs.declared.Own.{Own}
 use Rattle.protocol.specs.declared.Station.{Station}
 use Rattle.protocol.specs.Memory.{remembered, noTwice}
 use Rattle.protocol.specs.Lines.{storedPongs, heldAt}
