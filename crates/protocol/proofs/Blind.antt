@@ -166,7 +166,7 @@ module _ (s : Station) (l clock : ℕ) (own : Own) (m route : List ℕ) where
   unfolding pongOutcome
   pong-number = refused-taken (firstOf (pongRules m)) s route (quiet 0 (withLine s l (withPong (lineAt s l) (arrivedPong clock m))) route) refl
 
-  update-number : updateOutcome s l m route .answer ≡ firstOf (updateRules (s .room) (heldAt s l route) m)
+  update-number : updateOutcome s l m route .answer ≡ firstOf (updateRules (s .room) (heldAt s l route) (ttlOf m) (hopsOf m) (payloadOf m))
   unfolding updateOutcome updateAnswer
   update-number = refl
 

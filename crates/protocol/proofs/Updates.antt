@@ -15,6 +15,7 @@ use Rattle.tables.specs.Patch.{added}
 use Rattle.tables.specs.Tables.{Held, lengths, goodLength, goodInfinity, ready, running}
 use Rattle.tables.specs.Updates.{lengthIn, infinityIn, placeIn, sizeIn, bitsIn, numbersIn, isPatch, isLast, goodReset, goodPatch, inTurn, inRange, updateAnswer, updated, resetBy, movedOn, patchBy, brokenBy, pickHeld}
 use Rattle.protocol.specs.Outcomes.{unsent}
+use Rattle.protocol.specs.Blind.{updateRules}
 
 -- the lists of tests that the table's rules are made of, by name
 abbrev pub resetTests : ℕ → List ℕ → List Bool
@@ -43,14 +44,6 @@ turnTests h p =
     ∷ (not (eqb (h .table .mark) running) || (eqb (sizeIn p) (h .table .size) && eqb (bitsIn p) (h .table .bits)))
     ∷ leb (h .table .at + length (numbersIn p)) (length (h .entries))
     ∷ (not (isLast p) || eqb (h .table .at + length (numbersIn p)) (length (h .entries)))
-    ∷ []
-
-abbrev updateRules : ℕ → Held → ℕ → ℕ → List ℕ → List (Bool × ℕ)
-updateRules room h ttl hops p =
-    (not (eqb ttl 1 && eqb hops 0), 14)
-    ∷ (not (goodReset room p || goodPatch p), 14)
-    ∷ (isPatch p && not (inTurn h p), 15)
-    ∷ (isPatch p && not (inRange h p), 16)
     ∷ []
 
 -- an accepted RESET, and an accepted PATCH
