@@ -1,37 +1,37 @@
 -- The round trip through the station: the writer's bytes, taken by message calls, leave the new table and nothing else changed.
 -- Assumes nothing.
-use Prim.Native.Nat.{ℕ, suc, _+_, _*_, _≤_, _<_}
+use Prim.Native.Nat.{ℕ, suc, _+_, _*_, _≤_}
 use native.Mathlib.Omega.{arith}
 use native.Mathlib.Nat.{le-refl}
 use mathlib.Core.Path.{_≡_, refl, sym, ap, ap₂, _∙_, subst}
-use mathlib.Core.Bool.{Bool, true, false, cond, not, _&&_, _||_}
+use mathlib.Core.Bool.{Bool, true, false}
 use mathlib.Core.List.{List, [], _∷_, _++_, map}
-use lib.Dec.{eqb, leb}
+use lib.Dec.{eqb}
 use lib.ListN.{length, take, drop, length-replicate}
 use lib.Seq.{take-take, take-at, length-take-le}
 use borrow.Author.Tests.{eqb-true}
 use Rattle.laws.specs.Parts.{over}
 use Rattle.laws.proofs.Chunks.{Each}
 use Rattle.laws.proofs.Overlay.{over-read, over-behind}
-use Rattle.laws.proofs.Refusals.{and-fst, and-snd, or-rest, each}
+use Rattle.laws.proofs.Refusals.{and-fst, and-snd, each}
 use Rattle.wire.specs.Header.{payloadOf}
 use Rattle.tables.specs.declared.Table.{Table}
-use Rattle.tables.specs.Tables.{Held, running, settled, broken, ready, goodLength, goodInfinity, insideRun, betweenRuns, withinLimits, tableInOrder, heldIn}
+use Rattle.tables.specs.Tables.{Held, settled, betweenRuns, tableInOrder, heldIn}
 use Rattle.tables.specs.Updates.{isPatch}
 use Rattle.tablewriter.specs.Writer.{baseOf, bitsFor, dataOf, partsOf, runOf, messagesOf, joined, resetPayload, update, writerAnswer, writerBytes, writerResult, writerOut}
 use Rattle.tablewriter.specs.RoundTrip.{after, runPayloads, payloadsOf, Stands, ReadAs, settledTable, settledAs}
-use Rattle.tablewriter.proofs.Parts.{part-sizes}
-use Rattle.tablewriter.proofs.Whole.{Whole, AllWhole, all-whole}
+use Rattle.tablewriter.proofs.Whole.{Small, Whole, AllWhole, payloads-small, all-whole}
 use Rattle.tablewriter.proofs.Reading.{resetTo, reset-taken}
 use Rattle.tablewriter.proofs.Accepted.{good-length, Accepted, accepted}
 use Rattle.tablewriter.proofs.RoundTrip.{round-trip, written-bytes}
 use Rattle.protocol.specs.declared.Line.{Line}
 use Rattle.protocol.specs.declared.Station.{Station}
 use Rattle.protocol.specs.Memory.{remembered}
-use Rattle.protocol.specs.Lines.{lineAt, withLine, withTable, partOf, heldAt}
+use Rattle.protocol.specs.Lines.{lineAt, withTable, partOf, heldAt}
 use Rattle.protocol.proofs.InOrder.{facts-at}
+use Rattle.protocol.proofs.Kept.{limits}
 use Rattle.protocol.proofs.Matching.{line-set, line-other}
-use Rattle.exchange.specs.Feeding.{Turn, Fed, fed, fedBy}
+use Rattle.exchange.specs.Feeding.{Turn, Fed, fed}
 use Rattle.exchange.specs.Exchange.{Listening, SettledAt, Exchanged, StationRoundTrip}
 use Rattle.exchange.proofs.Feeding.{Full, patch-full, Sendable, line-below, part-inside}
 use Rattle.exchange.proofs.InTurn.{AllFull, FedTo, feeding}
@@ -46,34 +46,14 @@ module _ {A : Type 0} where
   each-of-map g P [] p = tt
   each-of-map g P (x ∷ xs) p = (p .0, each-of-map g P xs (p .1))
 
--- the payloads: none over 4096 bytes, and those of a run are PATCHes
-abbrev Small : List ℕ → Type 0
-Small p = length p ≤ 4096
-
+-- the payloads of a run are PATCHes
 abbrev Patch : List ℕ → Type 0
 Patch p = isPatch p ≡ true
-
-run-small : (place count bits limit : ℕ) (ds : List (List ℕ)) → limit ≤ 4091 → Each (λ d. length d ≤ limit) ds → Each Small (runPayloads place count bits ds)
-unfolding runPayloads
-run-small place count bits limit [] k h = tt
-run-small place count bits limit (d ∷ ds) k h =
-    let here : length d ≤ limit = h .0 in
-    (omega arith, run-small (suc place) count bits limit ds k (h .1))
 
 run-patches : (place count bits : ℕ) (ds : List (List ℕ)) → Each Patch (runPayloads place count bits ds)
 unfolding runPayloads
 run-patches place count bits [] = tt
 run-patches place count bits (d ∷ ds) = (refl, run-patches (suc place) count bits ds)
-
-payloads-small : (had : Bool) (old new : List ℕ) (infinity size : ℕ) → size ≤ 4091 → Each Small (payloadsOf had old new infinity size)
-unfolding payloadsOf
-payloads-small true old new infinity size k =
-    run-small 1 (length (partsOf size (dataOf new old))) (bitsFor new old) size (partsOf size (dataOf new old)) k (part-sizes (length (dataOf new old)) size (dataOf new old))
-payloads-small false old new infinity size k =
-    let base : List ℕ = baseOf false old new infinity in (
-      omega arith,
-      run-small 1 (length (partsOf size (dataOf new base))) (bitsFor new base) size (partsOf size (dataOf new base)) k (part-sizes (length (dataOf new base)) size (dataOf new base)),
-    )
 
 -- PATCHes one after another keep the number of entries
 patches-full : (n room : ℕ) (h : Held) (ms : List (List ℕ)) → Each (λ m. Patch (payloadOf m)) ms → Full n h → AllFull n room h ms
@@ -125,20 +105,8 @@ module _ (number : List ℕ) (sixteen : length number ≡ 16) (old new : List �
       )
 
 -- a settled table of a state in order is between runs
-abbrev limitTests : ℕ → Table → List Bool
-limitTests room t =
-    goodLength (t .length)
-    ∷ leb (t .length) room
-    ∷ goodInfinity (t .infinity)
-    ∷ cond (eqb (t .mark) running) (insideRun t) (betweenRuns t)
-    ∷ []
-
 between-runs : (room : ℕ) (t : Table) → tableInOrder room t ≡ true → t .mark ≡ settled → betweenRuns t ≡ true
-unfolding tableInOrder
-between-runs room t e k =
-    let w : withinLimits room t ≡ true
-    = or-rest (not (ready (t .mark))) (withinLimits room t) (and-snd (leb (t .mark) broken) (not (ready (t .mark)) || withinLimits room t) e) (rw k) in
-    rw k at (each (limitTests room t) w .1 .1 .1 .0)
+between-runs room t e k = rw k at (limits room t e (rw k) .1 .1 .1 .0)
 
 module _ (s : Station) (L : ℕ) (area : List ℕ) (w : Listening s L area) where
   stands-at : (old : List ℕ) (infinity : ℕ) → SettledAt (heldAt s L area) old infinity → Stands (heldAt s L area) old infinity

@@ -1,31 +1,29 @@
 -- One message call on an update that is at the front of some bytes, and what it leaves of the line.
 -- Assumes nothing.
-use Prim.Native.Nat.{ℕ, zero, suc, _+_, _*_, _/_, _≤_, _<_}
+use Prim.Native.Nat.{ℕ, suc, _+_, _*_, _/_, _≤_, _<_}
 use native.Mathlib.Omega.{arith}
 use native.Mathlib.Nat.{mul-le-mul-right}
-use mathlib.Core.Path.{_≡_, refl, sym, ap, ap₂, _∙_, subst}
-use mathlib.Core.Bool.{Bool, true, false, not}
+use mathlib.Core.Path.{_≡_, refl, sym, ap, _∙_, subst}
+use mathlib.Core.Bool.{true}
 use mathlib.Core.List.{List, [], _∷_, _++_}
-use lib.Dec.{eqb, leb, ltb}
-use lib.ListN.{length, getD, take, drop, set, length-append}
-use lib.Seq.{take-take, drop-append-seam, set-set, set-getD, getD-set-same}
+use lib.ListN.{length, take, drop, length-append}
+use lib.Seq.{take-take, drop-append-seam}
 use borrow.Author.Tests.{le-ltb, lt-ltb, eq-eqb}
-use Rattle.laws.specs.Tests.{firstOf}
 use Rattle.laws.specs.Parts.{over}
 use Rattle.laws.proofs.Over.{over-length}
-use Rattle.laws.proofs.Overlay.{over-read, over-same-front}
+use Rattle.laws.proofs.Overlay.{over-read}
 use Rattle.laws.proofs.Refusals.{clash}
-use Rattle.wire.specs.Header.{kindOf, ttlOf, hopsOf, sizeOf, payloadOf, routeUpdate}
+use Rattle.wire.specs.Header.{sizeOf, payloadOf}
 use Rattle.tables.specs.declared.Table.{Table}
 use Rattle.tables.specs.Tables.{Held, heldIn}
-use Rattle.tables.specs.Updates.{isPatch, updateAnswer, updated, resetBy, patchBy, brokenBy}
+use Rattle.tables.specs.Updates.{isPatch, updated, patchBy, brokenBy}
 use Rattle.tablewriter.specs.RoundTrip.{answerTo, after}
 use Rattle.tablewriter.proofs.Whole.{Whole}
 use Rattle.protocol.specs.declared.Line.{Line}
 use Rattle.protocol.specs.declared.Station.{Station}
 use Rattle.protocol.specs.declared.Own.{Own}
 use Rattle.protocol.specs.declared.Handled.{Handled}
-use Rattle.protocol.specs.Lines.{nowhere, lineAt, withLine, withTable, partOf, heldAt}
+use Rattle.protocol.specs.Lines.{lineAt, withTable, partOf, heldAt}
 use Rattle.protocol.specs.Outcomes.{Outcome, quiet, usedOf}
 use Rattle.protocol.specs.Queries.{usualLimit}
 use Rattle.protocol.specs.Calls.{early, updateOutcome, byType, arriving, messageOutcome, messageResult}
@@ -34,7 +32,7 @@ use Rattle.protocol.proofs.Updates.{by-update, patched-length, moved-length}
 use Rattle.protocol.proofs.Kept.{order-kept}
 use Rattle.protocol.proofs.Matching.{line-set}
 use Rattle.protocol.proofs.Blind.{taken-before}
-use Rattle.exchange.specs.Feeding.{Turn, Fed, unfed, thenFed, fedBy, fed, Silent, AllSilent}
+use Rattle.exchange.specs.Feeding.{Turn, thenFed, callThen, fedBy, Silent}
 use Rattle.exchange.specs.Exchange.{Listening}
 
 -- a table of n entries, with n of them
@@ -54,16 +52,11 @@ patch-full n room h ttl hops p v f =
 -- a call is made where there is a byte
 fed-some : (k : ℕ) (t : ℕ → Turn) (l : ℕ) (s : Station) (area bytes : List ℕ) → 1 ≤ length bytes
     → fedBy (suc k) t l s area bytes
-    ≡ thenFed
+    ≡ callThen
     (messageOutcome s l (t 0 .clock) (t 0 .own) bytes (t 0 .out) area)
     (messageResult s l (t 0 .clock) (t 0 .own) bytes (t 0 .out) area .used)
-    (fedBy
-    k
-    (λ i. t (suc i))
-    l
-    (messageOutcome s l (t 0 .clock) (t 0 .own) bytes (t 0 .out) area .state)
-    (messageOutcome s l (t 0 .clock) (t 0 .own) bytes (t 0 .out) area .route)
-    (drop (messageResult s l (t 0 .clock) (t 0 .own) bytes (t 0 .out) area .used) bytes))
+    (fedBy k (λ i. t (suc i)) l)
+    bytes
 unfolding fedBy
 fed-some k t l s area [] h = absurd (omega arith)
 fed-some k t l s area (b ∷ bs) h = refl
@@ -175,4 +168,6 @@ module _ (s : Station) (L : ℕ) (area : List ℕ) (w : Listening s L area) (m :
     fed-next k t x h =
         let some : 1 ≤ length (m ++ x) = rw (length-append m x) (omega (arith, header)) in
         fed-some k t L s area (m ++ x) some
-        ∙ rw (used-whole x (t 0 .clock) (t 0 .own) (t 0 .out) h, as-update x (t 0 .clock) (t 0 .own) (t 0 .out) h, drop-append-seam m x)
+        ∙ rw
+        (used-whole x (t 0 .clock) (t 0 .own) (t 0 .out) h, as-update x (t 0 .clock) (t 0 .own) (t 0 .out) h)
+        (ap (λ (z : List ℕ). thenFed left (length m) (fedBy k (λ i. t (suc i)) L (left .state) (left .route) z)) (drop-append-seam m x))

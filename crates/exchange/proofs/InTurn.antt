@@ -4,12 +4,11 @@ use Prim.Native.Nat.{ℕ, zero, suc, _+_, _*_, _≤_, _<_}
 use native.Mathlib.Omega.{arith}
 use mathlib.Core.Path.{_≡_, refl, sym, ap, ap₂, _∙_, subst}
 use mathlib.Core.List.{List, [], _∷_, _++_}
-use lib.ListN.{length, getD, take, drop, set, replicate, length-append}
+use lib.ListN.{length, getD, take, drop, replicate, length-append}
 use lib.Seq.{take-at, length-take-le, set-set, set-getD}
 use Rattle.laws.specs.Parts.{over}
 use Rattle.laws.proofs.Chunks.{Each}
 use Rattle.laws.proofs.Overlay.{over-behind, over-same-front}
-use Rattle.wire.specs.Header.{sizeOf}
 use Rattle.tables.specs.declared.Table.{Table}
 use Rattle.tables.specs.Tables.{Held}
 use Rattle.tablewriter.specs.Writer.{joined}

@@ -28,21 +28,20 @@ unfed s area = record { state = s; area = area; outcomes = []; used = 0 }
 abbrev pub thenFed : Outcome → ℕ → Fed → Fed
 thenFed o used rest = record { state = rest .state; area = rest .area; outcomes = o ∷ rest .outcomes; used = used + rest .used }
 
+-- the calls after it get the state and the area that it leaves, and the bytes that it has not used
+abbrev pub callThen : Outcome → ℕ → (Station → List ℕ → List ℕ → Fed) → List ℕ → Fed
+callThen o used others bytes = thenFed o used (others (o .state) (o .route) (drop used bytes))
+
 -- at most n calls on line l, until no byte is left; t 0 is what the first of them brings, t 1 the second, and so on
 unfoldable pub fedBy : ℕ → (ℕ → Turn) → ℕ → Station → List ℕ → List ℕ → Fed
 fedBy zero t l s area bytes = unfed s area
 fedBy (suc n) t l s area [] = unfed s area
 fedBy (suc n) t l s area (b ∷ bs) =
-    thenFed
+    callThen
     (messageOutcome s l (t 0 .clock) (t 0 .own) (b ∷ bs) (t 0 .out) area)
     (messageResult s l (t 0 .clock) (t 0 .own) (b ∷ bs) (t 0 .out) area .used)
-    (fedBy
-    n
-    (λ i. t (suc i))
-    l
-    (messageOutcome s l (t 0 .clock) (t 0 .own) (b ∷ bs) (t 0 .out) area .state)
-    (messageOutcome s l (t 0 .clock) (t 0 .own) (b ∷ bs) (t 0 .out) area .route)
-    (drop (messageResult s l (t 0 .clock) (t 0 .own) (b ∷ bs) (t 0 .out) area .used) (b ∷ bs)))
+    (fedBy n (λ i. t (suc i)) l)
+    (b ∷ bs)
 
 -- as many calls as there are bytes are enough, since a call that uses anything uses a header
 abbrev pub fed : (ℕ → Turn) → ℕ → Station → List ℕ → List ℕ → Fed

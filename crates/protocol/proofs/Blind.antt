@@ -1,12 +1,12 @@
 -- A message call reads the message at the front of its bytes alone: two lists of bytes that read alike are taken alike.
 -- Assumes nothing.
-use Prim.Native.Nat.{ℕ, _+_, _≤_, _<_}
+use Prim.Native.Nat.{ℕ, _+_, _≤_}
 use native.Mathlib.Omega.{arith}
 use mathlib.Core.Path.{_≡_, refl, sym, ap, _∙_, subst}
 use mathlib.Core.Bool.{Bool, true, false, cond, not, _||_}
 use mathlib.Core.List.{List, [], _∷_, _++_}
 use lib.Dec.{eqb, leb, ltb}
-use lib.ListN.{length, getD, take, drop, length-append, length-drop, List·getD-append, take-append-drop}
+use lib.ListN.{length, take, drop, length-append, length-drop, List·getD-append, take-append-drop}
 use lib.Seq.{take-append-le, drop-append-le, length-take-le}
 use borrow.Author.Tests.{le-ltb, leb-true, ne-eqb}
 use Rattle.laws.specs.Tests.{firstOf, all}
@@ -166,7 +166,7 @@ module _ (s : Station) (l clock : ℕ) (own : Own) (m route : List ℕ) where
   unfolding pongOutcome
   pong-number = refused-taken (firstOf (pongRules m)) s route (quiet 0 (withLine s l (withPong (lineAt s l) (arrivedPong clock m))) route) refl
 
-  update-number : updateOutcome s l m route .answer ≡ firstOf (updateRules (s .room) (heldAt s l route) m)
+  update-number : updateOutcome s l m route .answer ≡ firstOf (updateRules (s .room) (heldAt s l route) (ttlOf m) (hopsOf m) (payloadOf m))
   unfolding updateOutcome updateAnswer
   update-number = refl
 

@@ -44,12 +44,12 @@ UsedExact =
     → messageResult s l clock own m out route .used ≡ cond (unsent (messageResult s l clock own m out route .answer)) 0 (23 + sizeOf m)
 
 -- the refusals of an update, in order
-abbrev pub updateRules : ℕ → Held → List ℕ → List (Bool × ℕ)
-updateRules room h m =
-    (not (eqb (ttlOf m) 1 && eqb (hopsOf m) 0), 14)
-    ∷ (not (goodReset room (payloadOf m) || goodPatch (payloadOf m)), 14)
-    ∷ (isPatch (payloadOf m) && not (inTurn h (payloadOf m)), 15)
-    ∷ (isPatch (payloadOf m) && not (inRange h (payloadOf m)), 16)
+abbrev pub updateRules : ℕ → Held → ℕ → ℕ → List ℕ → List (Bool × ℕ)
+updateRules room h ttl hops p =
+    (not (eqb ttl 1 && eqb hops 0), 14)
+    ∷ (not (goodReset room p || goodPatch p), 14)
+    ∷ (isPatch p && not (inTurn h p), 15)
+    ∷ (isPatch p && not (inRange h p), 16)
     ∷ []
 
 -- the refusals of a message of each type
@@ -57,7 +57,7 @@ abbrev pub typeRules : Station → ℕ → ℕ → List ℕ → List ℕ → Lis
 typeRules s l clock m route =
     cond (eqb (kindOf m) pingType) (pingRules (lineAt s l) clock m)
     (cond (eqb (kindOf m) pongType) (pongRules m)
-    (cond (eqb (kindOf m) routeUpdate) (updateRules (s .room) (heldAt s l route) m)
+    (cond (eqb (kindOf m) routeUpdate) (updateRules (s .room) (heldAt s l route) (ttlOf m) (hopsOf m) (payloadOf m))
     (cond (eqb (kindOf m) queryType) (queryRules usualLimit s m)
     (cond (eqb (kindOf m) hitType) (hitRules (hitFound s m) m) []))))
 
