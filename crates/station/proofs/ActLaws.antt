@@ -5,10 +5,9 @@ use native.Mathlib.Omega.{arith}
 use mathlib.Core.Path.{_≡_, refl, sym, ap, ap₂, _∙_}
 use mathlib.Core.Bool.{Bool, true, false, cond, _&&_, _||_}
 use mathlib.Core.List.{List, [], _∷_}
-use lib.Dec.{eqb, leb, ltb}
+use lib.Dec.{eqb, ltb}
 use lib.ListN.{length, take, drop}
 use borrow.Author.Tests.{le-leb, ne-eqb, eqb-true, ltb-true, ltb-false}
-use Rattle.laws.specs.Tests.{firstOf}
 use Rattle.laws.specs.Parts.{over}
 use Rattle.laws.proofs.Refusals.{no-refusal}
 use Rattle.wire.specs.Header.{kindOf, ttlOf, hopsOf, sizeOf, payloadOf}
@@ -17,20 +16,20 @@ use Rattle.protocol.specs.declared.Station.{Station}
 use Rattle.protocol.specs.declared.Own.{Own}
 use Rattle.laws.specs.Bytes.{little}
 use Rattle.protocol.specs.Memory.{Number, Query, Found, Absent, At, isFound, askerOf, numberIn, find, remembered, seen}
-use Rattle.protocol.specs.Lines.{lineAt, withLine, withPong}
+use Rattle.protocol.specs.Lines.{lineAt, withPong}
 use Rattle.protocol.specs.Order.{inOrder}
 use Rattle.protocol.specs.Outcomes.{Outcome, quiet}
-use Rattle.protocol.specs.Queries.{usualLimit, queryType, queryOutcome}
+use Rattle.protocol.specs.Queries.{usualLimit, queryOutcome}
 use Rattle.protocol.specs.Hits.{hitOn, hitFound, hitOutcome}
-use Rattle.protocol.specs.Pings.{pongsSent, pingTaken, pingOutcome, arrivedPong, pongOutcome}
+use Rattle.protocol.specs.Pings.{pongsSent, pingOutcome, arrivedPong, pongOutcome}
 use Rattle.protocol.specs.Calls.{updateOutcome}
 use Rattle.protocol.proofs.InOrder.{facts-at}
 use Rattle.refusals.specs.Numbers.{hitNumber}
 use Rattle.memory.specs.declared.search.Looked.{Looked}
 use Rattle.memory.specs.Queries.{queriesIn, looked}
 use Rattle.memory.proofs.StationLaws.{remembered-is}
-use Rattle.pinging.specs.Numbers.{probing, pingNumber, pongNumber, pongKept}
-use Rattle.pinging.specs.Sending.{pongsFor, pongsWritten}
+use Rattle.pinging.specs.Numbers.{probing, pongNumber}
+use Rattle.pinging.specs.Sending.{pongsFor}
 use Rattle.pinging.proofs.Joined.{ping-is, pong-is, kept-is, pongs-are}
 use Rattle.station.specs.declared.acted.Acted.{Acted}
 use Rattle.station.specs.Acting.{Fit, actedOf, isTaken, actOutcome, actedFor}

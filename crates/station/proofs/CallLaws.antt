@@ -4,7 +4,7 @@ use Prim.Native.Nat.{ℕ, _+_, _%_, _≤_, _<_, min}
 use native.Mathlib.Omega.{arith}
 use mathlib.Core.Path.{_≡_, refl, sym, ap, ap₂, _∙_}
 use mathlib.Core.Bool.{Bool, true, false, cond, _&&_, and-false}
-use mathlib.Core.List.{List, [], _∷_}
+use mathlib.Core.List.{List, []}
 use lib.Dec.{eqb, leb}
 use lib.ListN.{length, getD, set, take, drop, length-append}
 use borrow.Author.Tests.{eq-eqb, ne-eqb, le-leb, lt-leb, eqb-true, ltb-true, ltb-false}
@@ -21,11 +21,11 @@ use Rattle.protocol.specs.declared.Line.{Line}
 use Rattle.protocol.specs.declared.Station.{Station}
 use Rattle.protocol.specs.declared.Own.{Own}
 use Rattle.protocol.specs.declared.Handled.{Handled}
-use Rattle.protocol.specs.Memory.{here, find, numberIn, remember, seen}
+use Rattle.protocol.specs.Memory.{find, numberIn, remember}
 use Rattle.protocol.specs.Lines.{nowhere, partOf}
 use Rattle.protocol.specs.Order.{inOrder}
 use Rattle.protocol.specs.Outcomes.{Outcome, quiet, nobody, pickOutcome, handled, usedOf, writtenFor}
-use Rattle.protocol.specs.Queries.{usualLimit, queryType, passes, ownPayload, ownBytes, ownTo, ownTaken}
+use Rattle.protocol.specs.Queries.{usualLimit, queryType, passes, ownPayload, ownBytes, ownTaken}
 use Rattle.protocol.specs.Calls.{early, messageOutcome, messageResult, shortOutput, otherRoom, ownRules, asking, ownOutcome, ownResult}
 use Rattle.protocol.proofs.Outcomes.{asked-in}
 use Rattle.protocol.proofs.InOrder.{state-facts}
@@ -34,13 +34,13 @@ use Rattle.refusals.proofs.Joined.{own-is}
 use Rattle.memory.specs.declared.search.Looked.{Looked}
 use Rattle.memory.specs.Queries.{queriesIn, looked}
 use Rattle.forwarding.specs.Messages.{sendable, countIf, writtenIf}
-use Rattle.forwarding.specs.Passing.{heldOf, passingOf}
+use Rattle.forwarding.specs.Passing.{passingOf}
 use Rattle.forwarding.proofs.LineLaws.{flag-of, each-same}
 use Rattle.station.specs.declared.acted.Acted.{Acted}
 use Rattle.station.specs.declared.asking.Sent.{Sent}
-use Rattle.station.specs.Acting.{Fit, pickState, actOutcome, actedFor}
+use Rattle.station.specs.Acting.{actOutcome, actedFor}
 use Rattle.station.specs.Steps.{livesIn, tablesIn, ownLines, ownWritten, sentBy, stored}
-use Rattle.station.proofs.StateLaws.{partsOf, message-acts, message-is, stored-by, withLines}
+use Rattle.station.proofs.StateLaws.{partsOf, message-acts, message-is, stored-by}
 use Rattle.station.proofs.ReturnLaws.{table-of}
 use Rattle.station.proofs.ActLaws.{seen-is}
 
@@ -60,25 +60,35 @@ module _ (s : Station) (line clock : ℕ) (own : Own) (m out route : List ℕ) (
   abbrev acts : ℕ → Outcome
   acts n = actOutcome n s (line % 8) clock own m route
 
-  pub message-done : {n count next used low high : ℕ} {a : Acted} {o r lo hi asker : List ℕ} → n ≡ early s line m (length out) (length route)
-      → a ≡ actedFor n s (line % 8) clock own m route → o ≡ over 0 (acts n .sent) out → r ≡ acts n .route
+  abbrev leaves : Outcome
+  leaves = messageOutcome s line clock own m (length out) route
+
+  abbrev first : ℕ
+  first = early s line m (length out) (length route)
+
+  -- what it does but for the state, by its first refusal
+  pub arrive-done : {n : ℕ} {a : Acted} {o r : List ℕ} → n ≡ first → a ≡ actedFor n s (line % 8) clock own m route → o ≡ over 0 (acts n .sent) out → r ≡ acts n .route
+      → (a ≡ actedFor first s (line % 8) clock own m route) × ((o ≡ over 0 (leaves .sent) out) × ((r ≡ leaves .route) × (length (s .lines) ≡ 8)))
+  arrive-done en ea eo er =
+      let u : acts _ ≡ leaves = ap acts en ∙ sym (message-acts s line clock own m (length out) route) in (
+        ea ∙ ap (λ k. actedFor k s (line % 8) clock own m route) en,
+        (eo ∙ ap (λ (v : Outcome). over 0 (v .sent) out) u, (er ∙ ap (λ (v : Outcome). v .route) u, eight)),
+      )
+
+  -- and with the state
+  pub message-done : {count next used low high : ℕ} {a : Acted} {lo hi asker : List ℕ} → a ≡ actedFor first s (line % 8) clock own m route
       → low ≡ little (take 8 m) → high ≡ little (take 8 (drop 8 m))
       → lo ≡ set (s .lo) (s .next % 512) (cond (a .remember) low (getD (s .lo) (s .next % 512) 0))
       → hi ≡ set (s .hi) (s .next % 512) (cond (a .remember) high (getD (s .hi) (s .next % 512) 0))
       → asker ≡ set (s .asker) (s .next % 512) (cond (a .remember) (line % 8) (getD (s .asker) (s .next % 512) 0))
       → count ≡ cond (a .remember) (min 512 (s .count + 1)) (s .count) → next ≡ cond (a .remember) (onward 512 (s .next)) (s .next)
       → used ≡ usedOf (a .answer) m
-      → (partsOf a used
+      → partsOf a used
       (record { room = s .room; lines = set (s .lines) (line % 8) (a .line); lo = lo; hi = hi; asker = asker; count = count; next = next })
-      ≡ messageResult s line clock own m (length out) route)
-      × ((o ≡ over 0 (messageOutcome s line clock own m (length out) route .sent) out)
-      × (r ≡ messageOutcome s line clock own m (length out) route .route))
+      ≡ messageResult s line clock own m (length out) route
   unfolding stored
-  message-done en ea eo er el eh elo ehi eas ec ex eu =
-      let u : acts _ ≡ messageOutcome s line clock own m (length out) route = ap acts en ∙ sym (message-acts s line clock own m (length out) route) in (
-        rw (elo, ehi, el, eh, eas, ec, ex, eu) (message-is s line clock own m (length out) route eight en ea),
-        (eo ∙ ap (λ (v : Outcome). over 0 (v .sent) out) u, er ∙ ap (λ (v : Outcome). v .route) u),
-      )
+  message-done ea el eh elo ehi eas ec ex eu =
+      rw (elo, ehi, el, eh, eas, ec, ex, eu) (message-is s line clock own m (length out) route eight refl ea)
 
 -- an own query: its refusals
 module _ (s : Station) (number text : List ℕ) (out route : ℕ) where

@@ -11,7 +11,7 @@ use lib.Dec.{eqb, ltb}
 use lib.ListN.{length, getD, set, drop, length-map, drop-of-length-le, List·getD-map}
 use Rattle.laws.specs.Parts.{over}
 use lib.Seq.{set-getD, getD-set-same, drop-cons, ext-getD}
-use borrow.Author.Tests.{eqb-true, eqb-false, ltb-true, ltb-false, not-false}
+use borrow.Author.Tests.{eqb-true, ltb-true, ltb-false, not-false}
 use Rattle.laws.specs.Tests.{firstOf, all}
 use Rattle.laws.proofs.Refusals.{or-fst, or-snd, no-refusal, NoRefusal}
 use Rattle.protocol.specs.declared.Line.{Line}
@@ -19,11 +19,10 @@ use Rattle.protocol.specs.declared.Station.{Station}
 use Rattle.protocol.specs.Lines.{nowhere, emptyLine, lineAt, withLine}
 use Rattle.protocol.specs.Memory.{gone, left}
 use Rattle.protocol.specs.Order.{lineInOrder, inOrder}
-use Rattle.protocol.specs.Outcomes.{Outcome, quiet, refusedOr, pickOutcome}
+use Rattle.protocol.specs.Outcomes.{quiet, refusedOr, pickOutcome}
 use Rattle.protocol.specs.Calls.{shortOutput, otherRoom, extentRules, earlyRules, early, openingRules, opening, closingRules, closing, closedState, changed}
-use Rattle.protocol.proofs.Outcomes.{let-in, of-refused}
+use Rattle.protocol.proofs.Outcomes.{let-in}
 use Rattle.refusals.specs.Numbers.{areaTest, earlyNumber, openingNumber, closingNumber}
-use Rattle.refusals.proofs.Joined.{early-is, opening-is, closing-is}
 use Rattle.memory.specs.Queries.{memoryInOrder}
 use Rattle.memory.proofs.StationLaws.{liveOf, in-order-is}
 use Rattle.forwarding.proofs.LineLaws.{flag-of}

@@ -10,7 +10,6 @@ use lib.ListN.{length, getD, set, take, drop, replicate, length-take, length-dro
 use lib.Seq.{length-take-le, take-all, getD-set-same, getD-set-other}
 use borrow.Author.Tests.{eq-eqb, ne-eqb, le-leb, lt-leb, eqb-true, eqb-false, ltb-true, leb-false, not-false}
 use borrow.Rule.Slice.PartMut.{putMid}
-use Rattle.laws.specs.Tests.{firstOf, any}
 use Rattle.laws.specs.Bytes.{little}
 use Rattle.laws.specs.Parts.{over}
 use Rattle.laws.proofs.Refusals.{no-refusal, or-fst, or-snd}
@@ -24,14 +23,13 @@ use Rattle.tables.specs.Updates.{updateAnswer, updated, answered, partWith}
 use Rattle.protocol.specs.declared.Line.{Line}
 use Rattle.protocol.specs.declared.Changed.{Changed}
 use Rattle.protocol.specs.Lines.{lineNumbers, isOther, nowhere, emptyLine, withTable, partOf}
-use Rattle.protocol.specs.Outcomes.{eachLine, nobody, onlyTo, writtenFor}
-use Rattle.protocol.specs.Queries.{usualLimit, untilZero, textIn, hasText, lifeOf, passes, queryOn}
-use Rattle.protocol.specs.Hits.{hitOn}
-use Rattle.protocol.specs.Calls.{fresh, freshState}
+use Rattle.protocol.specs.Outcomes.{nobody, onlyTo, writtenFor}
+use Rattle.protocol.specs.Queries.{usualLimit, untilZero, textIn, hasText, passes, queryOn}
+use Rattle.protocol.specs.Calls.{fresh}
 use Rattle.protocol.proofs.Updates.{updated-within}
 use Rattle.refusals.specs.Numbers.{queryNumber, hitNumber}
 use Rattle.forwarding.specs.Messages.{passable, passedOn, countIf, writtenIf}
-use Rattle.forwarding.specs.Passing.{heldOf, passingOf}
+use Rattle.forwarding.specs.Passing.{passingOf}
 use Rattle.forwarding.specs.declared.texts.Text.{Text}
 use Rattle.forwarding.specs.Texts.{textOf}
 use Rattle.forwarding.proofs.MessageLaws.{passed-message}
@@ -39,7 +37,7 @@ use Rattle.forwarding.proofs.LineLaws.{flag-of, each-same}
 use Rattle.forwarding.proofs.TextLaws.{until-stops}
 use Rattle.pinging.specs.Numbers.{pongKept}
 use Rattle.station.specs.declared.acted.Acted.{Acted}
-use Rattle.station.specs.Steps.{quietly, pickActed, pongActed, timeKept, backTo, pingActed, pingSent, updateActed, updateRoute, hitActed, hitSent, goingTo, queryBy, queryLines, queryActed, querySent, isSent, livesIn, tablesIn}
+use Rattle.station.specs.Steps.{quietly, pongActed, timeKept, backTo, pingActed, pingSent, updateActed, updateRoute, hitActed, hitSent, goingTo, queryBy, queryLines, queryActed, querySent, isSent, livesIn, tablesIn}
 use Rattle.station.proofs.StepLaws.{payload-part}
 
 -- ---- numbers

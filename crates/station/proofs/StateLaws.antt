@@ -1,20 +1,19 @@
 -- The state after an arriving message is told by the record of its line and by whether its number is remembered.
 -- Assumes nothing.
-use Prim.Native.Nat.{ℕ, _+_, _%_, _≤_, _<_, min}
+use Prim.Native.Nat.{ℕ, _%_, _<_}
 use native.Mathlib.Omega.{arith}
 use native.Mathlib.Nat.{mod-eq-of-lt}
-use mathlib.Core.Path.{_≡_, refl, sym, ap, ap₂, _∙_}
+use mathlib.Core.Path.{_≡_, refl, sym, ap, _∙_}
 use mathlib.Core.Bool.{Bool, true, false, cond, _&&_, and-false}
-use mathlib.Core.List.{List, [], _∷_}
-use lib.Dec.{eqb, ltb}
-use lib.ListN.{length, getD, set}
+use mathlib.Core.List.{List}
+use lib.Dec.{eqb}
+use lib.ListN.{length, set}
 use lib.Seq.{set-getD}
-use borrow.Author.Tests.{eqb-true, eqb-false, ne-eqb, ltb-true}
+use borrow.Author.Tests.{eqb-true, ne-eqb, ltb-true}
 use Rattle.laws.specs.Tests.{firstOf}
-use Rattle.laws.specs.Ring.{onward}
 use Rattle.laws.proofs.Refusals.{clash, and-fst}
 use Rattle.wire.specs.Header.{kindOf, ttlOf, hopsOf, payloadOf, routeUpdate}
-use Rattle.tables.specs.Updates.{updateAnswer, updated}
+use Rattle.tables.specs.Updates.{updated}
 use Rattle.protocol.specs.declared.Line.{Line}
 use Rattle.protocol.specs.declared.Station.{Station}
 use Rattle.protocol.specs.declared.Own.{Own}
@@ -22,7 +21,7 @@ use Rattle.protocol.specs.declared.Handled.{Handled}
 use Rattle.protocol.specs.Memory.{capacity, Number, numberIn, remember}
 use Rattle.protocol.specs.Lines.{nowhere, lineAt, withLine, withTable, withPong, pingedAt, heldAt}
 use Rattle.protocol.specs.Order.{inOrder}
-use Rattle.protocol.specs.Outcomes.{Outcome, quiet, refusedOr, pickOutcome, handled, usedOf}
+use Rattle.protocol.specs.Outcomes.{Outcome, quiet, pickOutcome, handled, usedOf}
 use Rattle.protocol.specs.Queries.{usualLimit, queryType, queryRules, queryTaken, queryOutcome}
 use Rattle.protocol.specs.Hits.{hitType, hitRules, hitFound, hitTaken, hitOutcome}
 use Rattle.protocol.specs.Pings.{pingType, pongType, isProbe, pingRules, pingTaken, pingOutcome, pongRules, arrivedPong, pongOutcome}

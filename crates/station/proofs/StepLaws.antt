@@ -1,33 +1,31 @@
 -- Each type's step over plain values is what the rules of crate protocol say of a state.
 -- Assumes nothing.
-use Prim.Native.Nat.{ℕ, _+_, _-_, _*_, _≤_, _<_}
+use Prim.Native.Nat.{ℕ, _+_, _-_, _≤_, _<_}
 use native.Mathlib.Omega.{arith}
-use mathlib.Core.Path.{_≡_, refl, sym, ap, ap₂, _∙_}
+use mathlib.Core.Path.{_≡_, refl, sym, ap, _∙_}
 use mathlib.Core.Bool.{Bool, true, false, cond, _&&_}
-use mathlib.Core.List.{List, [], _∷_}
+use mathlib.Core.List.{List, []}
 use lib.Dec.{eqb}
-use lib.ListN.{length, getD, take, drop, length-drop}
+use lib.ListN.{length, take, drop, length-drop}
 use lib.Seq.{length-take-le}
-use borrow.Author.Tests.{eq-eqb, ne-eqb}
+use borrow.Author.Tests.{ne-eqb}
 use Rattle.laws.specs.Parts.{over}
-use Rattle.wire.specs.Header.{kindOf, ttlOf, hopsOf, sizeOf, payloadOf, numberOf, message, routeUpdate}
+use Rattle.wire.specs.Header.{kindOf, ttlOf, hopsOf, sizeOf, payloadOf, numberOf, message}
 use Rattle.wire.proofs.HeaderLaws.{message-length}
-use Rattle.protocol.specs.declared.Line.{Line}
 use Rattle.protocol.specs.declared.Station.{Station}
 use Rattle.protocol.specs.declared.Own.{Own}
-use Rattle.protocol.specs.Memory.{here, Found, isFound, askerOf, numberIn, seen, remember}
-use Rattle.protocol.specs.Lines.{lineAt, withLine, withTable, heldAt}
-use Rattle.protocol.specs.Outcomes.{Outcome, quiet, refusedOr, writtenFor}
+use Rattle.protocol.specs.Memory.{isFound, askerOf, numberIn, seen, remember}
+use Rattle.protocol.specs.Lines.{lineAt, withTable, heldAt}
+use Rattle.protocol.specs.Outcomes.{Outcome, quiet}
 use Rattle.protocol.specs.Queries.{usualLimit, queryType, lifeOf, queryOn, queryOutcome}
-use Rattle.protocol.specs.Hits.{hitType, hitRules, hitOn, hitFound, hitOutcome}
+use Rattle.protocol.specs.Hits.{hitType, hitOn, hitFound, hitOutcome}
 use Rattle.protocol.specs.Pings.{pingOutcome, pongOutcome}
 use Rattle.protocol.specs.Calls.{updateOutcome, byType}
 use Rattle.tables.specs.Updates.{updateAnswer, updated}
-use Rattle.refusals.specs.Numbers.{queryNumber, hitNumber}
+use Rattle.refusals.specs.Numbers.{hitNumber}
 use Rattle.refusals.proofs.Joined.{query-is, hit-is}
-use Rattle.station.specs.declared.acted.Acted.{Acted}
-use Rattle.station.specs.Acting.{actedOf, isTaken, actOutcome, actedFor}
-use Rattle.station.specs.Steps.{quietly, pickActed, heldBy, updateActed, updateRoute, hitActed, hitSent, queryBy, queryLines, queryActed, querySent, isSent}
+use Rattle.station.specs.Acting.{actedOf, isTaken, actOutcome}
+use Rattle.station.specs.Steps.{quietly, updateActed, updateRoute, hitActed, hitSent, queryBy, queryLines, queryActed, querySent}
 use Rattle.station.proofs.LineLaws.{line-in}
 
 -- which step a message takes that no first refusal refused

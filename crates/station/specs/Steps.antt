@@ -19,7 +19,7 @@ use Rattle.protocol.specs.declared.Own.{Own}
 use Rattle.protocol.specs.Lines.{lineNumbers, isOther, nowhere, withTable, pingedAt, partOf}
 use Rattle.protocol.specs.Outcomes.{eachLine, nobody, onlyTo, writtenFor}
 use Rattle.protocol.specs.Queries.{usualLimit, textIn, hasText, lifeOf, passes, queryOn}
-use Rattle.refusals.specs.Numbers.{queryNumber, hitNumber}
+use Rattle.refusals.specs.Numbers.{queryNumber}
 use Rattle.pinging.specs.Numbers.{probing, pingNumber, pongKept}
 use Rattle.pinging.specs.Sending.{pongsWritten}
 use Rattle.station.specs.declared.acted.Acted.{Acted}

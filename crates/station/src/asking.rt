@@ -117,10 +117,8 @@ pub fn ask(mut s: Station, number: [u8; 16], text: &[u8], out: &mut [u8], route:
     keep_word(&mut s.lo, next, taken, low);
     keep_word(&mut s.hi, next, taken, high);
     keep_byte(&mut s.asker, next, taken, HERE);
-    let more = count_after(taken, count);
-    s.count = more;
-    let place = next_after(taken, next);
-    s.next = place;
+    s.count = count_after(taken, count);
+    s.next = next_after(taken, next);
     let to = sent.to;
     Handled {
         state: s,

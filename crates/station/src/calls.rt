@@ -1,11 +1,13 @@
 // An arriving message: its first refusal, what it does, and the state after it.
 ghost use mathlib.Core.Path.{_≡_};
+ghost use Prim.Native.Nat.{_%_};
 ghost use lib.ListN.{length};
 ghost use Rattle.laws.specs.Parts.{over};
 ghost use Rattle.protocol.specs.Outcomes.{usedOf};
 ghost use Rattle.protocol.specs.Calls.{early, messageOutcome, messageResult};
-ghost use Rattle.station.specs.Acting.{stationOf};
+ghost use Rattle.station.specs.Acting.{stationOf, actedFor};
 use crate::act::act;
+use crate::acted::Acted;
 use crate::numbers::high_half;
 use crate::numbers::low_half;
 use crate::order::in_order;
@@ -55,6 +57,59 @@ fn used_of(answer: u8, m: &[u8]) -> usize
     0
 }
 
+// What the message does, but for the state.
+fn arrive<'a>(
+    lo: &'a [u64; 512],
+    hi: &'a [u64; 512],
+    asker: &'a [u8; 512],
+    next: usize,
+    count: usize,
+    room: usize,
+    lines: [Line; 8],
+    line: u32,
+    clock: u32,
+    own: Own,
+    m: &[u8],
+    out: &mut [u8],
+    route: &mut [u8],
+) -> Acted
+    ensures acted { λ r. ⌜ r ≡ actedFor (early (stationOf room lines (now (lo .entry)) (now (hi .entry)) (now (asker .entry)) count next) line (now (m .entry)) (length (now (out .entry))) (length (now (route .entry)))) (stationOf room lines (now (lo .entry)) (now (hi .entry)) (now (asker .entry)) count next) (line % 8) clock own (now (m .entry)) (now (route .entry)) ⌝ }
+    ensures output { λ _. ⌜ now (out .exit) ≡ over 0 (messageOutcome (stationOf room lines (now (lo .entry)) (now (hi .entry)) (now (asker .entry)) count next) line clock own (now (m .entry)) (length (now (out .entry))) (now (route .entry)) .sent) (now (out .entry)) ⌝ }
+    ensures area { λ _. ⌜ now (route .exit) ≡ messageOutcome (stationOf room lines (now (lo .entry)) (now (hi .entry)) (now (asker .entry)) count next) line clock own (now (m .entry)) (length (now (out .entry))) (now (route .entry)) .route ⌝ }
+    ensures eight { λ _. ⌜ length lines ≡ 8 ⌝ }
+{
+    let early = first_refusal(
+        lo,
+        hi,
+        asker,
+        next,
+        count,
+        room,
+        lines,
+        line,
+        out.len(),
+        route.len(),
+        m,
+    );
+    let l = line % 8;
+    act(
+        early,
+        lo,
+        hi,
+        asker,
+        next,
+        count,
+        room,
+        lines,
+        l,
+        clock,
+        own,
+        m,
+        out,
+        route,
+    )
+}
+
 // An arriving message.
 pub fn message(
     mut s: Station,
@@ -73,8 +128,7 @@ pub fn message(
     let count = s.count;
     let room = s.room;
     let lines = s.lines;
-    let l = line % 8;
-    let early = first_refusal(
+    let a = arrive(
         &s.lo,
         &s.hi,
         &s.asker,
@@ -83,37 +137,20 @@ pub fn message(
         room,
         lines,
         line,
-        out.len(),
-        route.len(),
-        m,
-    );
-    let a = act(
-        early,
-        &s.lo,
-        &s.hi,
-        &s.asker,
-        next,
-        count,
-        room,
-        lines,
-        l,
         clock,
         own,
         m,
         out,
         route,
     );
-    let taken = a.remember;
     let x = a.line;
-    let j = l as usize;
+    let j = (line % 8) as usize;
     s.lines[j] = x;
-    keep_word(&mut s.lo, next, taken, low_half(m));
-    keep_word(&mut s.hi, next, taken, high_half(m));
-    keep_byte(&mut s.asker, next, taken, l as u8);
-    let more = count_after(taken, count);
-    s.count = more;
-    let place = next_after(taken, next);
-    s.next = place;
+    keep_word(&mut s.lo, next, a.remember, low_half(m));
+    keep_word(&mut s.hi, next, a.remember, high_half(m));
+    keep_byte(&mut s.asker, next, a.remember, (line % 8) as u8);
+    s.count = count_after(a.remember, count);
+    s.next = next_after(a.remember, next);
     let used = used_of(a.answer, m);
     let to = a.to;
     Handled {

@@ -1,3 +1,4 @@
+-- Each return is the step that the message takes, by the laws of ActLaws; the first refusals give what the steps require.
 use native.Mathlib.Omega.{arith}
 use denote.Ref.{now}
 use lib.ListN.{length}

@@ -1,3 +1,4 @@
+-- The two halves are the message's number; the memory's slice has 512 places.
 use native.Mathlib.Omega.{arith}
 use denote.Ref.{now}
 use Rattle.memory.specs.Queries.{queriesIn}

@@ -1,3 +1,4 @@
+-- What is sent and what is stored, by what the parts ensure.
 use denote.Ref.{now}
 use lib.ListN.{length}
 use Rattle.station.proofs.CallLaws.{own-fits, ask-done}

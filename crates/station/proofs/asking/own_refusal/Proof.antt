@@ -1,3 +1,4 @@
+-- The tests in order, each by the part that decides it.
 use denote.Ref.{now}
 use Rattle.station.specs.Acting.{stationOf}
 use Rattle.station.proofs.CallLaws.{own-refusal-is}

@@ -1,3 +1,4 @@
+-- Refused, for no line, or written.
 use mathlib.Core.Path.{sym, _∙_}
 use native.Mathlib.Omega.{arith}
 use denote.Ref.{now}

@@ -1,3 +1,4 @@
+-- The tests in order; a line's number counts modulo eight.
 use native.Mathlib.Omega.{arith}
 use mathlib.Core.Path.{ap, _∙_}
 use Prim.Native.Nat.{_%_}

@@ -1,17 +1,12 @@
-use native.Mathlib.Omega.{arith}
+-- The line's record, the ring and the rest, by what the parts ensure.
 use denote.Ref.{now}
-use lib.ListN.{length}
-use Rattle.station.proofs.StateLaws.{ready}
 use Rattle.station.proofs.CallLaws.{message-done}
 use borrow.Author.Needs.{needs}
 use Rattle.station.proofs.calls.message.Statement.{statement}
 use Rattle.station.proofs.calls.message.Tie as tie
 
-first-refusal-requires : tie.Need-first-refusal-requires
-first-refusal-requires c κs = search needs
-
-act-requires : tie.Need-act-requires
-act-requires c κs = (omega arith, ready (c .before .before .before .before .before .before .before .before .before .before .before .before .before .before .before .args .t1) (c .before .before .before .before .before .before .before .before .before .before .before .before .before .before .before .args .line) (c .before .before .before .before .before .before .before .before .before .before .before .before .before .before .before .args .clock) (c .before .before .before .before .before .before .before .before .before .before .before .before .before .before .before .args .own) (now (c .before .before .before .before .before .before .before .before .before .before .before .before .before .before .before .args .m)) (length (now (c .before .before .before .before .before .before .before .before .before .before .before .before .before .before .before .args .out))) (now (c .before .before .before .before .before .before .before .before .before .before .before .before .before .before .before .args .route)) (c .before .before .before .before .before .before .first-refusal .ensures .1) (c .before .before .before .before .before .before .first-refusal .ensures .0))
+arrive-requires : tie.Need-arrive-requires
+arrive-requires c κs = search needs
 
 cast-j : tie.Need-cast-j
 cast-j c = search needs
@@ -56,14 +51,13 @@ same-length-2 : tie.Need-same-length-2
 same-length-2 c = search needs
 
 returns : tie.Need-returns
-returns c = message-done (c .before .before .before .before .before .before .before .before .before .before .before .before .before .before .before .before .before .before .before .before .before .before .before .before .before .before .before .before .before .before .before .before .before .args .t1) (c .before .before .before .before .before .before .before .before .before .before .before .before .before .before .before .before .before .before .before .before .before .before .before .before .before .before .before .before .before .before .before .before .before .args .line) (c .before .before .before .before .before .before .before .before .before .before .before .before .before .before .before .before .before .before .before .before .before .before .before .before .before .before .before .before .before .before .before .before .before .args .clock) (c .before .before .before .before .before .before .before .before .before .before .before .before .before .before .before .before .before .before .before .before .before .before .before .before .before .before .before .before .before .before .before .before .before .args .own) (now (c .before .before .before .before .before .before .before .before .before .before .before .before .before .before .before .before .before .before .before .before .before .before .before .before .before .before .before .before .before .before .before .before .before .args .m)) (now (c .before .before .before .before .before .before .before .before .before .before .before .before .before .before .before .before .before .before .before .before .before .before .before .before .before .before .before .before .before .before .before .before .before .args .out)) (now (c .before .before .before .before .before .before .before .before .before .before .before .before .before .before .before .before .before .before .before .before .before .before .before .before .before .before .before .before .before .before .before .before .before .args .route)) (c .before .before .before .before .before .before .before .before .before .before .before .before .before .before .before .before .before .before .before .before .before .before .before .before .first-refusal .ensures .1) (c .before .before .before .before .before .before .before .before .before .before .before .before .before .before .before .before .before .before .before .before .before .before .before .before .first-refusal .ensures .0) (c .before .before .before .before .before .before .before .before .before .before .before .before .before .before .before .before .before .act .ensures .0) (c .before .before .before .before .before .before .before .before .before .before .before .before .before .before .before .before .before .act .ensures .1 .0) (c .before .before .before .before .before .before .before .before .before .before .before .before .before .before .before .before .before .act .ensures .1 .1) (c .before .before .before .before .before .before .before .before .before .before .low-half .ensures) (c .before .before .before .before .before .before .before .high-half .ensures) (c .before .before .before .before .before .before .before .before .before .keep-word .ensures) (c .before .before .before .before .before .before .keep-word2 .ensures) (c .before .before .before .before .keep-byte .ensures) (c .before .before .before .count-after .ensures) (c .before .before .next-after .ensures) (c .before .used-of .ensures)
+returns c = (message-done (c .before .before .before .before .before .before .before .before .before .before .before .before .before .before .before .before .before .before .before .before .before .before .before .before .before .before .before .before .args .t1) (c .before .before .before .before .before .before .before .before .before .before .before .before .before .before .before .before .before .before .before .before .before .before .before .before .before .before .before .before .args .line) (c .before .before .before .before .before .before .before .before .before .before .before .before .before .before .before .before .before .before .before .before .before .before .before .before .before .before .before .before .args .clock) (c .before .before .before .before .before .before .before .before .before .before .before .before .before .before .before .before .before .before .before .before .before .before .before .before .before .before .before .before .args .own) (now (c .before .before .before .before .before .before .before .before .before .before .before .before .before .before .before .before .before .before .before .before .before .before .before .before .before .before .before .before .args .m)) (now (c .before .before .before .before .before .before .before .before .before .before .before .before .before .before .before .before .before .before .before .before .before .before .before .before .before .before .before .before .args .out)) (now (c .before .before .before .before .before .before .before .before .before .before .before .before .before .before .before .before .before .before .before .before .before .before .before .before .before .before .before .before .args .route)) (c .before .before .before .before .before .before .before .before .before .before .before .before .before .before .before .before .before .arrive .ensures .1 .1 .1) (c .before .before .before .before .before .before .before .before .before .before .before .before .before .before .before .before .before .arrive .ensures .0) (c .before .before .before .before .before .before .before .before .before .before .low-half .ensures) (c .before .before .before .before .before .before .before .high-half .ensures) (c .before .before .before .before .before .before .before .before .before .keep-word .ensures) (c .before .before .before .before .before .before .keep-word2 .ensures) (c .before .before .before .before .keep-byte .ensures) (c .before .before .before .count-after .ensures) (c .before .before .next-after .ensures) (c .before .used-of .ensures), (c .before .before .before .before .before .before .before .before .before .before .before .before .before .before .before .before .before .arrive .ensures .1 .0, c .before .before .before .before .before .before .before .before .before .before .before .before .before .before .before .before .before .arrive .ensures .1 .1 .0))
 
 pub message-spec : {M : Type 1} → statement M
 message-spec =
     tie.close
     (tie.spec
-    first-refusal-requires
-    act-requires
+    arrive-requires
     cast-j
     mul-x
     element-set-from-x

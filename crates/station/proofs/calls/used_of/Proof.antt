@@ -1,3 +1,4 @@
+-- Nothing is used for the answers 1 to 5.
 use denote.Ref.{now}
 use Rattle.station.proofs.CallLaws.{used-below, used-above, used-none}
 use borrow.Author.Needs.{needs}

@@ -1,5 +1,5 @@
+-- Each return has what its test showed.
 use borrow.Author.Tests.{lt-ltb, le-ltb}
-use borrow.Author.Needs.{needs}
 use Rattle.station.proofs.changes.area_answer.Statement.{statement}
 use Rattle.station.proofs.changes.area_answer.Tie as tie
 

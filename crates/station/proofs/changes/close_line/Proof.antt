@@ -1,3 +1,4 @@
+-- The answer, the line's record and the askers after it.
 use mathlib.Core.Path.{ap, _∙_}
 use Prim.Native.Nat.{_%_}
 use Rattle.protocol.specs.Lines.{lineAt}

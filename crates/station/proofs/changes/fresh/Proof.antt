@@ -1,3 +1,4 @@
+-- The parts of the fresh state.
 use lib.ListN.{length}
 use denote.Ref.{now}
 use Rattle.station.proofs.ReturnLaws.{fresh-is}

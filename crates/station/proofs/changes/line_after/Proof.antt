@@ -1,3 +1,4 @@
+-- Each return has what its test showed.
 use borrow.Author.Tests.{eq-eqb, ne-eqb}
 use borrow.Author.Needs.{needs}
 use Rattle.station.proofs.changes.line_after.Statement.{statement}

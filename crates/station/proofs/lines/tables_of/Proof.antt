@@ -1,3 +1,4 @@
+-- The eight tables.
 use Rattle.station.proofs.ReturnLaws.{tables-are}
 use borrow.Author.Needs.{needs}
 use Rattle.station.proofs.lines.tables_of.Statement.{statement}

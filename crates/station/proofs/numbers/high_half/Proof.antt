@@ -1,3 +1,4 @@
+-- The eight bytes behind the first eight, or none.
 use Rattle.laws.proofs.Parts.{part-tail}
 use Rattle.station.proofs.ReturnLaws.{none-behind}
 use borrow.Author.Needs.{needs}

@@ -1,3 +1,4 @@
+-- Two halves of four bytes, or what is there of the first.
 use mathlib.Core.Path.{ap₂, _∙_}
 use Prim.Native.Nat.{_+_, _*_}
 use Rattle.laws.proofs.Parts.{part-tail}

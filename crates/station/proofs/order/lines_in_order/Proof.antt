@@ -1,3 +1,4 @@
+-- The lines passed are in order: the test of those left is the test of all.
 use Prim.Native.Nat.{_+_, _-_, _≤_}
 use mathlib.Core.Path.{_≡_, refl, sym, ap, _∙_}
 use mathlib.Core.Bool.{_&&_}

@@ -1,3 +1,4 @@
+-- Refused, or answered with pongs.
 use mathlib.Core.Path.{ap, ap₂, _∙_}
 use denote.Ref.{now}
 use lib.ListN.{length}

@@ -1,3 +1,4 @@
+-- Refused, or stored.
 use denote.Ref.{now}
 use Rattle.wire.specs.Header.{ttlOf, hopsOf, payloadOf}
 use Rattle.pinging.specs.Numbers.{pongNumber}

@@ -1,3 +1,4 @@
+-- Each return has what its test showed.
 use borrow.Author.Needs.{needs}
 use Rattle.station.proofs.pings.time_kept.Statement.{statement}
 use Rattle.station.proofs.pings.time_kept.Tie as tie

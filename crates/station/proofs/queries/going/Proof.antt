@@ -1,3 +1,4 @@
+-- For nobody where the life is short; else the flags of the other open lines that let it pass.
 use denote.Ref.{now}
 use Rattle.station.proofs.ReturnLaws.{going-nobody, going-some}
 use borrow.Author.Needs.{needs}

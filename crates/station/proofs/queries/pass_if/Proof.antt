@@ -1,3 +1,4 @@
+-- Each return has what its test showed.
 use borrow.Author.Tests.{not-true, not-false}
 use borrow.Author.Needs.{needs}
 use Rattle.station.proofs.queries.pass_if.Statement.{statement}

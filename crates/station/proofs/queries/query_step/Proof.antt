@@ -1,3 +1,4 @@
+-- Refused, or taken; the text stands in the payload and ends there.
 use mathlib.Core.Path.{sym, ap, _∙_}
 use Prim.Native.Nat.{_+_, _-_}
 use native.Mathlib.Omega.{arith}

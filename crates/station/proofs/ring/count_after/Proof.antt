@@ -1,3 +1,4 @@
+-- Each return has what its test showed.
 use native.Mathlib.Omega.{arith}
 use borrow.Author.Tests.{not-true, not-false}
 use borrow.Author.Needs.{needs}

@@ -1,3 +1,4 @@
+-- One place is stored.
 use mathlib.Core.Path.{ap}
 use Prim.Native.Nat.{_%_}
 use denote.Ref.{now}

@@ -1,3 +1,4 @@
+-- The line's part is lent and comes back with the entries at its front.
 use denote.Ref.{now}
 use Rattle.station.proofs.ReturnLaws.{update-done}
 use borrow.Author.Needs.{needs}
