@@ -13,7 +13,7 @@ use borrow.Author.Tests.{eqb-true}
 use Rattle.laws.specs.Parts.{over}
 use Rattle.laws.proofs.Chunks.{Each}
 use Rattle.laws.proofs.Overlay.{over-read, over-behind}
-use Rattle.laws.proofs.Refusals.{and-fst, and-snd, each}
+use Rattle.laws.proofs.Refusals.{and-fst, and-snd}
 use Rattle.wire.specs.Header.{payloadOf}
 use Rattle.tables.specs.declared.Table.{Table}
 use Rattle.tables.specs.Tables.{Held, settled, betweenRuns, tableInOrder, heldIn}

@@ -3,7 +3,7 @@ use Prim.Native.Nat.{ℕ, _+_, _≤_}
 use mathlib.Core.Path.{_≡_}
 use mathlib.Core.Bool.{Bool, cond, not, _&&_, _||_}
 use mathlib.Core.List.{List, [], _∷_, _++_}
-use lib.Dec.{eqb}
+use lib.Dec.{eqb, leb}
 use lib.ListN.{length, take}
 use Rattle.laws.specs.Tests.{firstOf, any}
 use Rattle.wire.specs.Header.{kindOf, ttlOf, hopsOf, sizeOf, payloadOf, routeUpdate}
@@ -12,7 +12,6 @@ use Rattle.tables.specs.Updates.{isPatch, goodReset, goodPatch, inTurn, inRange
 use Rattle.protocol.specs.declared.Station.{Station}
 use Rattle.protocol.specs.declared.Own.{Own}
 use Rattle.protocol.specs.Lines.{lineAt, heldAt}
-use Rattle.protocol.specs.Outcomes.{unsent}
 use Rattle.protocol.specs.Queries.{usualLimit, queryType, queryRules}
 use Rattle.protocol.specs.Hits.{hitType, hitRules, hitFound}
 use Rattle.protocol.specs.Pings.{pingType, pongType, pingRules, pongRules}
@@ -38,10 +37,13 @@ abbrev pub Blind : Type 0
 Blind = (m : List ℕ) → Whole m → ReadNoFurther m
 
 -- nothing is used where the answer is 1 to 5, else the header and the payload
+abbrev pub usedAfter : ℕ → List ℕ → ℕ
+usedAfter answer m = cond (leb 1 answer && leb answer 5) 0 (23 + sizeOf m)
+
 abbrev pub UsedExact : Type 0
 UsedExact =
     (s : Station) (l clock : ℕ) (own : Own) (m : List ℕ) (out : ℕ) (route : List ℕ)
-    → messageResult s l clock own m out route .used ≡ cond (unsent (messageResult s l clock own m out route .answer)) 0 (23 + sizeOf m)
+    → messageResult s l clock own m out route .used ≡ usedAfter (messageResult s l clock own m out route .answer) m
 
 -- the refusals of an update, in order
 abbrev pub updateRules : ℕ → Held → ℕ → ℕ → List ℕ → List (Bool × ℕ)
