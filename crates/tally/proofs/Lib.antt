@@ -1,0 +1,2 @@
+-- The tally over histories.
+pub mod History
