@@ -29,3 +29,12 @@ pub fn counted(t: Tally, answer: u8) -> Tally
     }
     new
 }
+
+// The same in place: the tally that is lent is brought up by one answer.
+pub fn count(t: &mut Tally, answer: u8)
+    ensures { λ _. ⌜ now (t .exit) ≡ countedBy (now (t .entry)) answer ⌝ }
+{
+    let old = *t;
+    let new = counted(old, answer);
+    *t = new;
+}
