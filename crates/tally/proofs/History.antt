@@ -99,7 +99,7 @@ all-answers [] h = refl
 all-answers (a ∷ ns) h =
     rw (and-first (ltb a answerCount) (all (λ n. ltb n answerCount) ns) h) (ap suc (all-answers ns (and-second (ltb a answerCount) (all (λ n. ltb n answerCount) ns) h)))
 
-zeros-sized : Sized zeros
+pub zeros-sized : Sized zeros
 zeros-sized = record { nineteen = refl; small = λ k h. rw (getD-replicate {A = ℕ} answerCount k 0 0 h) (omega arith) }
 
 pub sum-is-messages : SumIsMessages
