@@ -11,7 +11,7 @@ use lib.Seq.{getD-set-same, getD-set-other}
 use borrow.Author.Tests.{eqb-true, eqb-false, lt-ltb, ltb-true}
 use Rattle.laws.specs.Tests.{all}
 use Rattle.laws.proofs.Chunks.{and-first, and-second}
-use Rattle.tally.specs.Counts.{answerCount, full, oneMore, bump, bumps, occurrences, answers, sum}
+use Rattle.tally.specs.Counts.{answerCount, full, oneMore, raised, bump, bumps, occurrences, answers, sum}
 use Rattle.tally.specs.History.{Sized, NoneFull, CountsExactly, SumGrows, SumIsMessages, zeros}
 
 -- one answer: its own count rises, every other stays
@@ -21,7 +21,7 @@ unfolding bump
 count-after counts a k n h = by (eqb a k) refl (ltb a answerCount) refl
   where
     by : (same : Bool) → eqb a k ≡ same → (answer : Bool) → ltb a answerCount ≡ answer
-        → getD (cond (ltb a answerCount) (set counts a (oneMore (getD counts a 0))) counts) k 0 ≡ cond (eqb a k) (oneMore (getD counts k 0)) (getD counts k 0)
+        → getD (cond (ltb a answerCount) (raised counts a) counts) k 0 ≡ cond (eqb a k) (oneMore (getD counts k 0)) (getD counts k 0)
     by true e answer l = let same : a ≡ k = eqb-true a k e in rw (e, same, lt-ltb k answerCount h) (getD-set-same counts k (oneMore (getD counts k 0)) 0 (omega (arith, n)))
     by false e true l = rw (e, l) (getD-set-other counts a k (oneMore (getD counts a 0)) 0 (λ x. eqb-false a k e (sym x)))
     by false e false l = rw (e, l) refl
@@ -30,7 +30,7 @@ bump-length : (counts : List ℕ) (a : ℕ) → length (bump counts a) ≡ lengt
 unfolding bump
 bump-length counts a = by (ltb a answerCount)
   where
-    by : (answer : Bool) → length (cond answer (set counts a (oneMore (getD counts a 0))) counts) ≡ length counts
+    by : (answer : Bool) → length (cond answer (raised counts a) counts) ≡ length counts
     by true = length-set counts a (oneMore (getD counts a 0))
     by false = refl
 
@@ -68,11 +68,11 @@ unfolding bump oneMore
 sum-after counts a n below = by (ltb a answerCount) refl
   where
     by : (answer : Bool) → ltb a answerCount ≡ answer
-        → sum (cond answer (set counts a (oneMore (getD counts a 0))) counts) ≡ sum counts + cond answer 1 0
+        → sum (cond answer (raised counts a) counts) ≡ sum counts + cond answer 1 0
     by true e =
         let here : a < answerCount = ltb-true a answerCount e in
         let room : getD counts a 0 < full = below here in
-        let s : sum (set counts a (oneMore (getD counts a 0))) + getD counts a 0 ≡ sum counts + oneMore (getD counts a 0) =
+        let s : sum (raised counts a) + getD counts a 0 ≡ sum counts + oneMore (getD counts a 0) =
         sum-set counts a (oneMore (getD counts a 0)) (omega (arith, n)) in
         omega arith
     by false e = omega arith
@@ -99,7 +99,7 @@ all-answers [] h = refl
 all-answers (a ∷ ns) h =
     rw (and-first (ltb a answerCount) (all (λ n. ltb n answerCount) ns) h) (ap suc (all-answers ns (and-second (ltb a answerCount) (all (λ n. ltb n answerCount) ns) h)))
 
-zeros-sized : Sized zeros
+pub zeros-sized : Sized zeros
 zeros-sized = record { nineteen = refl; small = λ k h. rw (getD-replicate {A = ℕ} answerCount k 0 0 h) (omega arith) }
 
 pub sum-is-messages : SumIsMessages

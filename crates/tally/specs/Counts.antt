@@ -17,9 +17,13 @@ full = 4294967295
 unfoldable pub oneMore : ℕ → ℕ
 oneMore n = min full (n + 1)
 
+-- the counts with one more at a
+abbrev pub raised : List ℕ → ℕ → List ℕ
+raised counts a = set counts a (oneMore (getD counts a 0))
+
 -- the counts after one more answer a; a number that is no answer counts nothing
 unfoldable pub bump : List ℕ → ℕ → List ℕ
-bump counts a = cond (ltb a answerCount) (set counts a (oneMore (getD counts a 0))) counts
+bump counts a = cond (ltb a answerCount) (raised counts a) counts
 
 unfoldable pub counted : Tally → ℕ → Tally
 counted t a = record { counts = bump (t .counts) a }
