@@ -1,5 +1,4 @@
 -- A tally over a list of calls, by computation: two cut messages and one of a line that is not open are counted, the rest is not.
-use Prim.Native.Nat.{ℕ}
 use mathlib.Core.Path.{_≡_, refl}
 use mathlib.Core.Bool.{true}
 use mathlib.Core.List.{List, [], _∷_}

@@ -12,7 +12,7 @@ use borrow.Author.Tests.{eqb-true, eqb-false, lt-ltb, ltb-true}
 use Rattle.laws.specs.Tests.{all}
 use Rattle.laws.proofs.Chunks.{and-first, and-second}
 use Rattle.tally.specs.Counts.{answerCount, full, oneMore, raised, bump, bumps, occurrences, answers, sum}
-use Rattle.tally.specs.History.{Sized, NoneFull, CountsExactly, SumGrows, SumIsMessages, zeros}
+use Rattle.tally.specs.History.{Sized, CountsExactly, SumGrows, SumIsMessages, zeros}
 
 -- one answer: its own count rises, every other stays
 count-after : (counts : List ℕ) (a k : ℕ) → length counts ≡ answerCount → k < answerCount

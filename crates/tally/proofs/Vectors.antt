@@ -1,7 +1,6 @@
 -- Counts by computation.
-use Prim.Native.Nat.{ℕ}
 use mathlib.Core.Path.{_≡_, refl}
-use mathlib.Core.List.{List, [], _∷_, _++_, map}
+use mathlib.Core.List.{[], _∷_, _++_, map}
 use lib.ListN.{replicate}
 use Rattle.tally.specs.Counts.{full, oneMore, bump, bumps, sum}
 use Rattle.tally.specs.History.{zeros}
