@@ -1,19 +1,22 @@
--- The flags that the code hands back are those of the station's calls: a query asked here, and a query that arrived.
-use Prim.Native.Nat.{ℕ, _-_, _≤_, _<_}
+-- The flags and the bytes that the code hands back are those of the rules of the station's calls.
+use Prim.Native.Nat.{ℕ, _+_, _-_, _≤_, _<_}
 use mathlib.Core.Path.{_≡_, ap, ap₂, _∙_}
 use mathlib.Core.Bool.{Bool, false, _&&_, and-assoc, and-false}
 use mathlib.Core.List.{List}
-use lib.ListN.{getD}
+use lib.ListN.{length, getD}
 use borrow.Author.Tests.{le-leb, lt-leb}
-use Rattle.wire.specs.Header.{payloadOf}
+use Rattle.wire.specs.Header.{numberOf, kindOf, ttlOf, hopsOf, sizeOf, payloadOf, message}
 use Rattle.tables.specs.declared.Table.{Table}
 use Rattle.tables.specs.Tables.{noTable, heldIn}
 use Rattle.protocol.specs.declared.Station.{Station}
 use Rattle.protocol.specs.Lines.{isOther, lineAt, heldAt, partOf}
 use Rattle.protocol.specs.Outcomes.{nobody}
-use Rattle.protocol.specs.Queries.{textIn, lifeOf, passes, goesOn, queryTo, ownTo}
+use Rattle.protocol.specs.Queries.{queryType, textIn, lifeOf, passes, goesOn, queryTo, queryOn, ownTo}
+use Rattle.protocol.specs.Hits.{hitType, hitOn}
 use Rattle.forwarding.specs.Passing.{heldOf, passingOf}
+use Rattle.forwarding.specs.Messages.{passedOn}
 use Rattle.forwarding.proofs.LineLaws.{each-same}
+use Rattle.forwarding.proofs.MessageLaws.{passed-message}
 
 -- `live` and `tables` are read off the lines of a state
 module _ (s : Station) (live : List Bool) (tables : List Table) (route : List ℕ)
@@ -43,3 +46,14 @@ pub query-nobody : (s : Station) (route : List ℕ) (limit l : ℕ) (m : List �
 query-nobody s route limit l m short =
     each-same (λ k. goesOn limit l k (lineAt s k .live) (heldAt s k route) m) (λ k. false)
     (λ k h. rw (lt-leb 2 (lifeOf limit m) short) (and-false (isOther l k)))
+
+-- a whole message that is passed on, whose type is known: a query, and a hit
+module _ (m : List ℕ) (whole : 23 + sizeOf m ≤ length m) (bytes : (i : ℕ) → getD m i 0 < 256) where
+  passed-kind : (kind ttl hops : ℕ) → kindOf m ≡ kind → passedOn m (23 + sizeOf m) ttl hops ≡ message (numberOf m) kind ttl hops (payloadOf m)
+  passed-kind kind ttl hops e = passed-message m ttl hops whole bytes ∙ ap (λ k. message (numberOf m) k ttl hops (payloadOf m)) e
+
+  pub query-bytes : (limit : ℕ) → kindOf m ≡ queryType → passedOn m (23 + sizeOf m) (lifeOf limit m - 1) (hopsOf m + 1) ≡ queryOn limit m
+  query-bytes limit = passed-kind queryType (lifeOf limit m - 1) (hopsOf m + 1)
+
+  pub hit-bytes : kindOf m ≡ hitType → passedOn m (23 + sizeOf m) (ttlOf m - 1) (hopsOf m + 1) ≡ hitOn m
+  hit-bytes = passed-kind hitType (ttlOf m - 1) (hopsOf m + 1)

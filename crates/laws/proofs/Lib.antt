@@ -4,11 +4,14 @@ pub mod Over
 pub mod Parts
 pub mod Writing
 pub mod Chunks
--- Facts on lists and numbers that proofs of several crates cite.
+pub mod Text
+pub mod Decimal
 pub mod Refusals
 pub mod Overlay
 pub mod Rings
 pub mod RingScan
 pub mod InPlace
 pub mod Truth
+-- Laws on lists and numbers that proofs of several crates cite.
 pub mod Passing
+pub mod Ranks

@@ -5,7 +5,7 @@ use mathlib.Core.List.{List, [], _∷_, _++_, append-assoc}
 use native.Mathlib.Nat.{zero-add, sub-zero, zero-sub, suc-sub-suc}
 use native.Mathlib.Omega.{arith}
 use lib.ListN.{length, take, drop, replicate, length-append, length-take, length-drop, length-replicate}
-use lib.Seq.{take-nil, drop-nil, take-take, drop-drop, take-append-seam}
+use lib.Seq.{take-nil, drop-nil, take-take, drop-drop, take-append-seam, drop-append-seam}
 use borrow.Rule.Slice.PartMut.{putMid}
 use Rattle.laws.specs.Parts.{over}
 
@@ -44,6 +44,10 @@ over-front-of n bs l h = rw zero-add (front n bs l h)
 -- the length stays where what is written is no longer than the list
 pub over-length : (from : ℕ) (bs l : List ℕ) → from + length bs ≤ length l → length (over from bs l) ≡ length l
 over-length from bs l h = simp (length-append, length-take, length-drop) (omega arith)
+
+-- what is behind it stays
+pub over-behind : (bs l : List ℕ) → drop (length bs) (over 0 bs l) ≡ drop (length bs) l
+over-behind bs l = drop-append-seam bs (drop (0 + length bs) l) ∙ rw zero-add refl
 
 -- the first n become v
 pub over-fill : (n v : ℕ) (l : List ℕ) → replicate n v ++ drop n l ≡ over 0 (replicate n v) l

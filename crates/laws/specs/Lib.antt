@@ -3,3 +3,4 @@ pub mod Tests
 pub mod Bytes
 pub mod Parts
 pub mod Ring
+pub mod Text

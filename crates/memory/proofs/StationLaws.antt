@@ -9,14 +9,23 @@ use Rattle.laws.specs.Tests.{every, all}
 use Rattle.laws.proofs.Truth.{all-same}
 use Rattle.protocol.specs.declared.Line.{Line}
 use Rattle.protocol.specs.declared.Station.{Station}
-use Rattle.protocol.specs.Memory.{capacity, here, gone, remembered, noTwice}
+use Rattle.protocol.specs.Memory.{capacity, here, gone, remembered, noTwice, Found, Absent, At, isFound, askerOf}
 use Rattle.protocol.specs.Lines.{lineCount, nowhere}
 use Rattle.protocol.specs.Order.{askerFits, lineInOrder, inOrder}
-use Rattle.memory.specs.Queries.{queriesIn, askerFitsIn, memoryInOrder}
+use Rattle.memory.specs.Queries.{queriesIn, askerFitsIn, memoryInOrder, looked}
 
 pub remembered-is : (s : Station) → length (s .lo) ≡ capacity → remembered s ≡ queriesIn (s .lo) (s .hi) (s .asker) (s .next) (s .count)
 unfolding remembered queriesIn
 remembered-is s e = rw e
+
+-- what a look-up hands back, in the words of the station's rules
+pub looked-found : (f : Found) → looked f .found ≡ isFound f
+looked-found Absent = refl
+looked-found (At n k) = refl
+
+pub looked-asker : (f : Found) → looked f .asker ≡ askerOf f
+looked-asker Absent = refl
+looked-asker (At n k) = refl
 
 -- which lines are open
 abbrev pub liveOf : List Line → List Bool

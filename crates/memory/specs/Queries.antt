@@ -1,5 +1,5 @@
 -- The remembered queries as lent slices have them. The capacity is the length of `lo`; what stands past the end of a shorter slice reads as 0.
-use Prim.Native.Nat.{ℕ}
+use Prim.Native.Nat.{ℕ, _+_}
 use mathlib.Core.Bool.{Bool, true, false, _&&_, _||_}
 use mathlib.Core.List.{List, [], _∷_, map}
 use lib.Dec.{eqb, leb, ltb}
@@ -21,6 +21,11 @@ queriesBefore lo hi asker p n = map (queryIn lo hi asker) (placesBefore (length 
 -- the remembered queries, the newest first
 unfoldable pub queriesIn : List ℕ → List ℕ → List ℕ → ℕ → ℕ → List Query
 queriesIn lo hi asker next count = map (queryIn lo hi asker) (keptPlaces (length lo) next count)
+
+-- what is found behind n queries
+abbrev pub behind : ℕ → Found → Found
+behind n Absent = Absent
+behind n (At m k) = At (n + m) k
 
 -- what a look-up hands back; 10 is nobody
 abbrev pub looked : Found → Looked

@@ -1,7 +1,7 @@
 // Whether the remembered queries are in order: no number twice, and every asker an open line, here or gone.
 ghost use Prim.Native.Nat.{_<_, _≤_};
 ghost use mathlib.Core.Path.{_≡_};
-ghost use mathlib.Core.Bool.{Bool, true, false, _&&_};
+ghost use mathlib.Core.Bool.{false, _&&_};
 ghost use lib.ListN.{length, getD};
 ghost use Rattle.laws.specs.Ring.{onward};
 ghost use Rattle.laws.specs.Tests.{any};

@@ -1,10 +1,9 @@
 // Looking a query's number up among the remembered ones, the newest first.
-ghost use Prim.Native.Nat.{_<_};
+ghost use Prim.Native.Nat.{_+_, _-_, _<_, _≤_};
 ghost use mathlib.Core.Path.{_≡_};
 ghost use lib.ListN.{length};
-ghost use Rattle.laws.specs.Ring.{back};
-ghost use Rattle.protocol.specs.Memory.{Found, find};
-ghost use Rattle.memory.specs.Queries.{queriesBefore, queriesIn, looked};
+ghost use Rattle.protocol.specs.Memory.{Absent, find};
+ghost use Rattle.memory.specs.Queries.{queriesBefore, queriesIn, behind, looked};
 use crate::places::byte_at;
 use crate::places::ring_fits;
 use crate::places::word_at;
@@ -17,42 +16,9 @@ pub struct Looked {
     pub asker: u8,
 }
 
-// The place before p, going round.
-fn before(capacity: usize, p: usize) -> usize
-    requires { ⌜ p < capacity ⌝ }
-    ensures { λ r. ⌜ (r ≡ back capacity p) × (r < capacity) ⌝ }
+fn absent() -> Looked
+    ensures { λ r. ⌜ r ≡ looked Absent ⌝ }
 {
-    if p == 0 { capacity - 1 } else { p - 1 }
-}
-
-// The newest of the `count` queries before `next` that has the number (a, b). One comparison passes over nearly every other query.
-fn newest<'a>(
-    lo: &'a [u64],
-    hi: &'a [u64],
-    asker: &'a [u8],
-    next: usize,
-    count: usize,
-    a: u64,
-    b: u64,
-) -> Looked
-    requires { ⌜ next < length (now lo) ⌝ }
-    ensures { λ r. ⌜ r ≡ looked (find (queriesBefore (now (lo .entry)) (now (hi .entry)) (now (asker .entry)) next count) (record { lo = a; hi = b })) ⌝ }
-{
-    let mut i: usize = 0;
-    let mut p = next;
-    while i < count {
-        p = before(lo.len(), p);
-        if lo[p] == a {
-            if word_at(hi, p) == b {
-                return Looked {
-                    found: true,
-                    after: i,
-                    asker: byte_at(asker, p),
-                };
-            }
-        }
-        i += 1;
-    }
     Looked {
         found: false,
         after: 0,
@@ -60,6 +26,38 @@ fn newest<'a>(
     }
 }
 
+// The newest query with the number (a, b) among those at the places below `from`, down to `stop`; `passed` newer ones were looked at
+// before. One comparison passes over nearly every other query.
+fn newest<'a>(
+    lo: &'a [u64],
+    hi: &'a [u64],
+    asker: &'a [u8],
+    from: usize,
+    stop: usize,
+    passed: usize,
+    a: u64,
+    b: u64,
+) -> Looked
+    requires { ⌜ (stop ≤ from) × (from ≤ length (now lo)) × (passed + from < 18446744073709551616) ⌝ }
+    ensures { λ r. ⌜ r ≡ looked (behind passed (find (queriesBefore (now (lo .entry)) (now (hi .entry)) (now (asker .entry)) from (from - stop)) (record { lo = a; hi = b }))) ⌝ }
+{
+    let mut p = from;
+    while stop < p {
+        p -= 1;
+        if lo[p] == a {
+            if word_at(hi, p) == b {
+                return Looked {
+                    found: true,
+                    after: passed + (from - 1 - p),
+                    asker: byte_at(asker, p),
+                };
+            }
+        }
+    }
+    absent()
+}
+
+// The kept places are those just below `next`, and, where these are fewer than `count`, those at the end of the slices.
 pub fn find<'a>(
     lo: &'a [u64],
     hi: &'a [u64],
@@ -71,13 +69,25 @@ pub fn find<'a>(
 ) -> Looked
     ensures { λ r. ⌜ r ≡ looked (find (queriesIn (now (lo .entry)) (now (hi .entry)) (now (asker .entry)) next count) (record { lo = a; hi = b })) ⌝ }
 {
-    if ring_fits(lo.len(), next, count) {
-        newest(lo, hi, asker, next, count, a, b)
-    } else {
-        Looked {
-            found: false,
-            after: 0,
-            asker: 10,
-        }
+    if !ring_fits(lo.len(), next, count) {
+        return absent();
     }
+    if count <= next {
+        return newest(lo, hi, asker, next, next - count, 0, a, b);
+    }
+    let r = newest(lo, hi, asker, next, 0, 0, a, b);
+    if r.found {
+        return r;
+    }
+    let capacity = lo.len();
+    newest(
+        lo,
+        hi,
+        asker,
+        capacity,
+        capacity - (count - next),
+        next,
+        a,
+        b,
+    )
 }

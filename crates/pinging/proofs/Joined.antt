@@ -1,17 +1,18 @@
 -- The number functions and lists say what the rules of crate protocol say of a state and a message.
 -- Assumes nothing.
 use Prim.Native.Nat.{ℕ, zero, suc, _+_, _<_, _≤_, min, max}
-use mathlib.Core.Path.{_≡_, refl, sym, ap, _∙_}
+use mathlib.Core.Path.{_≡_, refl, ap, _∙_}
 use mathlib.Core.Bool.{Bool, true, false, cond}
 use mathlib.Core.List.{List, [], _∷_, _++_, map}
 use native.Mathlib.Omega.{arith}
-use lib.Dec.{eqb, leb}
-use lib.ListN.{length, getD, take}
+use lib.ListN.{length, getD, take, replicate}
+use lib.Seq.{length-take-le}
 use borrow.Author.Tests.{le-leb, lt-ltb, leb-true}
 use Rattle.laws.specs.Tests.{firstOf, all}
 use Rattle.laws.specs.Ring.{keptPlaces}
 use Rattle.laws.proofs.Refusals.{and-fst, and-snd, and-intro, all-take}
 use Rattle.laws.proofs.Rings.{map-where}
+use Rattle.laws.proofs.Ranks.{over-all}
 use Rattle.wire.specs.Header.{numberOf, ttlOf, hopsOf, sizeOf, payloadOf}
 use Rattle.protocol.specs.declared.Pong.{Pong}
 use Rattle.protocol.specs.declared.Line.{Line}
@@ -19,10 +20,10 @@ use Rattle.protocol.specs.declared.Station.{Station}
 use Rattle.protocol.specs.declared.Own.{Own}
 use Rattle.protocol.specs.Lines.{withPong, pongCapacity, lineNumbers, isOther, nowhere, storedPongs}
 use Rattle.protocol.specs.Order.{lineInOrder, inOrder}
-use Rattle.protocol.specs.Pings.{isProbe, isFresh, pingRules, pongRules, arrivedPong, ranked, keepIf, flat, walk, storedSent, pongBytes, pongsSent, ownSent}
+use Rattle.protocol.specs.Pings.{isProbe, isFresh, pingRules, pongRules, arrivedPong, ranked, keepIf, flat, walk, pongBytes, pongsSent, ownSent}
 use Rattle.protocol.proofs.InOrder.{line-facts, state-facts}
-use Rattle.pinging.specs.Numbers.{probing, pingNumber, pongNumber, pongKept}
-use Rattle.pinging.specs.Sending.{walkIn, storedFor, storedMessage, storedBytes, pongMessage, pongsFor}
+use Rattle.pinging.specs.Numbers.{probing, pingNumber, pongNumber, pongKept, numberFilled}
+use Rattle.pinging.specs.Sending.{walkIn, storedFor, storedMessage, pongMessage, pongsFor}
 use Rattle.pinging.proofs.RingLaws.{low}
 
 pub probe-is : (m : List ℕ) → isProbe m ≡ probing (ttlOf m) (hopsOf m)
@@ -35,6 +36,11 @@ ping-is x clock m = refl
 pub pong-is : (m : List ℕ) → firstOf (pongRules m) ≡ pongNumber (sizeOf m) (ttlOf m) (hopsOf m)
 unfolding pongNumber
 pong-is m = refl
+
+-- the number of a message of 16 bytes or more
+pub number-is : (m : List ℕ) → 16 ≤ length m → numberFilled m ≡ numberOf m
+unfolding numberFilled
+number-is m h = over-all (take 16 m) (replicate 16 0) (length-take-le 16 m h)
 
 -- a whole pong of 14 bytes or more, stored on a line in order
 pub kept-is : (x : Line) (clock : ℕ) (m : List ℕ) → 14 ≤ length (payloadOf m) → x .pongnext < pongCapacity

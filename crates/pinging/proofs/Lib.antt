@@ -1,5 +1,4 @@
 -- The laws of pings and pongs.
-pub mod Ranks
 pub mod RingLaws
 pub mod WalkLaws
 pub mod SendLaws

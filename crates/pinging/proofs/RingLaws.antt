@@ -7,17 +7,16 @@ use mathlib.Core.List.{List, [], _∷_, map}
 use native.Mathlib.Omega.{arith}
 use lib.Dec.{leb, ltb}
 use lib.ListN.{length, getD}
-use borrow.Author.Tests.{le-leb, lt-leb, lt-ltb, le-ltb, leb-true, ltb-true, leb-false, ltb-false}
+use borrow.Author.Tests.{le-leb, lt-leb, lt-ltb, leb-true, ltb-true, ltb-false}
 use Rattle.laws.specs.Tests.{all}
-use Rattle.laws.specs.Ring.{back, placesBefore, keptPlaces, ringFits}
-use Rattle.laws.proofs.Refusals.{and-fst, and-snd}
+use Rattle.laws.specs.Ring.{back, placesBefore, keptPlaces}
 use Rattle.laws.proofs.Rings.{map-getD}
 use Rattle.protocol.specs.declared.Pong.{Pong}
 use Rattle.protocol.specs.declared.Line.{Line}
 use Rattle.protocol.specs.Lines.{storedPongs, pongCapacity}
 use Rattle.protocol.specs.Pings.{ranked}
 use Rattle.pinging.specs.Sending.{lowHops, placeOf}
-use Rattle.pinging.proofs.Ranks.{places-next, places-length, place-low, place-high}
+use Rattle.laws.proofs.Ranks.{places-next, places-length, place-low, place-high}
 
 -- the pong at a place of the line's ring
 abbrev pub pongIn : Line → ℕ → Pong

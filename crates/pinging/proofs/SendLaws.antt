@@ -1,9 +1,9 @@
 -- The messages that are sent.
 -- Assumes nothing.
-use Prim.Native.Nat.{ℕ, zero, suc, _+_, _-_, _*_, _/_, _%_, _≤_, _<_, min, max}
+use Prim.Native.Nat.{ℕ, _+_, _-_, _*_, _/_, _%_, _≤_, _<_, min, max}
 use mathlib.Core.Path.{_≡_, refl, sym, ap, ap₂, _∙_}
 use mathlib.Core.Bool.{Bool, true, false, cond, _||_}
-use mathlib.Core.List.{List, [], _∷_, _++_, map, append-nil}
+use mathlib.Core.List.{List, [], _∷_, _++_, append-nil}
 use native.Mathlib.Omega.{arith}
 use lib.ListN.{length, getD, take, drop, length-append}
 use lib.Seq.{take-nil}
@@ -20,7 +20,7 @@ use Rattle.protocol.specs.declared.Own.{Own}
 use Rattle.protocol.specs.Lines.{elapsed, isOther, nowhere, storedPongs}
 use Rattle.protocol.specs.Pings.{pongType, ownPong, ranked, keepIf, isFresh}
 use Rattle.pinging.specs.Sending.{pongMessage, storedMessage, storedBytes, storedFor, turnOf, placeOf, ownBytes, pongsFor, pongsWritten, ownCount, pongCount, countWritten}
-use Rattle.pinging.proofs.Ranks.{two-front, four-front, over-split, over-none}
+use Rattle.laws.proofs.Ranks.{two-front, four-front, over-split, over-none}
 use Rattle.pinging.proofs.RingLaws.{pongIn, pongAt, ranked-place}
 use Rattle.pinging.proofs.WalkLaws.{turnAt, leftFrom, walk-turns, left-next, left-none, ten-next, turn-one, bytes-append}
 
@@ -108,7 +108,7 @@ module _ (number : List ℕ) (ttl : ℕ) (ps : List Pong) (part : List ℕ) wher
       → n ≡ length (pongMessage number ttl hops (p .bytes)) → n ≡ 37 → left ≡ over 0 (pongMessage number ttl hops (p .bytes)) part → Put 1 left
   put-one p hops n left e h k s b =
       let q : pongMessage number ttl hops (p .bytes) ≡ storedBytes number ttl ps =
-          ap (λ m. pongMessage number ttl m (p .bytes)) h ∙ sym (append-nil (storedMessage number ttl p)) ∙ ap (storedBytes number ttl) (sym e) in
+      ap (λ m. pongMessage number ttl m (p .bytes)) h ∙ sym (append-nil (storedMessage number ttl p)) ∙ ap (storedBytes number ttl) (sym e) in
       record {
         count = ap length (sym e);
         size = sym s ∙ k ∙ ap length q;
@@ -157,22 +157,22 @@ module _ (lines : List Line) (l clock : ℕ) (number : List ℕ) (ttl : ℕ) whe
         let g = v .long in
         let few : s + r ≤ 10 = omega arith in
         let mid : putMid (37 * s) (length area - 37 * s) area left ≡ over (37 * s) bs area =
-            lent-part (37 * s) (length area - 37 * s) bs area left (omega arith) (omega arith) (p .bytes) in
+        lent-part (37 * s) (length area - 37 * s) bs area left (omega arith) (omega arith) (p .bytes) in
         let pongs : rest s i ≡ turn ++ rest (s + r) (i + 1) =
-            ap (take (10 - s)) (left-next lines l clock i hi)
-            ∙ ten-next s r turn (leftFrom lines l clock (80 - (i + 1)) (i + 1)) (sym n) few in
+        ap (take (10 - s)) (left-next lines l clock i hi)
+        ∙ ten-next s r turn (leftFrom lines l clock (80 - (i + 1)) (i + 1)) (sym n) few in
         let parts : storedBytes number ttl (rest s i) ≡ bs ++ on =
-            ap (storedBytes number ttl) pongs ∙ bytes-append number ttl turn (rest (s + r) (i + 1)) in
+        ap (storedBytes number ttl) pongs ∙ bytes-append number ttl turn (rest (s + r) (i + 1)) in
         let next : 37 * (s + r) ≡ 37 * s + length bs = omega arith in
         record {
           few = few;
           turns = omega arith;
           long = ap length mid ∙ kept-length (37 * s) bs area (omega arith) ∙ g;
           bytes =
-            ap₂ (λ m a. over m on a) next mid
-            ∙ sym (over-split (37 * s) bs on area (omega arith))
-            ∙ ap (λ b. over (37 * s) b area) (sym parts)
-            ∙ v .bytes;
+              ap₂ (λ m a. over m on a) next mid
+              ∙ sym (over-split (37 * s) bs on area (omega arith))
+              ∙ ap (λ b. over (37 * s) b area) (sym parts)
+              ∙ v .bytes;
           size = let z = ap length parts in let y = length-append bs on in let u = v .size in omega arith;
           count = let z = ap length pongs in let y = length-append turn (rest (s + r) (i + 1)) in let u = v .count in omega arith;
         }
@@ -226,13 +226,12 @@ pub both-written : (xs bs both out mid left : List ℕ) (f r : ℕ) → xs ++ bs
 both-written xs bs both out mid left f r w fa rb room m e =
     let long : length mid ≡ length out = ap length m ∙ kept-length 0 xs out (omega arith) in
     let z = ap length w in
-    let y = length-append xs bs in
-    (
+    let y = length-append xs bs in (
       omega arith,
       lent-part f (length mid - f) bs mid left (omega arith) (omega arith) e
-      ∙ ap (over f bs) m
-      ∙ written-next f xs bs out (sym fa)
-      ∙ ap (λ l. over 0 l out) w,
+          ∙ ap (over f bs) m
+          ∙ written-next f xs bs out (sym fa)
+          ∙ ap (λ l. over 0 l out) w,
     )
 
 pub sum-of : (f r a b n : ℕ) → f ≡ 37 * a → r ≡ 37 * b → a + b ≡ n → f + r ≡ 37 * n

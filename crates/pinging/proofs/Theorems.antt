@@ -1,23 +1,27 @@
 -- What the definitions say of pings and pongs: when a ping comes too soon, how many pongs go out, and that old ones don't count.
 -- Assumes nothing.
-use Prim.Native.Nat.{ℕ, zero, suc, _+_, _*_, _≤_, _<_, min}
+use Prim.Native.Nat.{ℕ, _+_, _*_, _≤_, _<_, min}
 use mathlib.Core.Path.{_≡_, refl, sym, ap, _∙_}
 use mathlib.Core.Bool.{Bool, true, false, cond, not, _&&_, _||_}
 use mathlib.Core.List.{List, [], _∷_, _++_}
 use native.Mathlib.Omega.{arith}
 use lib.Dec.{eqb, leb, ltb}
-use lib.ListN.{length, take, length-take}
+use lib.ListN.{length, getD, set, take, length-take}
+use lib.Seq.{getD-set-same}
 use borrow.Author.Tests.{lt-ltb, ltb-true, ltb-false, eqb-true, ne-eqb, eqb-false}
 use Rattle.laws.specs.Tests.{all, firstOf}
 use Rattle.laws.proofs.Refusals.{clash, and-fst, and-intro, all-take}
+use Rattle.wire.specs.Header.{ttlOf, hopsOf}
 use Rattle.protocol.specs.declared.Pong.{Pong}
 use Rattle.protocol.specs.declared.Line.{Line}
+use Rattle.protocol.specs.declared.Station.{Station}
 use Rattle.protocol.specs.declared.Own.{Own}
-use Rattle.protocol.specs.Lines.{elapsed}
-use Rattle.protocol.specs.Pings.{keepIf, isFresh}
+use Rattle.protocol.specs.Lines.{elapsed, lineAt, nowhere, pingedAt}
+use Rattle.protocol.specs.Pings.{keepIf, isFresh, isProbe, pingRules, afterPing}
 use Rattle.pinging.specs.Numbers.{probing, pingNumber}
-use Rattle.pinging.specs.Sending.{walkIn, storedFor, ownCount, pongCount, countWritten}
+use Rattle.pinging.specs.Sending.{walkIn, storedFor, pongCount, countWritten}
 use Rattle.pinging.proofs.WalkLaws.{keep-append}
+use Rattle.pinging.proofs.Joined.{ping-is}
 
 -- a ping that is neither refused for its TTL nor a probe, less than 1,000 ms after a kept time
 pub record TooSoon (pinged : Bool) (pingtime clock ttl hops : ℕ) : Type 0 where
@@ -69,6 +73,22 @@ accepted-apart pingtime clock ttl hops o e = go (eqb ttl 0) (probing ttl hops) (
     go false true d q o e = absurd (clash refl o)
     go false false true q o e = absurd (omega arith)
     go false false false q o e = ltb-false (elapsed clock pingtime) 1000 q
+
+-- an accepted ping that is no probe leaves its clock as the line's kept time
+pub kept-clock : (s : Station) (l clock : ℕ) (m : List ℕ) → l < length (s .lines) → isProbe m ≡ false
+    → lineAt (afterPing s l clock m) l ≡ pingedAt (lineAt s l) clock
+kept-clock s l clock m h e =
+    ap (λ b. getD (set (s .lines) l (cond b (lineAt s l) (pingedAt (lineAt s l) clock))) l nowhere) e
+    ∙ getD-set-same (s .lines) l (pingedAt (lineAt s l) clock) nowhere h
+
+-- so the next one of the line that is accepted and no probe comes at least 1,000 ms later
+pub next-apart : (s : Station) (l first second : ℕ) (m n : List ℕ) → l < length (s .lines) → isProbe m ≡ false → isProbe n ≡ false
+    → firstOf (pingRules (lineAt (afterPing s l first m) l) second n) ≡ 0 → 1000 ≤ elapsed second first
+next-apart s l first second m n h e f taken =
+    accepted-apart first second (ttlOf n) (hopsOf n) f
+    (ap (λ x. pingNumber (x .pinged) (x .pingtime) second (ttlOf n) (hopsOf n)) (sym (kept-clock s l first m h e))
+    ∙ sym (ping-is (lineAt (afterPing s l first m) l) second n)
+    ∙ taken)
 
 -- the stored pongs sent are ten, or all that are fresh where there are fewer: old ones don't use up the ten
 pub ten-or-all : (lines : List Line) (l clock : ℕ) → length (storedFor lines l clock) ≡ min 10 (length (keepIf (isFresh clock) (walkIn lines l)))

@@ -3,14 +3,13 @@ use Prim.Native.Nat.{ℕ, _+_}
 use mathlib.Core.Path.{_≡_, refl}
 use mathlib.Core.Bool.{Bool, true, false}
 use mathlib.Core.List.{List, [], _∷_, _++_, map}
-use lib.ListN.{length, replicate, take, drop}
+use lib.ListN.{replicate, take, drop}
 use Rattle.laws.specs.Ring.{keptPlaces}
 use Rattle.wire.specs.Header.{message}
-use Rattle.tables.specs.Tables.{noTable}
 use Rattle.protocol.specs.declared.Pong.{Pong}
 use Rattle.protocol.specs.declared.Line.{Line}
 use Rattle.protocol.specs.declared.Own.{Own}
-use Rattle.protocol.specs.Lines.{elapsed, emptyLine, storedPongs}
+use Rattle.protocol.specs.Lines.{emptyLine, storedPongs}
 use Rattle.pinging.specs.Numbers.{pingNumber, pongNumber, pongKept}
 use Rattle.pinging.specs.Sending.{walkIn, storedFor, pongsFor, pongCount}
 

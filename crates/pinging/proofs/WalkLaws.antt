@@ -1,17 +1,17 @@
 -- The walk over the other lines' pongs, one turn after another: what is left of it, and what of that is sent.
 -- Assumes nothing.
-use Prim.Native.Nat.{ℕ, zero, suc, _+_, _-_, _*_, _/_, _%_, _≤_, _<_, min}
+use Prim.Native.Nat.{ℕ, zero, suc, _+_, _-_, _/_, _%_, _≤_, _<_}
 use mathlib.Core.Path.{_≡_, refl, sym, ap, ap₂, _∙_}
 use mathlib.Core.Bool.{Bool, true, false, cond}
-use mathlib.Core.List.{List, [], _∷_, _++_, map, append-assoc, append-nil}
+use mathlib.Core.List.{List, [], _∷_, _++_, map, append-assoc}
 use native.Mathlib.Omega.{arith}
-use lib.ListN.{length, getD, take, drop}
-use lib.Seq.{take-append-add, take-nil}
+use lib.ListN.{length, getD, take}
+use lib.Seq.{take-append-add}
 use Rattle.protocol.specs.declared.Pong.{Pong}
 use Rattle.protocol.specs.declared.Line.{Line}
 use Rattle.protocol.specs.Lines.{isOther, nowhere, lineNumbers, storedPongs}
 use Rattle.protocol.specs.Pings.{flat, keepIf, isFresh, ranked}
-use Rattle.pinging.specs.Sending.{turnOf, walkIn, storedMessage, storedBytes, storedFor}
+use Rattle.pinging.specs.Sending.{turnOf, walkIn, storedMessage, storedBytes}
 
 module _ {A : Type 0} where
   pub flat-append : (xs ys : List (List A)) → flat (xs ++ ys) ≡ flat xs ++ flat ys

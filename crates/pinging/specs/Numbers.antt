@@ -4,8 +4,9 @@ use Prim.Native.Nat.{ℕ}
 use mathlib.Core.Bool.{Bool, cond, not, _&&_, _||_}
 use mathlib.Core.List.{List, [], _∷_}
 use lib.Dec.{eqb, leb, ltb}
-use lib.ListN.{length, take}
+use lib.ListN.{length, take, replicate}
 use Rattle.laws.specs.Tests.{firstOf}
+use Rattle.laws.specs.Parts.{over}
 use Rattle.protocol.specs.declared.Line.{Line}
 use Rattle.protocol.specs.Lines.{elapsed, pongCapacity, withPong}
 
@@ -28,3 +29,7 @@ pongKept x payload hops clock =
     cond (leb 14 (length payload) && ltb (x .pongnext) pongCapacity)
     (withPong x (record { bytes = take 14 payload; hops = hops; clock = clock }))
     x
+
+-- the first 16 bytes of a message, with zeros for those that it lacks
+unfoldable pub numberFilled : List ℕ → List ℕ
+numberFilled m = over 0 (take 16 m) (replicate 16 0)

@@ -1,12 +1,9 @@
-// Pongs as messages: a header and 14 bytes, 37 in all.
+// What a pong that is sent bears: its TTL, its Hops, and this station's own 14 bytes.
 ghost use mathlib.Core.Path.{_≡_};
 ghost use mathlib.Core.List.{_++_};
-ghost use Prim.Native.Nat.{_+_, _≤_, min, max};
-ghost use lib.ListN.{length};
+ghost use Prim.Native.Nat.{_+_, min, max};
 ghost use Rattle.laws.specs.Bytes.{littleBytes};
-ghost use Rattle.laws.specs.Parts.{over};
 ghost use Rattle.protocol.specs.Pings.{ownPong};
-ghost use Rattle.pinging.specs.Sending.{pongMessage};
 use protocol::Own;
 
 // The TTL that pongs bear: the larger of 1 and the ping's Hops.
@@ -61,28 +58,4 @@ pub fn own_payload(own: Own) -> [u8; 14]
     let files = wire::little_bytes4(own.files);
     let kilobytes = wire::little_bytes4(own.kilobytes);
     joined(port, address, files, kilobytes)
-}
-
-// 14 bytes at the front of the part.
-fn put_bytes(bytes: [u8; 14], part: &mut [u8])
-    requires { ⌜ 14 ≤ length (now part) ⌝ }
-    ensures { λ _. ⌜ now (part .exit) ≡ over 0 bytes (now (part .entry)) ⌝ }
-{
-    let mut i = 0;
-    while i < 14 {
-        part[i] = bytes[i];
-        i += 1;
-    }
-}
-
-// A pong as a message at the front of the part; how many bytes that takes.
-pub fn put_pong(number: [u8; 16], ttl: u8, hops: u8, bytes: [u8; 14], part: &mut [u8]) -> usize
-    requires { ⌜ 37 ≤ length (now part) ⌝ }
-    ensures size { λ r. ⌜ r ≡ length (pongMessage number ttl hops bytes) ⌝ }
-    ensures whole { λ r. ⌜ r ≡ 37 ⌝ }
-    ensures bytes { λ _. ⌜ now (part .exit) ≡ over 0 (pongMessage number ttl hops bytes) (now (part .entry)) ⌝ }
-{
-    wire::put_header(number, 1, ttl, hops, 14, &mut *part);
-    put_bytes(bytes, &mut part[23..]);
-    37
 }

@@ -1,9 +1,9 @@
 // Whether a line is in order, as document 01 has it in "In order".
 ghost use mathlib.Core.Path.{_≡_};
 ghost use Prim.Native.Nat.{_≤_, _<_};
+ghost use Rattle.laws.specs.Ring.{back};
 ghost use Rattle.protocol.specs.Order.{emptyWhenClosed, lineInOrder};
 ghost use Rattle.pinging.specs.Sending.{lowHops};
-use crate::ring::place_before;
 use protocol::Line;
 
 // A closed line has no table, pongs or ping time.
@@ -21,6 +21,14 @@ fn empty_when_closed(x: Line) -> bool
         return false;
     }
     !x.pinged
+}
+
+// The ring's place before this one.
+fn place_before(place: usize) -> usize
+    requires { ⌜ place < 10 ⌝ }
+    ensures { λ r. ⌜ r ≡ back 10 place ⌝ }
+{
+    if place == 0 { 9 } else { place - 1 }
 }
 
 // The Hops of each kept pong are at most 7.

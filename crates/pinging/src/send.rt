@@ -5,15 +5,56 @@ ghost use Prim.Native.Nat.{_*_, _≤_};
 ghost use lib.ListN.{length};
 ghost use Rattle.laws.specs.Parts.{over};
 ghost use Rattle.protocol.specs.Lines.{isOther};
-ghost use Rattle.pinging.specs.Sending.{ownBytes, turnOf, storedBytes, storedFor, pongsWritten, ownCount, countWritten};
+ghost use Rattle.pinging.specs.Sending.{placeOf, pongMessage, ownBytes, turnOf, storedBytes, storedFor, pongsWritten, ownCount, countWritten};
 use crate::clock::elapsed_ms;
 use crate::messages::one_hop_more;
 use crate::messages::own_payload;
 use crate::messages::pong_ttl;
-use crate::messages::put_pong;
-use crate::ring::place_of;
 use protocol::Line;
 use protocol::Own;
+
+// 14 bytes at the front of the part.
+fn put_bytes(bytes: [u8; 14], part: &mut [u8])
+    requires { ⌜ 14 ≤ length (now part) ⌝ }
+    ensures { λ _. ⌜ now (part .exit) ≡ over 0 bytes (now (part .entry)) ⌝ }
+{
+    let mut i = 0;
+    while i < 14 {
+        part[i] = bytes[i];
+        i += 1;
+    }
+}
+
+// A pong as a message at the front of the part; how many bytes that takes.
+fn put_pong(number: [u8; 16], ttl: u8, hops: u8, bytes: [u8; 14], part: &mut [u8]) -> usize
+    requires { ⌜ 37 ≤ length (now part) ⌝ }
+    ensures size { λ r. ⌜ r ≡ length (pongMessage number ttl hops bytes) ⌝ }
+    ensures whole { λ r. ⌜ r ≡ 37 ⌝ }
+    ensures bytes { λ _. ⌜ now (part .exit) ≡ over 0 (pongMessage number ttl hops bytes) (now (part .entry)) ⌝ }
+{
+    wire::put_header(number, 1, ttl, hops, 14, &mut *part);
+    put_bytes(bytes, &mut part[23..]);
+    37
+}
+
+// The place of the pong of this rank, the newest being rank 0, and 10 where the ring keeps none of that rank.
+fn place_of(next: usize, count: usize, rank: usize) -> usize
+    ensures { λ r. ⌜ r ≡ placeOf next count rank ⌝ }
+{
+    if 10 < count {
+        return 10;
+    }
+    if 10 <= next {
+        return 10;
+    }
+    if count <= rank {
+        return 10;
+    }
+    if rank < next {
+        return next - 1 - rank;
+    }
+    next + 9 - rank
+}
 
 // The line is another than the ping's.
 fn is_other(line: u32, k: usize) -> bool
@@ -23,7 +64,7 @@ fn is_other(line: u32, k: usize) -> bool
 }
 
 // The own pong goes to a probe always, else where the station takes calls.
-fn speaks(probe: bool, calls: bool) -> bool
+fn sends_own(probe: bool, calls: bool) -> bool
     ensures { λ r. ⌜ r ≡ (probe || calls) ⌝ }
 {
     if probe { true } else { calls }
@@ -37,7 +78,7 @@ fn put_own(own: Own, number: [u8; 16], ttl: u8, probe: bool, part: &mut [u8]) ->
     ensures count { λ r. ⌜ r ≡ 37 * ownCount own probe ⌝ }
     ensures bytes { λ _. ⌜ now (part .exit) ≡ over 0 (ownBytes own number ttl probe) (now (part .entry)) ⌝ }
 {
-    if !speaks(probe, own.calls) {
+    if !sends_own(probe, own.calls) {
         return 0;
     }
     let payload = own_payload(own);

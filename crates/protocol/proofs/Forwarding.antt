@@ -72,11 +72,14 @@ scaled-place n k e =
     (or-split (eqb n 0) (any (eqb n) lengths) e)
 
 -- tests and what they say
+pub other-iff : (l k : ℕ) → (isOther l k ≡ true) ↔ (k ≡ l → ⊥)
+other-iff l k = ((λ z. eqb-false k l (not-true (eqb k l) z)), (λ f. rw (ne-eqb k l f)))
+
 not-iff : (b : Bool) {P : Type 0} → (b ≡ true) ↔ P → (not b ≡ true) ↔ (P → ⊥)
 not-iff true e = ((λ z. absurd (clash z refl)), λ f. absurd (f (e .0 refl)))
 not-iff false e = ((λ _ p. clash (e .1 p) refl), λ _. refl)
 
-and-iff : (a b : Bool) {P Q : Type 0} → (a ≡ true) ↔ P → (b ≡ true) ↔ Q → ((a && b) ≡ true) ↔ (P × Q)
+pub and-iff : (a b : Bool) {P Q : Type 0} → (a ≡ true) ↔ P → (b ≡ true) ↔ Q → ((a && b) ≡ true) ↔ (P × Q)
 and-iff a b e f = ((λ z. (e .0 (and-fst a b z), f .0 (and-snd a b z))), (λ w. and-intro a b (e .1 (w .0)) (f .1 (w .1))))
 
 or-iff : (a b : Bool) {P Q : Type 0} → (a ≡ true) ↔ P → (b ≡ true) ↔ Q → ((a || b) ≡ true) ↔ (P ⊎ Q)
@@ -135,10 +138,7 @@ module _ (room : ℕ) (e : Expected) (sound : Sound room (e .held)) where
       let life : ℕ = lifeOf usualLimit m in
       let p = passes-iff (textIn (payloadOf m)) (life - 1) in
       let q = and-iff (leb 2 life) (passes (e .live) (e .held) (textIn (payloadOf m)) (life - 1)) (leb-true 2 life, le-leb 2 life) p in
-      let r = and-iff (isOther l L) (leb 2 life && passes (e .live) (e .held) (textIn (payloadOf m)) (life - 1)) other q in (
+      let r = and-iff (isOther l L) (leb 2 life && passes (e .live) (e .held) (textIn (payloadOf m)) (life - 1)) (other-iff l L) q in (
         (λ z. let w = r .0 z in (w .1 .1 .0, w .0, w .1 .0, w .1 .1 .1)),
         (λ w. r .1 (w .1, (w .2, (w .0, w .3)))),
       )
-    where
-      other : (isOther l L ≡ true) ↔ (L ≡ l → ⊥)
-      other = ((λ z. eqb-false L l (not-true (eqb L l) z)), (λ f. rw (ne-eqb L l f)))

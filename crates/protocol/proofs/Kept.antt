@@ -35,7 +35,7 @@ use Rattle.protocol.proofs.InOrder.{StateFacts, LineFacts, state-facts,
 use Rattle.protocol.proofs.Memory.{remembered-newest, remembered-left, stored-newest, seen-any, noTwice-take, noTwice-new, noTwice-left}
 
 -- a table stays in order
-abbrev limitTests : ℕ → Table → List Bool
+abbrev pub limitTests : ℕ → Table → List Bool
 limitTests room t =
     goodLength (t .length)
     ∷ leb (t .length) room
@@ -46,7 +46,7 @@ limitTests room t =
 abbrev runTests : Table → List Bool
 runTests t = leb 2 (t .place) ∷ leb (t .place) (t .size) ∷ (eqb (t .bits) 4 || eqb (t .bits) 8) ∷ leb (t .at) (t .length) ∷ []
 
-limits : (room : ℕ) (t : Table) → tableInOrder room t ≡ true → ready (t .mark) ≡ true → Each (limitTests room t)
+pub limits : (room : ℕ) (t : Table) → tableInOrder room t ≡ true → ready (t .mark) ≡ true → Each (limitTests room t)
 unfolding tableInOrder
 limits room t e r =
     each (limitTests room t)
@@ -93,7 +93,7 @@ module _ (s : Station) (z : Sized s) (o : inOrder s ≡ true) (l : ℕ) (l≤7 :
   line-below : l < length (s .lines)
   line-below = omega (arith, z .eight)
 
-  open-still : (lineAt s l .live ≡ true → x .live ≡ true) → (a : ℕ) → getD (s .lines) a nowhere .live ≡ true → getD (set (s .lines) l x) a nowhere .live ≡ true
+  pub open-still : (lineAt s l .live ≡ true → x .live ≡ true) → (a : ℕ) → getD (s .lines) a nowhere .live ≡ true → getD (set (s .lines) l x) a nowhere .live ≡ true
   open-still g a e = go (eqb a l) refl
     where
       go : (b : Bool) → eqb a l ≡ b → getD (set (s .lines) l x) a nowhere .live ≡ true

@@ -11,3 +11,11 @@ pub mod Refused
 pub mod Matching
 pub mod Demand3
 pub mod Periods
+pub mod Effects
+pub mod Origins
+pub mod Demand2
+pub mod Gone
+pub mod Back
+pub mod LateHits
+pub mod Numbers
+pub mod Blind

@@ -13,45 +13,9 @@ use Rattle.laws.proofs.Refusals.{clash, of-choice, Each, each, NoRefusal, no-re
 use Rattle.tables.specs.declared.Table.{Table}
 use Rattle.tables.specs.Patch.{added}
 use Rattle.tables.specs.Tables.{Held, lengths, goodLength, goodInfinity, ready, running}
-use Rattle.tables.specs.Updates.{lengthIn, infinityIn, placeIn, sizeIn, bitsIn, numbersIn, isPatch, isLast, goodReset, goodPatch, inTurn, inRange, updateAnswer, updated, resetBy, movedOn, patchBy, brokenBy, pickHeld}
+use Rattle.tables.specs.Updates.{lengthIn, infinityIn, placeIn, sizeIn, bitsIn, numbersIn, isPatch, isLast, resetTests, patchTests, turnTests, goodReset, goodPatch, inTurn, inRange, updateAnswer, updated, resetBy, movedOn, patchBy, brokenBy, pickHeld}
 use Rattle.protocol.specs.Outcomes.{unsent}
-
--- the lists of tests that the table's rules are made of, by name
-abbrev pub resetTests : ℕ → List ℕ → List Bool
-resetTests room p =
-    eqb (length p) 6
-    ∷ eqb (getD p 0 0) 0
-    ∷ goodLength (lengthIn p)
-    ∷ leb (lengthIn p) room
-    ∷ goodInfinity (infinityIn p)
-    ∷ []
-
-abbrev pub patchTests : List ℕ → List Bool
-patchTests p =
-    leb 5 (length p)
-    ∷ eqb (getD p 0 0) 1
-    ∷ leb 1 (placeIn p)
-    ∷ leb (placeIn p) (sizeIn p)
-    ∷ eqb (getD p 3 0) 0
-    ∷ (eqb (bitsIn p) 4 || eqb (bitsIn p) 8)
-    ∷ []
-
-abbrev pub turnTests : Held → List ℕ → List Bool
-turnTests h p =
-    ready (h .table .mark)
-    ∷ eqb (placeIn p) (h .table .place)
-    ∷ (not (eqb (h .table .mark) running) || (eqb (sizeIn p) (h .table .size) && eqb (bitsIn p) (h .table .bits)))
-    ∷ leb (h .table .at + length (numbersIn p)) (length (h .entries))
-    ∷ (not (isLast p) || eqb (h .table .at + length (numbersIn p)) (length (h .entries)))
-    ∷ []
-
-abbrev updateRules : ℕ → Held → ℕ → ℕ → List ℕ → List (Bool × ℕ)
-updateRules room h ttl hops p =
-    (not (eqb ttl 1 && eqb hops 0), 14)
-    ∷ (not (goodReset room p || goodPatch p), 14)
-    ∷ (isPatch p && not (inTurn h p), 15)
-    ∷ (isPatch p && not (inRange h p), 16)
-    ∷ []
+use Rattle.protocol.specs.Blind.{updateRules}
 
 -- an accepted RESET, and an accepted PATCH
 pub record Resets (room : ℕ) (p : List ℕ) : Type 0 where

@@ -1,129 +1,257 @@
 -- Demand 2, over lists of calls: an unseen query goes to exactly the neighbours that the rules name, and a hit goes back only over the same
--- opening of the line its query came by, while that query is among the last 512.
-use Prim.Native.Nat.{ℕ, zero, suc, _+_, _-_, _≤_, _<_, min}
+-- opening of the line its query came by, while that query is among the last 512. Where a query came from is read off the log alone.
+use Prim.Native.Nat.{ℕ, suc, _+_, _-_, _/_, _≤_, _<_}
 use mathlib.Core.Path.{_≡_}
-use mathlib.Core.Bool.{Bool, true, false, cond, not, _&&_, _||_}
+use mathlib.Core.Bool.{Bool, true, false, cond, _&&_, _||_}
 use mathlib.Core.Logic.{_↔_, _⊎_}
-use mathlib.Core.List.{List, [], _∷_}
-use lib.Dec.{eqb, leb, ltb}
-use lib.ListN.{length, getD, take}
-use Rattle.laws.specs.Tests.{any}
+use mathlib.Core.List.{List, [], _∷_, _++_, map}
+use lib.Dec.{eqb, ltb}
+use lib.ListN.{length, getD, take, drop}
+use Rattle.laws.specs.Tests.{any, all}
 use Rattle.wire.specs.Header.{kindOf, ttlOf, hopsOf, sizeOf, payloadOf, numberOf, message}
 use Rattle.keywords.specs.Keywords.{keywordsOf}
 use Rattle.tables.specs.Admission.{withholds}
 use Rattle.protocol.specs.declared.Station.{Station}
-use Rattle.protocol.specs.Memory.{capacity, here, gone, Number, numberIn, sameNumber, Query, remembered}
+use Rattle.protocol.specs.declared.Own.{Own}
+use Rattle.protocol.specs.Memory.{capacity, here, gone, Number, numberIn, sameNumber, Query, remembered, noTwice}
 use Rattle.protocol.specs.Lines.{lineAt, heldAt}
 use Rattle.protocol.specs.Order.{inOrder}
-use Rattle.protocol.specs.Outcomes.{Outcome, unsent, nobody, onlyTo}
-use Rattle.protocol.specs.Queries.{textIn}
-use Rattle.protocol.specs.Runs.{Call, Open, Close, Message, Ask, Made, World, lent, outcomeOf, step, run, start}
+use Rattle.protocol.specs.Outcomes.{Outcome, unsent, nobody, onlyTo, writtenFor}
+use Rattle.protocol.specs.Queries.{textIn, ownPayload}
+use Rattle.protocol.specs.Calls.{fresh}
+use Rattle.protocol.specs.Runs.{Area, Call, Open, Close, Message, Ask, Made, World, lent, outcomeOf, step, run, start}
+use Rattle.protocol.specs.Periods.{lifeLeft}
+use Rattle.protocol.specs.Kept.{Sized}
 
--- a call that took a query: an arriving one or an own one, answered 0
+-- Calls and their answers. One that took a query: an arriving one or an own one, answered 0
 abbrev pub took : Call → ℕ → Bool
-took (Open l) n = false
-took (Close l) n = false
-took (Message l clock own m out a) n = eqb (kindOf m) 0x80 && eqb n 0
+took (Open k) n = false
+took (Close k) n = false
+took (Message k clock own m out a) n = eqb (kindOf m) 0x80 && eqb n 0
 took (Ask number text out a) n = eqb n 0
 
--- the number and the asker that it brought
+-- the number that it brought, and the asker: its line, or here
 abbrev pub broughtNumber : Call → Number
-broughtNumber (Open l) = record { lo = 0; hi = 0 }
-broughtNumber (Close l) = record { lo = 0; hi = 0 }
-broughtNumber (Message l clock own m out a) = numberIn m
+broughtNumber (Open k) = record { lo = 0; hi = 0 }
+broughtNumber (Close k) = record { lo = 0; hi = 0 }
+broughtNumber (Message k clock own m out a) = numberIn m
 broughtNumber (Ask number text out a) = numberIn number
 
 abbrev pub broughtBy : Call → ℕ
-broughtBy (Open l) = here
-broughtBy (Close l) = here
-broughtBy (Message l clock own m out a) = l
+broughtBy (Open k) = here
+broughtBy (Close k) = here
+broughtBy (Message k clock own m out a) = k
 broughtBy (Ask number text out a) = here
 
--- a call that closed line l
+-- one that opened line l, one that closed it
+abbrev pub opened : Call → ℕ → ℕ → Bool
+opened (Open k) n l = eqb l k && eqb n 0
+opened (Close k) n l = false
+opened (Message k clock own m out a) n l = false
+opened (Ask number text out a) n l = false
+
 abbrev pub closed : Call → ℕ → ℕ → Bool
 closed (Open k) n l = false
-closed (Close k) n l = eqb k l && eqb n 0
+closed (Close k) n l = eqb l k && eqb n 0
 closed (Message k clock own m out a) n l = false
 closed (Ask number text out a) n l = false
 
--- where a query came from, read off the log alone: not among the last taken; here; a line that has not closed since; a line that has
+-- how often line l was opened
+abbrev pub openings : ℕ → List Made → ℕ
+openings l [] = 0
+openings l (d ∷ ds) = cond (opened (d .call) (d .outcome .answer) l) (suc (openings l ds)) (openings l ds)
+
+-- a taken query: its number, its asker as it was taken, whether that line has closed since, and how often it had been opened before
+pub record Past : Type 0 where
+  pub number : Number
+  pub asker : ℕ
+  pub shut : Bool
+  pub opening : ℕ
+
+abbrev pub past : (ℕ → Bool) → Number → ℕ → ℕ → Past
+past shut x who n = record { number = x; asker = who; shut = shut who; opening = n }
+
+-- all queries that were taken, the newest first, then those remembered before the log began; `shut` says which lines have closed since
+unfoldable pub allTaken : (ℕ → Bool) → List Made → List Query → List Past
+allTaken shut [] base = map (λ q. past shut (q .number) (q .asker) 0) base
+allTaken shut (d ∷ ds) base =
+    cond (took (d .call) (d .outcome .answer))
+    (past shut (broughtNumber (d .call)) (broughtBy (d .call)) (openings (broughtBy (d .call)) ds) ∷ allTaken shut ds base)
+    (allTaken (λ l. shut l || closed (d .call) (d .outcome .answer) l) ds base)
+
+-- the last 512 of them
+abbrev pub lastTaken : List Made → List Query → List Past
+lastTaken log base = take capacity (allTaken (λ l. false) log base)
+
+-- numbers are the same exactly if their 16 bytes are
+abbrev pub SameBytes : Type 0
+SameBytes =
+    (a b : List ℕ)
+    → all (λ x. ltb x 256) a ≡ true
+    → all (λ x. ltb x 256) b ≡ true
+    → 16 ≤ length a
+    → 16 ≤ length b
+    → (sameNumber (numberIn a) (numberIn b) ≡ true) ↔ (numberOf a ≡ numberOf b)
+
+-- where a query came from: not among the last 512; here; a line that has not closed since, in its opening of this count; one that has
 pub data Origin : Type 0 where
   Unknown : Origin
   Here : Origin
-  From : (line : ℕ) → Origin
+  From : (line opening : ℕ) → Origin
   Gone : Origin
 
 abbrev pub pickOrigin : Bool → Origin → Origin → Origin
 pickOrigin true a b = a
 pickOrigin false a b = b
 
--- an asker, where `shut` says which lines have closed since
-abbrev pub originOf : (ℕ → Bool) → ℕ → Origin
-originOf shut a = pickOrigin (eqb a here) Here (pickOrigin (eqb a gone || shut a) Gone (From a))
+abbrev pub originOf : Past → Origin
+originOf p = pickOrigin (eqb (p .asker) here) Here (pickOrigin (eqb (p .asker) gone || p .shut) Gone (From (p .asker) (p .opening)))
 
--- among the n newest of the queries remembered at the start
-abbrev pub fromStart : ℕ → (ℕ → Bool) → List Query → Number → Origin
-fromStart n shut [] x = Unknown
-fromStart zero shut (q ∷ qs) x = Unknown
-fromStart (suc n) shut (q ∷ qs) x = pickOrigin (sameNumber (q .number) x) (originOf shut (q .asker)) (fromStart n shut qs x)
-
--- among the n newest: the log has the newest first, and the queries remembered at the start are older than all of it
-unfoldable pub originIn : ℕ → (ℕ → Bool) → List Made → List Query → Number → Origin
-originIn n shut [] base x = fromStart n shut base x
-originIn zero shut (d ∷ ds) base x = Unknown
-originIn (suc n) shut (d ∷ ds) base x =
-    pickOrigin (took (d .call) (d .outcome .answer))
-    (pickOrigin (sameNumber (broughtNumber (d .call)) x) (originOf shut (broughtBy (d .call))) (originIn n shut ds base x))
-    (originIn (suc n) (λ l. shut l || closed (d .call) (d .outcome .answer) l) ds base x)
+abbrev pub lookUp : List Past → Number → Origin
+lookUp [] x = Unknown
+lookUp (p ∷ ps) x = pickOrigin (sameNumber (p .number) x) (originOf p) (lookUp ps x)
 
 abbrev pub origin : List Made → List Query → Number → Origin
-origin log base x = originIn capacity (λ l. false) log base x
+origin log base x = lookUp (lastTaken log base) x
 
--- what a hit with TTL 1 or more and a whole payload is answered, by where its query came from
-abbrev pub HitBy : Origin → Station → List ℕ → Outcome → Type 0
-HitBy Unknown s m o = o .answer ≡ 10
-HitBy Gone s m o = o .answer ≡ 11
-HitBy Here s m o = (o .answer ≡ 0) × (o .delivered ≡ true) × (o .to ≡ nobody) × (o .sent ≡ [])
-HitBy (From l) s m o =
-    (lineAt s l .live ≡ true)
+-- What stands in a state is this history: the remembered queries are the last 512 taken, the newest first, each with its asker now
+abbrev pub askerNow : Origin → ℕ
+askerNow Unknown = 10
+askerNow Here = here
+askerNow (From l n) = l
+askerNow Gone = gone
+
+abbrev pub standing : Past → Query
+standing p = record { number = p .number; asker = askerNow (originOf p) }
+
+pub record MemoryIs (s : Station) (log : List Made) (base : List Query) : Type 0 where
+  pub last : remembered s ≡ map standing (lastTaken log base)
+  pub once : noTwice (map standing (lastTaken log base)) ≡ true
+
+abbrev pub MemoryHistory : Type 0
+MemoryHistory =
+    (s : Station) (area : List ℕ) (cs : List Call)
+    → Sized s
+    → inOrder s ≡ true
+    → MemoryIs (run (start s area) cs .state) (run (start s area) cs .log) (remembered s)
+
+-- Queries. The areas that are lent fit the state
+pub record Areas (s : Station) (out : ℕ) (route : List ℕ) : Type 0 where
+  pub output : 4119 ≤ out
+  pub long : 32 ≤ length route
+  pub room : length route / 8 ≡ s .room
+
+-- an arriving query that only its number can refuse, and such an own query
+pub record Acceptable (s : Station) (l : ℕ) (m : List ℕ) (out : ℕ) (route : List ℕ) : Type 0 where
+  pub areas : Areas s out route
+  pub line : l ≤ 7
+  pub live : lineAt s l .live ≡ true
+  pub size : sizeOf m ≤ 4096
+  pub whole : 23 + sizeOf m ≤ length m
+  pub text : any (eqb 0) (drop 2 (payloadOf m)) ≡ true
+  pub ttl : 1 ≤ ttlOf m
+  pub ttl15 : ttlOf m ≤ 15
+  pub hops : hopsOf m < 7
+
+pub record OwnAcceptable (s : Station) (text : List ℕ) (out : ℕ) (route : List ℕ) : Type 0 where
+  pub areas : Areas s out route
+  pub size : length text ≤ 4093
+  pub noZero : any (eqb 0) text ≡ false
+
+-- it is taken exactly if its number is not among the last 512, and is a repeat exactly if it is
+pub record Answered (acceptable : Type 0) (from : Origin) (o : Outcome) : Type 0 where
+  pub taken : (o .answer ≡ 0) ↔ (acceptable × (from ≡ Unknown))
+  pub repeats : (o .answer ≡ 9) ↔ (acceptable × (from ≡ Unknown → ⊥))
+
+-- a taken one goes, written once, to exactly the lines that are open, others than its own, with life 2 or more, that do not withhold it; it
+-- is offered to the local search, and an own one is not
+pub record QueryTo (s : Station) (route : List ℕ) (l : ℕ) (m : List ℕ) (o : Outcome) : Type 0 where
+  pub eight : length (o .to) ≡ 8
+  pub to : (k : ℕ) → k < 8
+      → (getD (o .to) k false ≡ true)
+      ↔ ((lineAt s k .live ≡ true)
+      × (k ≡ l → ⊥)
+      × (2 ≤ lifeLeft m)
+      × (withholds (heldAt s k route) (keywordsOf (textIn (payloadOf m))) (lifeLeft m - 1) ≡ false))
+  pub sent : o .sent ≡ writtenFor (o .to) (message (numberOf m) 0x80 (lifeLeft m - 1) (hopsOf m + 1) (payloadOf m))
+  pub search : (o .search ≡ true) × (o .textat ≡ 25) × (o .textlen ≡ length (textIn (payloadOf m)))
+  pub lines : o .state .lines ≡ s .lines
+
+pub record OwnTo (s : Station) (route number text : List ℕ) (o : Outcome) : Type 0 where
+  pub eight : length (o .to) ≡ 8
+  pub to : (k : ℕ) → k < 8
+      → (getD (o .to) k false ≡ true) ↔ ((lineAt s k .live ≡ true) × (withholds (heldAt s k route) (keywordsOf text) 7 ≡ false))
+  pub sent : o .sent ≡ writtenFor (o .to) (message number 0x80 7 0 (ownPayload text))
+  pub search : o .search ≡ false
+  pub lines : o .state .lines ≡ s .lines
+
+-- Hits. What one with TTL 1 or more and 27 bytes of payload is answered, by where its query came from. It goes back over a line that is
+-- open, and that has been since the query came: it has been opened as often now as it had been then
+abbrev pub HitBy : Origin → World → List ℕ → Outcome → Type 0
+HitBy Unknown w m o = o .answer ≡ 10
+HitBy Gone w m o = o .answer ≡ 11
+HitBy Here w m o = (o .answer ≡ 0) × (o .delivered ≡ true) × (o .to ≡ nobody) × (o .sent ≡ [])
+HitBy (From l n) w m o =
+    (l ≤ 7)
+    × (lineAt (w .state) l .live ≡ true)
+    × (openings l (w .log) ≡ n)
     × (ttlOf m ≡ 1 → o .answer ≡ 8)
     × (2 ≤ ttlOf m → hopsOf m ≡ 255 → o .answer ≡ 12)
     × (2 ≤ ttlOf m → (hopsOf m ≡ 255 → ⊥)
     → (o .answer ≡ 0) × (o .delivered ≡ false) × (o .to ≡ onlyTo l)
     × (o .sent ≡ message (numberOf m) 0x81 (ttlOf m - 1) (hopsOf m + 1) (payloadOf m)))
 
--- an arriving query that is taken goes to exactly the lines that are open, others than its own, with life 2 or more, and do not withhold it
-abbrev pub QueryTo : Station → List ℕ → ℕ → List ℕ → Outcome → Type 0
-QueryTo s route l m o =
-    (k : ℕ) → k < 8
-    → (getD (o .to) k false ≡ true)
-    ↔ ((lineAt s k .live ≡ true)
-    × (k ≡ l → ⊥)
-    × (2 ≤ min (ttlOf m) (7 - hopsOf m))
-    × (withholds (heldAt s k route) (keywordsOf (textIn (payloadOf m))) (min (ttlOf m) (7 - hopsOf m) - 1) ≡ false))
+pub record HitRouted (from : Origin) (w : World) (m : List ℕ) (o : Outcome) : Type 0 where
+  pub short : sizeOf m < 27 → o .answer ≡ 6
+  pub spent : 27 ≤ sizeOf m → ttlOf m ≡ 0 → o .answer ≡ 8
+  pub by : 27 ≤ sizeOf m → 1 ≤ ttlOf m → HitBy from w m o
 
-abbrev pub OwnTo : Station → List ℕ → List ℕ → Outcome → Type 0
-OwnTo s route text o =
-    (k : ℕ) → k < 8
-    → (getD (o .to) k false ≡ true) ↔ ((lineAt s k .live ≡ true) × (withholds (heldAt s k route) (keywordsOf text) 7 ≡ false))
+-- Bytes that are messages of one type, one after the other
+pub record Part : Type 0 where
+  pub number : List ℕ
+  pub ttl : ℕ
+  pub hops : ℕ
+  pub payload : List ℕ
 
--- a call of a list, with the world before it and the queries remembered at the start of the list
+abbrev pub written : ℕ → List Part → List ℕ
+written kind [] = []
+written kind (p ∷ ps) = message (p .number) kind (p .ttl) (p .hops) (p .payload) ++ written kind ps
+
+abbrev pub Writes : ℕ → List ℕ → Type 0
+Writes kind bytes = (ps : List Part) × (bytes ≡ written kind ps)
+
+-- no hit is written or delivered, but pongs or a query may be
+pub record NoHit (o : Outcome) : Type 0 where
+  pub sent : Writes 0x01 (o .sent) ⊎ Writes 0x80 (o .sent)
+  pub delivered : o .delivered ≡ false
+
+-- nothing is sent or delivered
+pub record Silent (o : Outcome) : Type 0 where
+  pub to : o .to ≡ nobody
+  pub sent : o .sent ≡ []
+  pub delivered : o .delivered ≡ false
+
+-- One call, with the world before it and the queries remembered before its log began
+pub record MessageRouted (base : List Query) (w : World) (l : ℕ) (m : List ℕ) (out : ℕ) (route : List ℕ) (o : Outcome) : Type 0 where
+  pub query : kindOf m ≡ 0x80 → Answered (Acceptable (w .state) l m out route) (origin (w .log) base (numberIn m)) o
+  pub goes : kindOf m ≡ 0x80 → o .answer ≡ 0 → QueryTo (w .state) route l m o
+  pub hit : kindOf m ≡ 0x81 → unsent (o .answer) ≡ false → HitRouted (origin (w .log) base (numberIn m)) w m o
+  pub others : (kindOf m ≡ 0x81 → ⊥) → NoHit o
+  pub refused : (o .answer ≡ 0 → ⊥) → Silent o
+
+pub record AskRouted (base : List Query) (w : World) (number text : List ℕ) (out : ℕ) (route : List ℕ) (o : Outcome) : Type 0 where
+  pub query : Answered (OwnAcceptable (w .state) text out route) (origin (w .log) base (numberIn number)) o
+  pub goes : o .answer ≡ 0 → OwnTo (w .state) route number text o
+  pub others : NoHit o
+  pub refused : (o .answer ≡ 0 → ⊥) → Silent o
+
 abbrev pub Routed : List Query → World → Call → Outcome → Type 0
-Routed base w (Open l) o = o .sent ≡ []
-Routed base w (Close l) o = o .sent ≡ []
-Routed base w (Message l clock own m out a) o =
-    (kindOf m ≡ 0x80 → o .answer ≡ 0
-    → QueryTo (w .state) (lent a (w .area)) l m o × (origin (w .log) base (numberIn m) ≡ Unknown))
-    × (kindOf m ≡ 0x80 → o .answer ≡ 9 → origin (w .log) base (numberIn m) ≡ Unknown → ⊥)
-    × (kindOf m ≡ 0x81 → unsent (o .answer) ≡ false → 27 ≤ sizeOf m → 1 ≤ ttlOf m
-    → HitBy (origin (w .log) base (numberIn m)) (w .state) m o)
-    × (kindOf (o .sent) ≡ 0x81 → kindOf m ≡ 0x81)
-Routed base w (Ask number text out a) o =
-    (o .answer ≡ 0 → OwnTo (w .state) (lent a (w .area)) text o × (origin (w .log) base (numberIn number) ≡ Unknown))
-    × (o .answer ≡ 9 → origin (w .log) base (numberIn number) ≡ Unknown → ⊥)
-    × (kindOf (o .sent) ≡ 0x81 → ⊥)
+Routed base w (Open l) o = Silent o
+Routed base w (Close l) o = Silent o
+Routed base w (Message l clock own m out a) o = MessageRouted base w l m out (lent a (w .area)) o
+Routed base w (Ask number text out a) o = AskRouted base w number text out (lent a (w .area)) o
 
--- every call of a list, in turn
+-- Every call of a list, in turn
 abbrev pub AllRouted : List Query → World → List Call → Type 0
 AllRouted base w [] = Unit {0}
 AllRouted base w (c ∷ cs) = Routed base w c (outcomeOf w c) × AllRouted base (step w c) cs
@@ -132,9 +260,45 @@ AllRouted base w (c ∷ cs) = Routed base w c (outcomeOf w c) × AllRouted base 
 abbrev pub Demand2 : Type 0
 Demand2 =
     (s : Station) (area : List ℕ) (cs : List Call)
-    → length (s .lines) ≡ 8
-    → length (s .lo) ≡ capacity
-    → length (s .hi) ≡ capacity
-    → length (s .asker) ≡ capacity
+    → Sized s
     → inOrder s ≡ true
     → AllRouted (remembered s) (start s area) cs
+
+-- Gone stays gone: after any list, no later list makes a line or here of it; it only leaves, as one among the last 512 no more
+abbrev pub GoneForever : Type 0
+GoneForever =
+    (s : Station) (area : List ℕ) (cs later : List Call) (x : Number)
+    → Sized s
+    → inOrder s ≡ true
+    → origin (run (start s area) cs .log) (remembered s) x ≡ Gone
+    → (origin (run (run (start s area) cs) later .log) (remembered s) x ≡ Gone)
+    ⊎ ((ps qs : List Call) × (later ≡ ps ++ qs) × (origin (run (run (start s area) cs) ps .log) (remembered s) x ≡ Unknown))
+
+-- With the log laid open, from a fresh state: where a hit goes to line l, that line is open and some call of the log took a query with its
+-- number by it; since then fewer than 512 were taken, the line was not closed, and it has been opened as often now as it had been then
+abbrev pub takenIn : List Made → ℕ
+takenIn [] = 0
+takenIn (d ∷ ds) = cond (took (d .call) (d .outcome .answer)) (suc (takenIn ds)) (takenIn ds)
+
+pub record Brought (n : ℕ) (log : List Made) (x : Number) (l opening : ℕ) : Type 0 where
+  pub newer : List Made
+  pub taking : Made
+  pub older : List Made
+  pub split : log ≡ newer ++ (taking ∷ older)
+  pub taken : took (taking .call) (taking .outcome .answer) ≡ true
+  pub number : broughtNumber (taking .call) ≡ x
+  pub by : broughtBy (taking .call) ≡ l
+  pub among : takenIn newer < n
+  pub unclosed : any (λ d. closed (d .call) (d .outcome .answer) l) newer ≡ false
+  pub before : openings l older ≡ opening
+
+abbrev pub BackOnly : World → Type 0
+BackOnly w =
+    (l clock : ℕ) (own : Own) (m : List ℕ) (out : ℕ) (a : Area) (k : ℕ)
+    → kindOf m ≡ 0x81
+    → k < 8
+    → getD (outcomeOf w (Message l clock own m out a) .to) k false ≡ true
+    → (lineAt (w .state) k .live ≡ true) × Brought 512 (w .log) (numberIn m) k (openings k (w .log))
+
+abbrev pub AnswersBack : Type 0
+AnswersBack = (n : ℕ) (area : List ℕ) (cs : List Call) → BackOnly (run (start (fresh n .state) area) cs)

@@ -14,3 +14,4 @@ pub mod Demand3
 pub mod Demand2
 pub mod Periods
 pub mod Kept
+pub mod Blind

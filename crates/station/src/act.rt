@@ -33,7 +33,7 @@ const QUERY: u8 = 0x80;
 const HIT: u8 = 0x81;
 
 // The query that has the message's number.
-pub fn look<'a>(
+pub(crate) fn look<'a>(
     lo: &'a [u64; 512],
     hi: &'a [u64; 512],
     asker: &'a [u8; 512],
@@ -50,7 +50,7 @@ pub fn look<'a>(
 }
 
 // `early` is the first refusal, 0 for none; then the message is whole and its line open. The other lines' records are only read.
-pub fn act<'a>(
+pub(crate) fn act<'a>(
     early: u8,
     lo: &'a [u64; 512],
     hi: &'a [u64; 512],

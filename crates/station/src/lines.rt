@@ -5,7 +5,7 @@ use protocol::Line;
 use tables::Table;
 
 // For each line whether it is open.
-pub fn lives(lines: [Line; 8]) -> [bool; 8]
+pub(crate) fn lives(lines: [Line; 8]) -> [bool; 8]
     ensures { λ r. ⌜ r ≡ livesIn lines ⌝ }
 {
     [
@@ -27,7 +27,7 @@ fn table_of(x: Line) -> Table
 }
 
 // The tables of the lines.
-pub fn tables_of(lines: [Line; 8]) -> [Table; 8]
+pub(crate) fn tables_of(lines: [Line; 8]) -> [Table; 8]
     ensures { λ r. ⌜ r ≡ tablesIn lines ⌝ }
 {
     let a = table_of(lines[0]);

@@ -15,13 +15,13 @@ fn little8(b: &[u8]) -> u64
     low + 4294967296 * high
 }
 
-pub fn low_half(m: &[u8]) -> u64
+pub(crate) fn low_half(m: &[u8]) -> u64
     ensures { λ r. ⌜ r ≡ little (take 8 (now (m .entry))) ⌝ }
 {
     little8(m)
 }
 
-pub fn high_half(m: &[u8]) -> u64
+pub(crate) fn high_half(m: &[u8]) -> u64
     ensures { λ r. ⌜ r ≡ little (take 8 (drop 8 (now (m .entry)))) ⌝ }
 {
     if m.len() < 8 {

@@ -57,7 +57,7 @@ fn back_to(written: usize, l: u32) -> [bool; 8]
 }
 
 // A ping, with the eight lines whose stored pongs may answer it.
-pub fn ping_step(
+pub(crate) fn ping_step(
     lines: [Line; 8],
     l: u32,
     x: Line,
@@ -95,7 +95,7 @@ pub fn ping_step(
 }
 
 // A pong of which the payload is handed on.
-pub fn pong_step(x: Line, clock: u32, size: u32, m: &[u8]) -> Acted
+pub(crate) fn pong_step(x: Line, clock: u32, size: u32, m: &[u8]) -> Acted
     requires { ⌜ (size ≡ sizeOf (now m)) × (23 + size ≤ length (now m)) ⌝ }
     ensures { λ r. ⌜ r ≡ pongActed x (pongNumber size (ttlOf (now (m .entry))) (hopsOf (now (m .entry)))) (hopsOf (now (m .entry))) clock (payloadOf (now (m .entry))) ⌝ }
 {

@@ -55,7 +55,7 @@ fn pass_if(some: bool, m: &[u8], n: usize, ttl: u8, hops: u8, out: &mut [u8]) ->
 }
 
 // A query, given whether its number is remembered.
-pub fn query_step(
+pub(crate) fn query_step(
     room: usize,
     lines: [Line; 8],
     l: usize,

@@ -17,7 +17,7 @@ fn byte_if(taken: bool, byte: u8, old: u8) -> u8
     if taken { byte } else { old }
 }
 
-pub fn keep_word(words: &mut [u64; 512], next: usize, taken: bool, word: u64)
+pub(crate) fn keep_word(words: &mut [u64; 512], next: usize, taken: bool, word: u64)
     ensures { λ _. ⌜ now (words .exit) ≡ set (now (words .entry)) (next % 512) (cond taken word (getD (now (words .entry)) (next % 512) 0)) ⌝ }
 {
     let p = next % 512;
@@ -25,7 +25,7 @@ pub fn keep_word(words: &mut [u64; 512], next: usize, taken: bool, word: u64)
     words[p] = v;
 }
 
-pub fn keep_byte(bytes: &mut [u8; 512], next: usize, taken: bool, byte: u8)
+pub(crate) fn keep_byte(bytes: &mut [u8; 512], next: usize, taken: bool, byte: u8)
     ensures { λ _. ⌜ now (bytes .exit) ≡ set (now (bytes .entry)) (next % 512) (cond taken byte (getD (now (bytes .entry)) (next % 512) 0)) ⌝ }
 {
     let p = next % 512;
@@ -34,7 +34,7 @@ pub fn keep_byte(bytes: &mut [u8; 512], next: usize, taken: bool, byte: u8)
 }
 
 // One more is remembered, up to 512.
-pub fn count_after(taken: bool, count: usize) -> usize
+pub(crate) fn count_after(taken: bool, count: usize) -> usize
     ensures { λ r. ⌜ r ≡ cond taken (min 512 (count + 1)) count ⌝ }
 {
     if !taken {
@@ -47,7 +47,7 @@ pub fn count_after(taken: bool, count: usize) -> usize
 }
 
 // The ring's next place.
-pub fn next_after(taken: bool, next: usize) -> usize
+pub(crate) fn next_after(taken: bool, next: usize) -> usize
     ensures { λ r. ⌜ r ≡ cond taken (onward 512 next) next ⌝ }
 {
     if !taken {

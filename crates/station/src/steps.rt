@@ -13,7 +13,7 @@ use crate::acted::quietly;
 use protocol::Line;
 
 // An update, on the part of the route area that belongs to the line.
-pub fn update_step(
+pub(crate) fn update_step(
     room: usize,
     l: usize,
     x: Line,
@@ -37,7 +37,14 @@ pub fn update_step(
 }
 
 // A hit, given whether its query is remembered and who asked: delivered here, or passed back to the asker's line.
-pub fn hit_step(x: Line, found: bool, asker: u8, size: u32, m: &[u8], out: &mut [u8]) -> Acted
+pub(crate) fn hit_step(
+    x: Line,
+    found: bool,
+    asker: u8,
+    size: u32,
+    m: &[u8],
+    out: &mut [u8],
+) -> Acted
     requires { ⌜ (size ≡ sizeOf (now m)) × (23 + size ≤ length (now m)) × (23 + size ≤ length (now out)) × (kindOf (now m) ≡ 0x81) ⌝ }
     ensures acted { λ r. ⌜ r ≡ hitActed x (hitNumber size (ttlOf (now (m .entry))) (hopsOf (now (m .entry))) found asker) asker size ⌝ }
     ensures output { λ _. ⌜ now (out .exit) ≡ over 0 (hitSent (hitNumber size (ttlOf (now (m .entry))) (hopsOf (now (m .entry))) found asker) asker (hitOn (now (m .entry)))) (now (out .entry)) ⌝ }

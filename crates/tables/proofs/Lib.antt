@@ -4,6 +4,9 @@ pub mod FieldLaws
 pub mod TurnLaws
 pub mod UpdateLaws
 pub mod AdmissionLaws
+pub mod AnswerLaws
+pub mod OrderLaws
 pub mod KeepLaws
+pub mod BoundLaws
 pub mod Vectors
 pub mod PatchFacts

@@ -188,6 +188,13 @@ added-length bits [] es = refl
 added-length bits (v ∷ vs) [] = refl
 added-length bits (v ∷ vs) (e ∷ es) = ap suc (added-length bits vs es)
 
+-- entries past the numbers stay
+pub added-behind : (bits : ℕ) (vs es : List ℕ) → drop (length vs) (added bits vs es) ≡ drop (length vs) es
+unfolding added
+added-behind bits [] es = refl
+added-behind bits (v ∷ vs) [] = refl
+added-behind bits (v ∷ vs) (e ∷ es) = added-behind bits vs es
+
 -- numbers that fit below an Infinity fit below a larger one
 pub fit-wider : (bits low high : ℕ) (vs es : List ℕ) → low ≤ high → allFit bits low vs es ≡ true → allFit bits high vs es ≡ true
 unfolding allFit

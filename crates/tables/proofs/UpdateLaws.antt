@@ -1,7 +1,7 @@
 -- Laws of an update as a whole: what it does where it is refused, and where it is taken.
 use Prim.Native.Nat.{ℕ, _-_, _≤_, min}
 use mathlib.Core.Path.{_≡_, refl, sym, _∙_}
-use mathlib.Core.Bool.{Bool, true, false, not, _&&_, and-false, or-false}
+use mathlib.Core.Bool.{Bool, true, false, not, and-false, or-false}
 use mathlib.Core.List.{List, [], _∷_}
 use native.Mathlib.Omega.{arith}
 use lib.Dec.{eqb, leb}
@@ -16,7 +16,7 @@ use Rattle.tables.specs.declared.Table.{Table}
 use Rattle.tables.specs.declared.Updated.{Updated}
 use Rattle.tables.specs.Patch.{numbers, added, allFit}
 use Rattle.tables.specs.Tables.{Held, heldIn, atRest, waiting}
-use Rattle.tables.specs.Updates.{lengthIn, infinityIn, bitsIn, numbersIn, resetTests, goodReset, goodPatch, inTurn, inRange, resetAnswer, resetHeld, resetBy, patchAnswer, patchedHeld, patchBy, movedOn, updateAnswer, updated, brokenBy, refusedBy, answered, partWith}
+use Rattle.tables.specs.Updates.{lengthIn, infinityIn, bitsIn, numbersIn, resetTests, isPatch, goodReset, goodPatch, inTurn, inRange, resetAnswer, resetHeld, resetBy, patchAnswer, patchedHeld, patchBy, movedOn, updateAnswer, updated, brokenBy, refusedBy, answered, partWith}
 use Rattle.tables.proofs.TestLaws.{every-true}
 use Rattle.tables.proofs.NumberLaws.{added-length, fit-wider}
 use Rattle.tables.proofs.TurnLaws.{turn-within, lent-entries, lent-range}
@@ -115,48 +115,68 @@ lent-fit t p part end e i r =
 
 -- an update is a RESET or a PATCH by itself, once its TTL and Hops are allowed
 module _ (room : ℕ) (h : Held) (p : List ℕ) where
-  pub no-reset : getD p 0 0 ≡ 1 → goodReset room p ≡ false
+  pub no-reset : isPatch p ≡ true → goodReset room p ≡ false
   unfolding goodReset
-  no-reset e = rw e (and-false (eqb (length p) 6))
+  no-reset e = rw (eqb-true (getD p 0 0) 1 e) (and-false (eqb (length p) 6))
 
-  pub no-patch : (getD p 0 0 ≡ 1 → ⊥) → goodPatch p ≡ false
+  pub no-patch : isPatch p ≡ false → goodPatch p ≡ false
   unfolding goodPatch
-  no-patch e = rw (ne-eqb (getD p 0 0) 1 e) (and-false (leb 5 (length p)))
+  no-patch e = rw e (and-false (leb 5 (length p)))
 
-  pub patch-answer-alone : getD p 0 0 ≡ 1 → updateAnswer room h 1 0 p ≡ patchAnswer h p
+  patch-answer-alone : isPatch p ≡ true → updateAnswer room h 1 0 p ≡ patchAnswer h p
   unfolding updateAnswer
   patch-answer-alone e = rw (no-reset e, e)
 
-  pub patch-alone : getD p 0 0 ≡ 1 → updated room h 1 0 p ≡ patchedHeld h p
+  patch-alone : isPatch p ≡ true → updated room h 1 0 p ≡ patchedHeld h p
   unfolding updated patchedHeld
   patch-alone e = rw (patch-answer-alone e, e)
 
-  pub reset-answer-alone : (getD p 0 0 ≡ 1 → ⊥) → updateAnswer room h 1 0 p ≡ resetAnswer room p
+  reset-answer-alone : isPatch p ≡ false → updateAnswer room h 1 0 p ≡ resetAnswer room p
   unfolding updateAnswer
-  reset-answer-alone e = rw (no-patch e, or-false, ne-eqb (getD p 0 0) 1 e)
+  reset-answer-alone e = rw (no-patch e, or-false, e)
 
-  pub reset-alone : (getD p 0 0 ≡ 1 → ⊥) → updated room h 1 0 p ≡ resetHeld room h p
+  reset-alone : isPatch p ≡ false → updated room h 1 0 p ≡ resetHeld room h p
   unfolding updated resetHeld
-  reset-alone e = rw (reset-answer-alone e, ne-eqb (getD p 0 0) 1 e)
+  reset-alone e = rw (reset-answer-alone e, e)
 
-  pub bad-ttl : (ttl hops : ℕ) → (ttl ≡ 1 → ⊥) → updateAnswer room h ttl hops p ≡ 14
+module _ (t : Table) (p part : List ℕ) (ttl hops : ℕ) where
+  abbrev h : Held
+  h = heldIn t part
+
+  abbrev n : ℕ
+  n = updateAnswer (length part) h ttl hops p
+
+  abbrev u : Held
+  u = updated (length part) h ttl hops p
+
+  refused-by : n ≡ 14 → Done part n u (refusedBy 14 t) part
+  unfolding updated
+  refused-by e = rw e (done-refused t part 14)
+
+  fourteen-ttl : (ttl ≡ 1 → ⊥) → n ≡ 14
   unfolding updateAnswer
-  bad-ttl ttl hops e = rw (ne-eqb ttl 1 e)
+  fourteen-ttl e = rw (ne-eqb ttl 1 e)
 
-  pub bad-hops : (ttl hops : ℕ) → (hops ≡ 0 → ⊥) → updateAnswer room h ttl hops p ≡ 14
+  fourteen-hops : (hops ≡ 0 → ⊥) → n ≡ 14
   unfolding updateAnswer
-  bad-hops ttl hops e = rw (ne-eqb hops 0 e, and-false (eqb ttl 1))
+  fourteen-hops e = rw (ne-eqb hops 0 e, and-false (eqb ttl 1))
 
-pub update-refused : (t : Table) (p part : List ℕ) (ttl hops : ℕ) → updateAnswer (length part) (heldIn t part) ttl hops p ≡ 14
-    → Done part (updateAnswer (length part) (heldIn t part) ttl hops p) (updated (length part) (heldIn t part) ttl hops p) (refusedBy 14 t) part
-unfolding updated
-update-refused t p part ttl hops e = rw e (done-refused t part 14)
+  pub bad-ttl : (ttl ≡ 1 → ⊥) → Done part n u (refusedBy 14 t) part
+  bad-ttl e = refused-by (fourteen-ttl e)
 
-pub no-payload : (room : ℕ) (h : Held) (p : List ℕ) (ttl hops : ℕ) → length p ≡ 0 → updateAnswer room h ttl hops p ≡ 14
-unfolding updateAnswer goodReset goodPatch
-no-payload room h [] ttl hops e = by (eqb ttl 1 && eqb hops 0)
-  where
-    by : (a : Bool) → firstOf ((not a, 14) ∷ (true, 14) ∷ (false, 15) ∷ (false, 16) ∷ []) ≡ 14
-    by true = refl
-    by false = refl
-no-payload room h (b ∷ p) ttl hops e = absurd (omega arith)
+  pub bad-hops : (hops ≡ 0 → ⊥) → Done part n u (refusedBy 14 t) part
+  bad-hops e = refused-by (fourteen-hops e)
+
+  pub by-patch : ttl ≡ 1 → hops ≡ 0 → isPatch p ≡ true → (r : Updated) (left : List ℕ)
+      → (r ≡ answered (patchAnswer h p) (patchedHeld h p)) × (left ≡ partWith (patchedHeld h p) part)
+      → Done part n u r left
+  by-patch a b e r left w =
+      rw (a, b, patch-answer-alone (length part) h p e, patch-alone (length part) h p e)
+      (record { result = w .0; entries = w .1 })
+
+  pub by-reset : ttl ≡ 1 → hops ≡ 0 → isPatch p ≡ false → (r : Updated) (left : List ℕ)
+      → (r ≡ answered (resetAnswer (length part) p) (resetHeld (length part) h p)) × (left ≡ partWith (resetHeld (length part) h p) part)
+      → Done part n u r left
+  by-reset a b e r left w =
+      rw (a, b, reset-answer-alone (length part) h p e, reset-alone (length part) h p e)
+      (record { result = w .0; entries = w .1 })

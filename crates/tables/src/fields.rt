@@ -6,7 +6,7 @@ ghost use lib.Dec.{eqb, leb};
 ghost use lib.ListN.{length};
 ghost use Rattle.tables.specs.Patch.{goodBits};
 ghost use Rattle.tables.specs.Tables.{goodLength, goodInfinity, ready, running};
-ghost use Rattle.tables.specs.Updates.{lengthIn, goodReset, goodPatch};
+ghost use Rattle.tables.specs.Updates.{isPatch, lengthIn, goodReset, goodPatch};
 use crate::RUNNING;
 use crate::SETTLED;
 use crate::WAITING;
@@ -112,6 +112,16 @@ fn wide(x: u8) -> u32
     ensures { λ r. ⌜ (r ≡ x) × (r < 256) ⌝ }
 {
     x as u32
+}
+
+// The update's variant is that of a PATCH.
+pub(crate) fn is_patch(payload: &[u8]) -> bool
+    ensures { λ r. ⌜ r ≡ isPatch (now (payload .entry)) ⌝ }
+{
+    if payload.len() == 0 {
+        return false;
+    }
+    payload[0] == 1
 }
 
 // The length that a RESET carries.

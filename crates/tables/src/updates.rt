@@ -12,6 +12,7 @@ use crate::Updated;
 use crate::WAITING;
 use crate::fields::entry_count;
 use crate::fields::good_reset;
+use crate::fields::is_patch;
 use crate::fields::length_in;
 use crate::numbers::add_all;
 use crate::turns::at_rest;
@@ -51,8 +52,14 @@ fn fill(part: &mut [u8], n: usize, v: u8)
 
 // A RESET, whatever its TTL and Hops: 14, or every entry is Infinity and the table waits for a run.
 pub fn reset(table: Table, payload: &[u8], part: &mut [u8]) -> Updated
-    ensures result { λ r. ⌜ r ≡ answered (resetAnswer (length (now (part .entry))) (now (payload .entry))) (resetHeld (length (now (part .entry))) (heldIn table (now (part .entry))) (now (payload .entry))) ⌝ }
-    ensures entries { λ _. ⌜ now (part .exit) ≡ partWith (resetHeld (length (now (part .entry))) (heldIn table (now (part .entry))) (now (payload .entry))) (now (part .entry)) ⌝ }
+    ensures result { λ r.
+        ⌜ r ≡ answered
+        (resetAnswer (length (now (part .entry))) (now (payload .entry)))
+        (resetHeld (length (now (part .entry))) (heldIn table (now (part .entry))) (now (payload .entry))) ⌝ }
+    ensures entries { λ _.
+        ⌜ now (part .exit) ≡ partWith
+        (resetHeld (length (now (part .entry))) (heldIn table (now (part .entry))) (now (payload .entry)))
+        (now (part .entry)) ⌝ }
 {
     if !good_reset(payload, part.len()) {
         return refused(14, table);
@@ -69,8 +76,14 @@ pub fn reset(table: Table, payload: &[u8], part: &mut [u8]) -> Updated
 
 // A PATCH, whatever its TTL and Hops: 14, 15 or 16, or its numbers are added to the entries that it covers.
 pub fn patch(table: Table, payload: &[u8], part: &mut [u8]) -> Updated
-    ensures result { λ r. ⌜ r ≡ answered (patchAnswer (heldIn table (now (part .entry))) (now (payload .entry))) (patchedHeld (heldIn table (now (part .entry))) (now (payload .entry))) ⌝ }
-    ensures entries { λ _. ⌜ now (part .exit) ≡ partWith (patchedHeld (heldIn table (now (part .entry))) (now (payload .entry))) (now (part .entry)) ⌝ }
+    ensures result { λ r.
+        ⌜ r ≡ answered
+        (patchAnswer (heldIn table (now (part .entry))) (now (payload .entry)))
+        (patchedHeld (heldIn table (now (part .entry))) (now (payload .entry))) ⌝ }
+    ensures entries { λ _.
+        ⌜ now (part .exit) ≡ partWith
+        (patchedHeld (heldIn table (now (part .entry))) (now (payload .entry)))
+        (now (part .entry)) ⌝ }
 {
     let answer = patch_answer(table, payload, part);
     if answer != 0 {
@@ -89,8 +102,14 @@ pub fn patch(table: Table, payload: &[u8], part: &mut [u8]) -> Updated
 
 // An update with its TTL and Hops.
 pub fn update(table: Table, ttl: u8, hops: u8, payload: &[u8], part: &mut [u8]) -> Updated
-    ensures result { λ r. ⌜ r ≡ answered (updateAnswer (length (now (part .entry))) (heldIn table (now (part .entry))) ttl hops (now (payload .entry))) (updated (length (now (part .entry))) (heldIn table (now (part .entry))) ttl hops (now (payload .entry))) ⌝ }
-    ensures entries { λ _. ⌜ now (part .exit) ≡ partWith (updated (length (now (part .entry))) (heldIn table (now (part .entry))) ttl hops (now (payload .entry))) (now (part .entry)) ⌝ }
+    ensures result { λ r.
+        ⌜ r ≡ answered
+        (updateAnswer (length (now (part .entry))) (heldIn table (now (part .entry))) ttl hops (now (payload .entry)))
+        (updated (length (now (part .entry))) (heldIn table (now (part .entry))) ttl hops (now (payload .entry))) ⌝ }
+    ensures entries { λ _.
+        ⌜ now (part .exit) ≡ partWith
+        (updated (length (now (part .entry))) (heldIn table (now (part .entry))) ttl hops (now (payload .entry)))
+        (now (part .entry)) ⌝ }
 {
     if ttl != 1 {
         return refused(14, table);
@@ -98,11 +117,7 @@ pub fn update(table: Table, ttl: u8, hops: u8, payload: &[u8], part: &mut [u8]) 
     if hops != 0 {
         return refused(14, table);
     }
-    if payload.len() == 0 {
-        return refused(14, table);
-    }
-    let variant = payload[0];
-    if variant == 1 {
+    if is_patch(payload) {
         return patch(table, payload, part);
     }
     reset(table, payload, part)

@@ -1,17 +1,17 @@
 -- The plan that a good call makes: its data, its messages and its room are those that the definitions name.
-use Prim.Native.Nat.{ℕ, _+_, _-_, _*_, _/_, _≤_, _<_}
-use mathlib.Core.Path.{_≡_, refl, sym, ap, ap₂, _∙_}
+use Prim.Native.Nat.{ℕ, _+_, _-_, _*_, _/_, _≤_}
+use mathlib.Core.Path.{_≡_, sym, ap, ap₂, _∙_}
 use mathlib.Core.Bool.{Bool, true, false, cond}
-use mathlib.Core.List.{List, [], _∷_, _++_}
+use mathlib.Core.List.{List, _++_}
 use native.Mathlib.Omega.{arith}
 use lib.ListN.{length}
 use Rattle.tables.specs.Patch.{packed}
 use Rattle.tablewriter.specs.declared.run.Plan.{Plan}
 use Rattle.tablewriter.specs.Writer.{baseOf, allNear, raws, dataOf, partsOf, runFrom, update, resetPayload, messagesOf, joined}
-use Rattle.tablewriter.specs.Steps.{Sound, Runs, Fits, dataLength, dataBy, leftOf, allBy, resetLength}
+use Rattle.tablewriter.specs.Steps.{Fits, dataLength, dataBy, leftOf, allBy, resetLength}
 use Rattle.tablewriter.proofs.DataLaws.{base-length, data-length}
 use Rattle.tablewriter.proofs.RunLaws.{parts-count, parts-joined, run-length}
-use Rattle.tablewriter.proofs.AnswerLaws.{Given}
+use Rattle.tablewriter.proofs.GoodLaws.{GoodCall, call-few}
 
 abbrev pub planOf : Bool → ℕ → Bool → ℕ → ℕ → Plan
 planOf had infinity small size count = record { had = had; infinity = infinity; small = small; size = size; count = count }
@@ -29,8 +29,12 @@ all-same false number old new infinity size small count s k =
     ++ joined (runFrom number 1 n (cond t 4 8) (partsOf size (packed (cond t 4 8) (raws (cond t 4 8) new (baseOf false old new infinity))))))
     s k
 
-module _ (number : List ℕ) (sixteen : length number ≡ 16) (had : Bool) (old new : List ℕ) (infinity size : ℕ) (g : Given had old new size)
+module _ (number : List ℕ) (sixteen : length number ≡ 16) (had : Bool) (old : List ℕ) (oldInfinity : ℕ) (new : List ℕ) (infinity size : ℕ)
+    (g : GoodCall had old oldInfinity new infinity size)
     (small : Bool) (s : small ≡ allNear new (baseOf had old new infinity)) where
+  few : length new ≤ 65536
+  few = call-few had old oldInfinity new infinity size g
+
   pub base-like : length (baseOf had old new infinity) ≡ length new
   base-like = base-length had old new infinity (g .like)
 
@@ -44,8 +48,8 @@ module _ (number : List ℕ) (sixteen : length number ≡ 16) (had : Bool) (old 
   data-few = go small
     where
       go : (t : Bool) → dataLength t (length new) ≤ 65536
-      go true = omega (arith, g .few)
-      go false = g .few
+      go true = omega (arith, few)
+      go false = few
 
   -- the count, as the code has it
   pub count-same : (d : ℕ) → d ≡ dataLength small (length new) → (d + size - 1) / size ≡ length (partsOf size (dataOf new (baseOf had old new infinity)))
@@ -81,5 +85,5 @@ module _ (number : List ℕ) (sixteen : length number ≡ 16) (had : Bool) (old 
               parts = ap (λ l. length (partsOf size l)) (data-same count) ∙ sym k;
               fits = omega (arith, left-length count k);
             };
-        few = g .few;
+        few = few;
       }

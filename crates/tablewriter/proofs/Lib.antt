@@ -6,14 +6,15 @@ pub mod Whole
 pub mod Reading
 pub mod Accepted
 pub mod RoundTrip
-pub mod PartFacts
-pub mod WriterFacts
 pub mod Octets
 pub mod DataLaws
 pub mod RunLaws
 pub mod PlanLaws
 pub mod MessageLaws
 pub mod TurnLaws
+pub mod GoodLaws
 pub mod AnswerLaws
 pub mod AllLaws
 pub mod CallLaws
+pub mod Exact
+pub mod Answers

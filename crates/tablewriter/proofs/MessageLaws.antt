@@ -1,6 +1,6 @@
 -- What the stores of an update's messages leave.
 use Prim.Native.Nat.{ℕ, _+_, _-_, _≤_}
-use mathlib.Core.Path.{_≡_, sym, ap, ap₂, _∙_}
+use mathlib.Core.Path.{_≡_, ap, ap₂, _∙_}
 use mathlib.Core.List.{List, [], _∷_, _++_, append-assoc}
 use native.Mathlib.Omega.{arith}
 use lib.ListN.{length, getD, take, drop, length-append}
@@ -13,7 +13,7 @@ use Rattle.wire.specs.Header.{header, message, withHeader}
 use Rattle.wire.proofs.HeaderLaws.{header-length, header-room, message-stored}
 use Rattle.tablewriter.specs.declared.run.Plan.{Plan}
 use Rattle.tablewriter.specs.Writer.{update, resetPayload, patchPayload}
-use Rattle.tablewriter.specs.Steps.{bitsBy, patchBy}
+use Rattle.tablewriter.specs.Steps.{bitsBy, patchWith}
 
 module _ (number : List ℕ) (long : length number ≡ 16) (out mid : List ℕ) where
   pub reset-stored : (n infinity : ℕ) (bytes : List ℕ) → 29 ≤ length out → mid ≡ withHeader number 0x30 1 0 6 out → bytes ≡ littleBytes 4 n
@@ -28,8 +28,8 @@ module _ (number : List ℕ) (long : length number ≡ 16) (out mid : List ℕ) 
       → mid ≡ withHeader number 0x30 1 0 (5 + n) out
       → (all : List ℕ) → all ≡ sets mid 23 (1 ∷ place ∷ p .count ∷ 0 ∷ bits ∷ [])
       → left ≡ over 0 d (take (length all - 28) (drop 28 all))
-      → putMid 28 (length all - 28) all left ≡ over 0 (patchBy number p place d) out
-  unfolding patchBy message
+      → putMid 28 (length all - 28) all left ≡ over 0 (patchWith number p place d) out
+  unfolding patchWith message
   patch-stored p place bits n d left e b h m all a f =
       let H : List ℕ = header number 0x30 1 0 (5 + n) in
       let five : List ℕ = 1 ∷ place ∷ p .count ∷ 0 ∷ bits ∷ [] in

@@ -136,7 +136,7 @@ round-trip number false old oldInfinity new infinity size outLength room h sixte
 
 -- and of the bytes
 module _ (number : List ℕ) (had : Bool) (old : List ℕ) (oldInfinity : ℕ) (new : List ℕ) (infinity size : ℕ) (out : List ℕ) where
-  written-bytes : writerAnswer number had old oldInfinity new infinity size (length out) ≡ 0
+  pub written-bytes : writerAnswer number had old oldInfinity new infinity size (length out) ≡ 0
       → take (writerResult number had old oldInfinity new infinity size out .written) (writerOut number had old oldInfinity new infinity size out)
       ≡ joined (messagesOf number had old new infinity size)
   unfolding writerResult writerOut writerBytes

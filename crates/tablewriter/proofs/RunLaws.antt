@@ -1,14 +1,12 @@
 -- Data in parts, and the messages that carry them.
-use Prim.Native.Nat.{ℕ, zero, suc, _+_, _-_, _*_, _/_, _≤_, _<_, min}
-use mathlib.Core.Path.{_≡_, refl, sym, ap, ap₂, _∙_}
-use mathlib.Core.List.{List, [], _∷_, _++_, append-assoc}
-use native.Mathlib.Nat.{zero-add, div-eq-of-lt, div-eq-sub-div}
+use Prim.Native.Nat.{ℕ, zero, suc, _+_, _-_, _*_, _/_, _≤_, _<_}
+use mathlib.Core.Path.{_≡_, refl, sym, ap, _∙_}
+use mathlib.Core.List.{List, [], _∷_, _++_}
+use native.Mathlib.Nat.{div-eq-of-lt, div-eq-sub-div}
 use native.Mathlib.Numerals.{add-one}
 use native.Mathlib.Decide.{decLe}
 use native.Mathlib.Omega.{arith}
-use lib.ListN.{length, getD, take, drop, length-append, length-take, length-drop, take-append-drop, drop-of-length-le}
-use lib.Seq.{take-add, take-append-seam, drop-drop, drop-append-seam}
-use Rattle.wire.specs.Header.{message}
+use lib.ListN.{length, take, drop, length-append, length-drop, take-append-drop}
 use Rattle.wire.proofs.HeaderLaws.{message-length}
 use Rattle.tablewriter.specs.Writer.{chunks, partsOf, runFrom, joined, update, patchPayload}
 

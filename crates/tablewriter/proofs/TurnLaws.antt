@@ -1,10 +1,10 @@
 -- The loop over a run's messages: where it stands, a turn of it, and its end.
-use Prim.Native.Nat.{ℕ, zero, suc, _+_, _-_, _*_, _≤_, _<_, min}
+use Prim.Native.Nat.{ℕ, suc, _+_, _-_, _≤_, _<_, min}
 use mathlib.Core.Path.{_≡_, refl, sym, ap, ap₂, _∙_}
 use mathlib.Core.List.{List, [], _∷_, _++_}
 use native.Mathlib.Numerals.{add-one}
 use native.Mathlib.Omega.{arith}
-use lib.ListN.{length, take, drop, length-append, length-take, length-drop, drop-of-length-le}
+use lib.ListN.{length, take, drop, length-append, length-take, length-drop}
 use lib.Seq.{take-all, drop-drop, length-take-le}
 use borrow.Rule.Slice.PartMut.{putMid}
 use Rattle.laws.specs.Parts.{over}
@@ -12,24 +12,24 @@ use Rattle.laws.proofs.Writing.{kept-length, written-next, lent-part, take-min,
 use Rattle.wire.proofs.HeaderLaws.{message-length}
 use Rattle.tablewriter.specs.declared.run.Plan.{Plan}
 use Rattle.tablewriter.specs.Writer.{chunks, partsOf, runFrom, joined, patchPayload}
-use Rattle.tablewriter.specs.Steps.{bitsBy, patchBy, leftOf}
+use Rattle.tablewriter.specs.Steps.{bitsBy, patchWith, leftOf}
 use Rattle.tablewriter.proofs.RunLaws.{parts-next}
 
 -- the next message, and what is left after it
 pub left-next : (number : List ℕ) (p : Plan) (place : ℕ) (d : List ℕ) → 1 ≤ p .size → 0 < length d
-    → leftOf number p place d ≡ patchBy number p place (take (p .size) d) ++ leftOf number p (place + 1) (drop (p .size) d)
-unfolding leftOf patchBy runFrom joined
+    → leftOf number p place d ≡ patchWith number p place (take (p .size) d) ++ leftOf number p (place + 1) (drop (p .size) d)
+unfolding leftOf patchWith runFrom joined
 left-next number p place d some h =
     ap (λ ps. joined (runFrom number place (p .count) (bitsBy p) ps)) (parts-next (p .size) some d h)
-    ∙ ap (λ k. patchBy number p place (take (p .size) d) ++ joined (runFrom number k (p .count) (bitsBy p) (partsOf (p .size) (drop (p .size) d)))) (sym (add-one place))
+    ∙ ap (λ k. patchWith number p place (take (p .size) d) ++ joined (runFrom number k (p .count) (bitsBy p) (partsOf (p .size) (drop (p .size) d)))) (sym (add-one place))
 
 pub left-none : (number : List ℕ) (p : Plan) (place : ℕ) (d : List ℕ) → length d ≤ 0 → leftOf number p place d ≡ []
 unfolding leftOf chunks runFrom joined
 left-none number p place [] h = refl
 left-none number p place (b ∷ bs) h = absurd (omega arith)
 
-pub patch-length : (number : List ℕ) (p : Plan) (place : ℕ) (d : List ℕ) → length number ≡ 16 → length (patchBy number p place d) ≡ 28 + length d
-unfolding patchBy
+pub patch-length : (number : List ℕ) (p : Plan) (place : ℕ) (d : List ℕ) → length number ≡ 16 → length (patchWith number p place d) ≡ 28 + length d
+unfolding patchWith
 patch-length number p place d h = message-length number 0x30 1 0 (patchPayload place (p .count) (bitsBy p) d) h ∙ omega arith
 
 -- before a message: `at` bytes of the run are written, from the data's byte `from` on there is more to write
@@ -55,7 +55,7 @@ module _ (number : List ℕ) (sixteen : length number ≡ 16) (p : Plan) (some :
 
   module _ (n : ℕ) (more : from < length d) (e : n ≡ min (p .size) (length d - from)) where
     abbrev message-here : List ℕ
-    message-here = patchBy number p place (take n (drop from d))
+    message-here = patchWith number p place (take n (drop from d))
 
     least : n ≡ min (p .size) (length (drop from d))
     least = e ∙ ap (min (p .size)) (sym (length-drop from d))
@@ -70,7 +70,7 @@ module _ (number : List ℕ) (sixteen : length number ≡ 16) (p : Plan) (some :
     now-left =
         v .left
         ∙ left-next number p place (drop from d) some there
-        ∙ ap₂ (λ x y. patchBy number p place x ++ leftOf number p (place + 1) y) (sym (take-min (p .size) n (drop from d) least)) rest
+        ∙ ap₂ (λ x y. patchWith number p place x ++ leftOf number p (place + 1) y) (sym (take-min (p .size) n (drop from d) least)) rest
 
     here-length : length message-here ≡ 28 + n
     here-length = patch-length number p place (take n (drop from d)) sixteen ∙ ap (λ x. 28 + x) (length-take n (drop from d) ∙ omega (arith, least))

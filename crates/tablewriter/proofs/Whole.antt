@@ -28,6 +28,10 @@ pub record Whole (payload m : List ℕ) : Type 0 where
 abbrev pub Short : List ℕ → Type 0
 Short payload = length payload < 4294967296
 
+-- a payload that a message may have
+abbrev pub Small : List ℕ → Type 0
+Small payload = length payload ≤ 4096
+
 -- the payload length in a header, where other bytes follow the message
 size-before : (m more : List ℕ) → 23 ≤ length m → sizeOf (m ++ more) ≡ sizeOf m
 size-before m more h =
@@ -114,23 +118,30 @@ module _ (number : List ℕ) (sixteen : length number ≡ 16) where
   payloads-back [] h = refl
   payloads-back (p ∷ ps) h = rw (whole p (h .0) .content, payloads-back ps (h .1))
 
--- payloads are short where the data size is
-run-short : (place size bits limit : ℕ) (ds : List (List ℕ)) → limit ≤ 4091 → Each (λ d. length d ≤ limit) ds → Each Short (runPayloads place size bits ds)
+-- payloads are small where the data size is, and so they are short
+run-small : (place size bits limit : ℕ) (ds : List (List ℕ)) → limit ≤ 4091 → Each (λ d. length d ≤ limit) ds → Each Small (runPayloads place size bits ds)
 unfolding runPayloads
-run-short place size bits limit [] k h = tt
-run-short place size bits limit (d ∷ ds) k h =
+run-small place size bits limit [] k h = tt
+run-small place size bits limit (d ∷ ds) k h =
     let here : length d ≤ limit = h .0 in
-    (omega arith, run-short (suc place) size bits limit ds k (h .1))
+    (omega arith, run-small (suc place) size bits limit ds k (h .1))
 
-pub payloads-short : (had : Bool) (old new : List ℕ) (infinity size : ℕ) → size ≤ 4091 → Each Short (payloadsOf had old new infinity size)
+pub payloads-small : (had : Bool) (old new : List ℕ) (infinity size : ℕ) → size ≤ 4091 → Each Small (payloadsOf had old new infinity size)
 unfolding payloadsOf
-payloads-short true old new infinity size k =
-    run-short 1 (length (partsOf size (dataOf new old))) (bitsFor new old) size (partsOf size (dataOf new old)) k (part-sizes (length (dataOf new old)) size (dataOf new old))
-payloads-short false old new infinity size k =
+payloads-small true old new infinity size k =
+    run-small 1 (length (partsOf size (dataOf new old))) (bitsFor new old) size (partsOf size (dataOf new old)) k (part-sizes (length (dataOf new old)) size (dataOf new old))
+payloads-small false old new infinity size k =
     let base : List ℕ = baseOf false old new infinity in (
       omega arith,
-      run-short 1 (length (partsOf size (dataOf new base))) (bitsFor new base) size (partsOf size (dataOf new base)) k (part-sizes (length (dataOf new base)) size (dataOf new base)),
+      run-small 1 (length (partsOf size (dataOf new base))) (bitsFor new base) size (partsOf size (dataOf new base)) k (part-sizes (length (dataOf new base)) size (dataOf new base)),
     )
+
+short-of-small : (ps : List (List ℕ)) → Each Small ps → Each Short ps
+short-of-small [] h = tt
+short-of-small (p ∷ ps) h = let here : length p ≤ 4096 = h .0 in (omega arith, short-of-small ps (h .1))
+
+pub payloads-short : (had : Bool) (old new : List ℕ) (infinity size : ℕ) → size ≤ 4091 → Each Short (payloadsOf had old new infinity size)
+payloads-short had old new infinity size k = short-of-small (payloadsOf had old new infinity size) (payloads-small had old new infinity size k)
 
 -- every message is whole, their payloads are those written, and from the bytes alone they are told apart
 pub record AllWhole (number : List ℕ) (had : Bool) (old new : List ℕ) (infinity size : ℕ) : Type 0 where

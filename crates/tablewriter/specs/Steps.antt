@@ -1,10 +1,10 @@
 -- The writer's steps: what its parts promise one another.
 use Prim.Native.Nat.{ℕ, _+_, _-_, _*_, _/_, _≤_}
 use mathlib.Core.Path.{_≡_}
-use mathlib.Core.Bool.{Bool, true, false, cond, not, _&&_, _||_}
-use mathlib.Core.List.{List, [], _∷_, _++_}
+use mathlib.Core.Bool.{Bool, true, cond, _&&_}
+use mathlib.Core.List.{List, [], _++_}
 use lib.Dec.{eqb, leb}
-use lib.ListN.{length, getD, take, drop}
+use lib.ListN.{length, getD}
 use Rattle.tables.specs.Patch.{packed}
 use Rattle.tablewriter.specs.declared.run.Plan.{Plan}
 use Rattle.tablewriter.specs.Writer.{baseOf, allNear, raws, partsOf, update, resetPayload, patchPayload, runFrom, joined, goodTable}
@@ -30,7 +30,7 @@ pairIn new base i = rawIn 16 (getD new i 0) (getD base i 0) * 16 + rawIn 16 (get
 abbrev pub dataLength : Bool → ℕ → ℕ
 dataLength small n = cond small (n / 2) n
 
--- a plan's base, bits, data and messages
+-- a plan's base, bits and data
 abbrev pub baseBy : Plan → List ℕ → List ℕ → List ℕ
 baseBy p old new = baseOf (p .had) old new (p .infinity)
 
@@ -40,10 +40,11 @@ bitsBy p = cond (p .small) 4 8
 unfoldable pub dataBy : Plan → List ℕ → List ℕ → List ℕ
 dataBy p old new = packed (bitsBy p) (raws (bitsBy p) new (baseBy p old new))
 
-unfoldable pub patchBy : List ℕ → Plan → ℕ → List ℕ → List ℕ
-patchBy number p place d = update number (patchPayload place (p .count) (bitsBy p) d)
+-- the plan's message at `place` with the data d
+unfoldable pub patchWith : List ℕ → Plan → ℕ → List ℕ → List ℕ
+patchWith number p place d = update number (patchPayload place (p .count) (bitsBy p) d)
 
--- the bytes of the run from `place` on, its data from byte `from` on
+-- the bytes of the messages from `place` on that carry the data d
 unfoldable pub leftOf : List ℕ → Plan → ℕ → List ℕ → List ℕ
 leftOf number p place d = joined (runFrom number place (p .count) (bitsBy p) (partsOf (p .size) d))
 
@@ -60,13 +61,15 @@ pub record Runs (number : List ℕ) (p : Plan) (old new : List ℕ) (room : ℕ)
   pub parts : length (partsOf (p .size) (dataBy p old new)) ≡ p .count
   pub fits : length (leftOf number p 1 (dataBy p old new)) ≤ room
 
--- all the messages of a plan: a RESET of 29 bytes where there was no old table, then the run
+-- a RESET takes 29 bytes, where there was no old table
 abbrev pub resetLength : Bool → ℕ
 resetLength had = cond had 0 29
 
+-- all the messages of a plan: the RESET, then the run
 unfoldable pub allBy : List ℕ → Plan → List ℕ → List ℕ → List ℕ
 allBy number p old new = cond (p .had) [] (update number (resetPayload (length new) (p .infinity))) ++ leftOf number p 1 (dataBy p old new)
 
+-- a plan whose messages have room, of tables that a RESET may carry
 pub record Fits (number : List ℕ) (p : Plan) (old new : List ℕ) (room : ℕ) : Type 0 where
   pub reset : resetLength (p .had) ≤ room
   pub run : Runs number p old new (room - resetLength (p .had))

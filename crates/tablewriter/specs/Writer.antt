@@ -1,7 +1,7 @@
 -- The writer of document 01's "Updates": the old table or none, the new one, a message number and a data size give a RESET, if there was
 -- no old table, and a run of PATCH messages.
 use Prim.Native.Nat.{ℕ, zero, suc, _+_, _-_, _^_}
-use mathlib.Core.Bool.{Bool, true, false, cond, not, _&&_, _||_}
+use mathlib.Core.Bool.{Bool, true, cond, not, _&&_}
 use mathlib.Core.List.{List, [], _∷_, _++_}
 use lib.Dec.{eqb, leb, ltb}
 use lib.ListN.{length, take, drop, replicate}
@@ -88,6 +88,10 @@ inRange infinity e = leb 1 e && leb e infinity
 unfoldable pub goodTable : List ℕ → ℕ → Bool
 goodTable es infinity = goodLength (length es) && (goodInfinity infinity && all (inRange infinity) es)
 
+-- a run over 255 messages is 14, then short output 2
+abbrev pub runRules : ℕ → ℕ → ℕ → List (Bool × ℕ)
+runRules count total room = (ltb 255 count, 14) ∷ (ltb room total, 2) ∷ []
+
 -- what the writer answers: 14, then 2
 unfoldable pub writerAnswer : List ℕ → Bool → List ℕ → ℕ → List ℕ → ℕ → ℕ → ℕ → ℕ
 writerAnswer number had old oldInfinity new infinity size room =
@@ -96,9 +100,7 @@ writerAnswer number had old oldInfinity new infinity size room =
     ∷ (had && not (goodTable old oldInfinity), 14)
     ∷ (had && not (eqb (length old) (length new) && eqb oldInfinity infinity), 14)
     ∷ (not (leb 1 size && leb size 4091), 14)
-    ∷ (ltb 255 (length (partsOf size (dataOf new (baseOf had old new infinity)))), 14)
-    ∷ (ltb room (length (joined (messagesOf number had old new infinity size))), 2)
-    ∷ [])
+    ∷ runRules (length (partsOf size (dataOf new (baseOf had old new infinity)))) (length (joined (messagesOf number had old new infinity size))) room)
 
 abbrev pub writtenAs : ℕ → ℕ → Written
 writtenAs n w = record { answer = n; written = w }

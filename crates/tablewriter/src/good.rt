@@ -1,11 +1,10 @@
 // Whether tables may be written, and whether their differences are small.
 ghost use mathlib.Core.Path.{_≡_};
-ghost use mathlib.Core.Bool.{Bool, true, _&&_};
-ghost use Prim.Native.Nat.{ℕ, _<_};
+ghost use mathlib.Core.Bool.{true};
+ghost use Prim.Native.Nat.{_<_};
 ghost use lib.ListN.{length, getD};
-ghost use lib.Dec.{leb};
 ghost use Rattle.laws.specs.Tests.{all};
-ghost use Rattle.tables.specs.Tables.{goodLength, goodInfinity};
+ghost use Rattle.tables.specs.Tables.{goodLength};
 ghost use Rattle.tablewriter.specs.Writer.{baseOf, near, allNear, goodTable, inRange};
 ghost use Rattle.tablewriter.specs.Steps.{mayWrite};
 

@@ -9,7 +9,7 @@ use good::may_write;
 use run::Plan;
 use run::put_all;
 ghost use mathlib.Core.Path.{_≡_};
-ghost use Rattle.tablewriter.specs.Writer.{writerResult, writerOut};
+ghost use Rattle.tablewriter.specs.Writer.{writtenAs, writerResult, writerOut};
 ghost use Rattle.tablewriter.specs.Steps.{resetLength};
 
 // What the writer answers, and how many bytes it wrote.
@@ -17,6 +17,12 @@ ghost use Rattle.tablewriter.specs.Steps.{resetLength};
 pub struct Written {
     pub answer: u8,
     pub written: usize,
+}
+
+fn answered(answer: u8, written: usize) -> Written
+    ensures { λ r. ⌜ r ≡ writtenAs answer written ⌝ }
+{
+    Written { answer, written }
 }
 
 // How many bytes a RESET takes, where there was no old table.
@@ -46,26 +52,17 @@ pub fn write_table<'a>(
 {
     let good = may_write(had, old, old_infinity, new, infinity, size);
     if !good {
-        return Written {
-            answer: 14,
-            written: 0,
-        };
+        return answered(14, 0);
     }
     let small = all_near(had, old, infinity, new);
     let data = data_length(small, new.len());
     let count = (data + size - 1) / size;
     if 255 < count {
-        return Written {
-            answer: 14,
-            written: 0,
-        };
+        return answered(14, 0);
     }
     let total = reset_length(had) + 28 * count + data;
     if out.len() < total {
-        return Written {
-            answer: 2,
-            written: 0,
-        };
+        return answered(2, 0);
     }
     let plan = Plan {
         had,
@@ -75,8 +72,5 @@ pub fn write_table<'a>(
         count: count as u8,
     };
     put_all(number, plan, old, new, &mut *out);
-    Written {
-        answer: 0,
-        written: total,
-    }
+    answered(0, total)
 }

@@ -2,11 +2,11 @@
 use crate::data::data_length;
 use crate::data::put_data;
 ghost use mathlib.Core.Path.{_≡_};
-ghost use Prim.Native.Nat.{ℕ, _+_, _*_, _≤_, _<_, min};
+ghost use Prim.Native.Nat.{_+_, _≤_, _<_, min};
 ghost use lib.ListN.{length, take, drop};
 ghost use Rattle.laws.specs.Parts.{over};
-ghost use Rattle.tablewriter.specs.Writer.{update, resetPayload, partsOf};
-ghost use Rattle.tablewriter.specs.Steps.{Sound, Runs, Fits, allBy, bitsBy, dataBy, patchBy, leftOf};
+ghost use Rattle.tablewriter.specs.Writer.{update, resetPayload};
+ghost use Rattle.tablewriter.specs.Steps.{Sound, Runs, Fits, allBy, bitsBy, dataBy, patchWith, leftOf};
 
 // How a run is written: from an old table or from Infinity, in 4 bits or in 8, how much data in a message and how many messages.
 pub(crate) struct Plan {
@@ -54,7 +54,7 @@ fn put_patch<'a>(
     part: &mut [u8],
 )
     requires { ⌜ Sound plan (now old) (now new) × (from + n ≤ length (dataBy plan (now old) (now new))) × (n ≤ 4091) × (28 + n ≤ length (now part)) ⌝ }
-    ensures { λ r. ⌜ now (part .exit) ≡ over 0 (patchBy number plan place (take n (drop from (dataBy plan (now (old .entry)) (now (new .entry)))))) (now (part .entry)) ⌝ }
+    ensures { λ r. ⌜ now (part .exit) ≡ over 0 (patchWith number plan place (take n (drop from (dataBy plan (now (old .entry)) (now (new .entry)))))) (now (part .entry)) ⌝ }
 {
     let size = (5 + n) as u32;
     let bits = bits_of(plan);

@@ -1,9 +1,8 @@
 -- A header written and read by computation.
-use Prim.Native.Nat.{ℕ}
 use mathlib.Core.Path.{_≡_, refl}
-use mathlib.Core.List.{List, [], _∷_, _++_}
-use lib.ListN.{length, replicate, drop}
-use Rattle.wire.specs.Header.{header, message, sizeOf, payloadOf, withHeader}
+use mathlib.Core.List.{[], _∷_}
+use lib.ListN.{replicate, drop}
+use Rattle.wire.specs.Header.{header, message, payloadOf, withHeader}
 
 -- 0x01020304 in four bytes
 four : drop 16 (header (replicate 16 9) 0x30 1 0 0x01020304) ≡ 0x30 ∷ 1 ∷ 0 ∷ 4 ∷ 3 ∷ 2 ∷ 1 ∷ []

@@ -1,7 +1,7 @@
 -- The header of a message, as document 01 has it: number 16 bytes, type, TTL, Hops, payload length 4 bytes, little-endian; the payload from byte 23.
 use Prim.Native.Nat.{ℕ}
 use mathlib.Core.Bool.{cond}
-use mathlib.Core.List.{List, [], _∷_, _++_}
+use mathlib.Core.List.{List, _∷_, _++_}
 use lib.Dec.{leb}
 use lib.ListN.{length, getD, take, drop}
 use Rattle.laws.specs.Bytes.{little, littleBytes}

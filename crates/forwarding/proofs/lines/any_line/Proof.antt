@@ -1,8 +1,9 @@
+-- No line passed is flagged.
 use Prim.Native.Nat.{_-_, _≤_}
 use mathlib.Core.Path.{_≡_, refl, sym, ap, _∙_}
-use mathlib.Core.Bool.{false}
+use mathlib.Core.Bool.{true, false}
 use native.Mathlib.Omega.{arith}
-use lib.ListN.{length, drop, drop-of-length-le}
+use lib.ListN.{length, getD, drop, drop-of-length-le}
 use Rattle.laws.specs.Tests.{any}
 use Rattle.laws.proofs.Passing.{any-from}
 use borrow.Author.Needs.{needs}
@@ -25,7 +26,8 @@ returns : tie.Need-returns Inv-loop μ-loop
 returns c =
     let to = c .before .before .before .args .t1 in
     let k = c .before .before .loop .k in
-    sym (sym (c .before .before .loop .inv .1) ∙ any-from (λ b. b) to k false (omega arith) ∙ (rw (c .if1 .taken)))
+    let flagged : getD to k false ≡ true = c .if1 .taken in
+    sym (sym (c .before .before .loop .inv .1) ∙ any-from (λ b. b) to k false (omega arith) ∙ (rw flagged))
 
 add-k : tie.Need-add-k Inv-loop μ-loop
 add-k c = search needs
@@ -37,7 +39,8 @@ loop-again : tie.Need-loop-again Inv-loop μ-loop
 loop-again c =
     let to = c .before .before .before .args .t1 in
     let k = c .before .before .loop .k in
-    (omega arith, sym (sym (c .before .before .loop .inv .1) ∙ any-from (λ b. b) to k false (omega arith) ∙ (rw (c .if1 .left))))
+    let clear : getD to k false ≡ false = c .if1 .left in
+    (omega arith, sym (sym (c .before .before .loop .inv .1) ∙ any-from (λ b. b) to k false (omega arith) ∙ (rw clear)))
 
 returns-2 : tie.Need-returns-2 Inv-loop μ-loop
 returns-2 c =

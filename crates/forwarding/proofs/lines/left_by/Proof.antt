@@ -1,3 +1,4 @@
+-- The lines passed have the flag that the keyword leaves them, the others their own; what is left of the area starts at the next part.
 use Prim.Native.Nat.{_+_, _-_, _*_, _≤_, _<_}
 use mathlib.Core.Path.{_≡_, refl, sym, ap₂, _∙_}
 use mathlib.Core.Bool.{false}

@@ -1,4 +1,5 @@
-use Prim.Native.Nat.{_-_}
+-- The flags at hand, with the keywords that are left, give what the open lines gave with all of them.
+use Prim.Native.Nat.{_-_, _≤_}
 use mathlib.Core.Path.{_≡_, refl, sym, ap, _∙_}
 use native.Mathlib.Omega.{arith}
 use lib.ListN.{length, drop, length-take, length-drop}
@@ -22,6 +23,11 @@ loop-holds c = (omega arith, refl)
 first-keyword-requires : tie.Need-first-keyword-requires Inv-loop μ-loop
 first-keyword-requires c κs = search needs
 
+-- the keyword at hand lies in what is left of the text
+bounds : (c : tie.After-first-keyword Inv-loop μ-loop)
+    → (c .first-keyword .result .start ≤ c .first-keyword .result .end) × (c .first-keyword .result .end ≤ length (c .before .loop .rest .now))
+bounds c = cut-bounds (c .before .loop .rest .now) (c .first-keyword .result) (c .first-keyword .ensures)
+
 returns : tie.Need-returns Inv-loop μ-loop
 returns c =
     let x = c .before .before .before .before .before .args in
@@ -35,12 +41,12 @@ sub-hash c = search needs
 
 part-hash-start : tie.Need-part-hash-start Inv-loop μ-loop
 part-hash-start c =
-    let h = cut-bounds (c .before .before .loop .rest .now) (c .before .first-keyword .result) (c .before .first-keyword .ensures) in
+    let h = bounds (c .before) in
     search needs
 
 part-hash-end : tie.Need-part-hash-end Inv-loop μ-loop
 part-hash-end c =
-    let h = cut-bounds (c .before .before .loop .rest .now) (c .before .first-keyword .result) (c .before .first-keyword .ensures) in
+    let h = bounds (c .before) in
     search needs
 
 hash-requires : tie.Need-hash-requires Inv-loop μ-loop
@@ -51,12 +57,12 @@ left-by-requires c κs = search needs
 
 sub-rest : tie.Need-sub-rest Inv-loop μ-loop
 sub-rest c =
-    let h = cut-bounds (c .before .before .before .before .before .loop .rest .now) (c .before .before .before .before .first-keyword .result) (c .before .before .before .before .first-keyword .ensures) in
+    let h = bounds (c .before .before .before .before) in
     search needs
 
 part-rest-start : tie.Need-part-rest-start Inv-loop μ-loop
 part-rest-start c =
-    let h = cut-bounds (c .before .before .before .before .before .loop .rest .now) (c .before .before .before .before .first-keyword .result) (c .before .before .before .before .first-keyword .ensures) in
+    let h = bounds (c .before .before .before .before) in
     search needs
 
 part-rest-end : tie.Need-part-rest-end Inv-loop μ-loop
@@ -66,7 +72,7 @@ loop-less : tie.Need-loop-less Inv-loop μ-loop
 loop-less c =
     let rest = c .before .before .before .before .before .before .loop .rest .now in
     let cut = c .before .before .before .before .before .first-keyword in
-    let h = cut-bounds rest (cut .result) (cut .ensures) in
+    let h = bounds (c .before .before .before .before .before) in
     let l = c .before .before .before .before .if1 .left in
     omega (arith, length-take (length rest - cut .result .end) (drop (cut .result .end) rest), length-drop (cut .result .end) rest)
 

@@ -1,3 +1,4 @@
+-- What was passed and what is left before a zero byte are all that stands before one.
 use Prim.Native.Nat.{_+_, _-_, _≤_}
 use mathlib.Core.Path.{_≡_, ap}
 use native.Mathlib.Omega.{arith}

@@ -1,12 +1,11 @@
-use lib.ListN.{length-set}
-use Prim.Native.Nat.{ℕ}
+-- After i turns the first i askers are those after the line has closed, and the rest are as they were.
+use Prim.Native.Nat.{ℕ, _-_, _≤_}
 use mathlib.Core.List.{List}
+use mathlib.Core.Path.{_≡_, refl, ap, _∙_}
+use lib.ListN.{length-set, length, getD}
+use borrow.Author.Needs.{needs}
 use Rattle.laws.proofs.InPlace.{mapped, mapped-at, mapped-more, mapped-end}
 use Rattle.protocol.specs.Memory.{left}
-use lib.ListN.{length, getD}
-use mathlib.Core.Path.{_≡_, refl, ap, _∙_}
-use Prim.Native.Nat.{_-_, _≤_}
-use borrow.Author.Needs.{needs}
 use Rattle.memory.proofs.leave.leave.Statement.{statement}
 use Rattle.memory.proofs.leave.leave.Tie as tie
 

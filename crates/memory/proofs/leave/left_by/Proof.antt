@@ -1,3 +1,4 @@
+-- The asker after the line has closed, by the one test.
 use borrow.Author.Tests.{eq-eqb, ne-eqb}
 use Rattle.memory.proofs.leave.left_by.Statement.{statement}
 use Rattle.memory.proofs.leave.left_by.Tie as tie

@@ -1,6 +1,7 @@
-use Rattle.laws.proofs.RingScan.{onward-end, onward-in}
+-- A step onward without a remainder.
 use mathlib.Core.Path.{sym}
 use borrow.Author.Needs.{needs}
+use Rattle.laws.proofs.RingScan.{onward-end, onward-in}
 use Rattle.memory.proofs.order.after.Statement.{statement}
 use Rattle.memory.proofs.order.after.Tie as tie
 

@@ -1,6 +1,7 @@
-use lib.ListN.{List·getD-eq-default}
+-- Past the marks `getD` gives its default.
 use mathlib.Core.Path.{sym}
 use mathlib.Core.Bool.{false}
+use lib.ListN.{List·getD-eq-default}
 use borrow.Author.Needs.{needs}
 use Rattle.memory.proofs.order.asker_fits.Statement.{statement}
 use Rattle.memory.proofs.order.asker_fits.Tie as tie

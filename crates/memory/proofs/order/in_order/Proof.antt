@@ -1,11 +1,12 @@
-use Rattle.memory.proofs.AskerLaws.{order-sound, order-unfit}
-use Rattle.memory.proofs.QueryLaws.{fits-next, fits-count}
-use Rattle.memory.specs.Order.{sound}
-use Rattle.memory.specs.Queries.{queriesBefore}
+-- A ring that fits is in order where its kept queries are sound; one that does not fit is not in order.
 use mathlib.Core.List.{List}
 use mathlib.Core.Bool.{Bool}
 use mathlib.Core.Path.{sym, ap, _∙_}
 use borrow.Author.Needs.{needs}
+use Rattle.memory.specs.Order.{sound}
+use Rattle.memory.specs.Queries.{queriesBefore}
+use Rattle.memory.proofs.AskerLaws.{order-sound, order-unfit}
+use Rattle.memory.proofs.QueryLaws.{fits-next, fits-count}
 use Rattle.memory.proofs.order.in_order.Statement.{statement}
 use Rattle.memory.proofs.order.in_order.Tie as tie
 

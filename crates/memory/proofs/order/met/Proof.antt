@@ -1,9 +1,10 @@
-use Rattle.memory.proofs.OrderLaws.{found-any}
-use Rattle.memory.proofs.QueryLaws.{within-fits, kept-all}
-use Rattle.memory.specs.Queries.{queryIn, queriesBefore}
-use Rattle.memory.specs.declared.search.Looked.{Looked}
+-- A number that may have come before is looked up; where the filter rules it out, the caller has shown that it did not.
 use mathlib.Core.Path.{sym, ap, _∙_}
 use borrow.Author.Needs.{needs}
+use Rattle.memory.specs.Queries.{queryIn, queriesBefore}
+use Rattle.memory.specs.declared.search.Looked.{Looked}
+use Rattle.memory.proofs.OrderLaws.{found-any}
+use Rattle.memory.proofs.QueryLaws.{within-fits, kept-all}
 use Rattle.memory.proofs.order.met.Statement.{statement}
 use Rattle.memory.proofs.order.met.Tie as tie
 

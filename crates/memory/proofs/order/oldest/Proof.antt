@@ -1,6 +1,7 @@
-use Rattle.memory.proofs.PlaceLaws.{place-in, place-round}
+-- The place `count` places before `next`, without a remainder.
 use mathlib.Core.Path.{sym}
 use borrow.Author.Needs.{needs}
+use Rattle.memory.proofs.PlaceLaws.{place-in, place-round}
 use Rattle.memory.proofs.order.oldest.Statement.{statement}
 use Rattle.memory.proofs.order.oldest.Tie as tie
 

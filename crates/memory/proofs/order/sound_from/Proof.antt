@@ -1,13 +1,14 @@
-use Rattle.memory.proofs.PassedLaws.{Passed, passed-none, passed-all, passed-met, passed-unfit, passed-more}
-use Rattle.memory.proofs.FilterLaws.{marked-not}
-use Rattle.memory.specs.Queries.{queryIn}
-use borrow.Author.Tests.{not-true, not-false}
-use lib.ListN.{length, getD}
+-- The invariant is `Passed`: the queries before place p are sound, and the filter has their marks.
+use Prim.Native.Nat.{ℕ, _-_, _≤_}
 use mathlib.Core.Bool.{false}
 use mathlib.Core.Path.{_≡_, sym, ap, _∙_}
 use native.Mathlib.Omega.{arith}
-use Prim.Native.Nat.{ℕ, _-_, _≤_}
+use lib.ListN.{length, getD}
+use borrow.Author.Tests.{not-true, not-false}
 use borrow.Author.Needs.{needs}
+use Rattle.memory.specs.Queries.{queryIn}
+use Rattle.memory.proofs.PassedLaws.{Passed, passed-none, passed-all, passed-met, passed-unfit, passed-more}
+use Rattle.memory.proofs.FilterLaws.{marked-not}
 use Rattle.memory.proofs.order.sound_from.Statement.{statement}
 use Rattle.memory.proofs.order.sound_from.Tie as tie
 

@@ -1,5 +1,6 @@
-use lib.ListN.{List·getD-eq-default}
+-- Past the end `getD` gives its default.
 use mathlib.Core.Path.{sym}
+use lib.ListN.{List·getD-eq-default}
 use borrow.Author.Needs.{needs}
 use Rattle.memory.proofs.places.byte_at.Statement.{statement}
 use Rattle.memory.proofs.places.byte_at.Tie as tie

@@ -1,3 +1,4 @@
+-- The two tests are those of `ringFits`.
 use borrow.Author.Tests.{le-leb, lt-leb}
 use Rattle.memory.proofs.places.ring_fits.Statement.{statement}
 use Rattle.memory.proofs.places.ring_fits.Tie as tie

@@ -1,10 +1,9 @@
 -- What is left to look at is the pongs before the place, as many as are still to come.
 use Prim.Native.Nat.{_≤_, _<_, _-_}
-use mathlib.Core.Path.{_≡_, sym, ap, _∙_}
+use mathlib.Core.Path.{_≡_}
 use native.Mathlib.Omega.{arith}
 use native.Mathlib.Nat.{sub-zero}
 use borrow.Author.Needs.{needs}
-use borrow.Author.Tests.{le-leb, lt-leb}
 use Rattle.laws.specs.Tests.{all}
 use Rattle.pinging.specs.Sending.{lowHops}
 use Rattle.pinging.proofs.RingLaws.{low, pongsBefore, low-start, low-on, low-out, low-end}

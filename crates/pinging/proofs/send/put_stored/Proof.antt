@@ -1,5 +1,5 @@
 -- What is left of the ten is written behind what has been written.
-use Prim.Native.Nat.{_-_, _%_}
+use Prim.Native.Nat.{_-_}
 use native.Mathlib.Omega.{arith}
 use borrow.Author.Needs.{needs}
 use Rattle.pinging.proofs.SendLaws.{Left, left-start, left-turn, done-ten, done-all}

@@ -1,5 +1,4 @@
 -- The place of the rank decides what the turn gives.
-use mathlib.Core.Path.{_≡_}
 use native.Mathlib.Omega.{arith}
 use borrow.Author.Needs.{needs}
 use borrow.Author.Tests.{not-true, not-false}
@@ -59,10 +58,10 @@ returns-4 c =
     let q = c .before .before .put-pong in
     let e = turn-fresh (x .t1) (x .other) (x .rank) (x .clock) (c .before .before .before .before .before .before .before .before .before .before .place-of .result) (c .before .before .before .before .before .before .before .before .before .before .place-of .ensures) (c .before .before .before .before .before .before .before .before .before .if2 .left) (rw (c .before .before .before .before .before .before .before .elapsed-ms .ensures) at (c .before .before .before .before .before .before .if3 .left)) (not-false _ (c .before .before .before .before .before .before .before .before .before .before .before .if1 .left)) in
     let d = put-one (x .number) (x .ttl) turn (x .part .now) p (c .before .before .before .before .one-hop-more .result) (q .result) (q .last .1 .1 .1 .1 .0) e
-        (c .before .before .before .before .one-hop-more .ensures)
-        (q .ensures .0)
-        (q .ensures .1 .0)
-        (q .ensures .1 .1) in
+    (c .before .before .before .before .one-hop-more .ensures)
+    (q .ensures .0)
+    (q .ensures .1 .0)
+    (q .ensures .1 .1) in
     (d .count, (omega arith, (d .size, d .bytes)))
 
 pub put-turn-spec : {M : Type 1} → statement M

@@ -1,6 +1,6 @@
 -- The own pong, and behind it the stored ones.
 use Prim.Native.Nat.{_*_}
-use mathlib.Core.Path.{_≡_, refl, ap, _∙_}
+use mathlib.Core.Path.{refl, ap, _∙_}
 use native.Mathlib.Omega.{arith}
 use lib.ListN.{length}
 use borrow.Author.Needs.{needs}

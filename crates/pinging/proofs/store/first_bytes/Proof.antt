@@ -7,7 +7,7 @@ use lib.Seq.{length-take-le}
 use borrow.Author.Needs.{needs}
 use Rattle.laws.specs.Parts.{over}
 use Rattle.laws.proofs.Writing.{byte-next}
-use Rattle.pinging.proofs.Ranks.{over-all}
+use Rattle.laws.proofs.Ranks.{over-all}
 use Rattle.pinging.proofs.store.first_bytes.Statement.{statement}
 use Rattle.pinging.proofs.store.first_bytes.Tie as tie
 

@@ -1,7 +1,7 @@
 use mathlib.Core.Path.{sym, _∙_}
 use mathlib.Core.Bool.{and-true}
 use native.Mathlib.Omega.{arith}
-use borrow.Author.Tests.{not-true, not-false, lt-ltb, le-ltb, le-leb, lt-leb, eq-eqb, ne-eqb}
+use borrow.Author.Tests.{not-true, not-false, le-leb, lt-leb, eq-eqb, ne-eqb}
 use borrow.Author.Needs.{needs}
 use Rattle.tables.specs.Updates.{lengthIn, infinityIn, goodReset}
 use Rattle.tables.specs.Tables.{goodInfinity}
@@ -10,14 +10,14 @@ use Rattle.tables.proofs.fields.good_reset.Tie as tie
 
 returns : tie.Need-returns
 unfolding goodReset
-returns c = search (needs, lt-ltb, le-ltb, le-leb, lt-leb, eq-eqb, ne-eqb)
+returns c = rw (ne-eqb _ _ (c .if1 .taken))
 
 shared-slice-read-variant : tie.Need-shared-slice-read-variant
 shared-slice-read-variant c = search needs
 
 returns-2 : tie.Need-returns-2
 unfolding goodReset
-returns-2 c = search (needs, lt-ltb, le-ltb, le-leb, lt-leb, eq-eqb, ne-eqb)
+returns-2 c = rw (eq-eqb _ _ (c .before .before .if1 .left), ne-eqb _ _ (c .if2 .taken))
 
 length-in-requires : tie.Need-length-in-requires
 length-in-requires c κs = search needs

@@ -1,8 +1,6 @@
-use mathlib.Core.Path.{_∙_}
-use lib.ListN.{length}
+use mathlib.Core.Path.{sym, _∙_}
 use borrow.Author.Needs.{needs}
-use Rattle.tables.specs.Tables.{heldIn}
-use Rattle.tables.proofs.UpdateLaws.{update-refused, bad-ttl, bad-hops, no-payload, patch-answer-alone, patch-alone, reset-answer-alone, reset-alone}
+use Rattle.tables.proofs.UpdateLaws.{bad-ttl, bad-hops, by-patch, by-reset}
 use Rattle.tables.proofs.updates.update.Statement.{statement}
 use Rattle.tables.proofs.updates.update.Tie as tie
 
@@ -12,7 +10,7 @@ refused-requires c κs = search needs
 returns : tie.Need-returns
 returns c =
     let x = c .before .before .before .before .args in
-    let d = update-refused (x .table) (x .payload .now) (x .part .now) (x .ttl) (x .hops) (bad-ttl (length (x .part .now)) (heldIn (x .table) (x .part .now)) (x .payload .now) (x .ttl) (x .hops) (c .before .if1 .taken)) in
+    let d = bad-ttl (x .table) (x .payload .now) (x .part .now) (x .ttl) (x .hops) (c .before .if1 .taken) in
     (c .refused .ensures ∙ d .result, d .entries)
 
 refused-requires-2 : tie.Need-refused-requires-2
@@ -21,20 +19,11 @@ refused-requires-2 c κs = search needs
 returns-2 : tie.Need-returns-2
 returns-2 c =
     let x = c .before .before .before .before .before .args in
-    let d = update-refused (x .table) (x .payload .now) (x .part .now) (x .ttl) (x .hops) (bad-hops (length (x .part .now)) (heldIn (x .table) (x .part .now)) (x .payload .now) (x .ttl) (x .hops) (c .before .if2 .taken)) in
+    let d = bad-hops (x .table) (x .payload .now) (x .part .now) (x .ttl) (x .hops) (c .before .if2 .taken) in
     (c .refused2 .ensures ∙ d .result, d .entries)
 
-refused-requires-3 : tie.Need-refused-requires-3
-refused-requires-3 c κs = search needs
-
-returns-3 : tie.Need-returns-3
-returns-3 c =
-    let x = c .before .before .before .before .before .before .args in
-    let d = update-refused (x .table) (x .payload .now) (x .part .now) (x .ttl) (x .hops) (no-payload (length (x .part .now)) (heldIn (x .table) (x .part .now)) (x .payload .now) (x .ttl) (x .hops) (c .before .if3 .taken)) in
-    (c .refused3 .ensures ∙ d .result, d .entries)
-
-shared-slice-read-variant : tie.Need-shared-slice-read-variant
-shared-slice-read-variant c = search needs
+is-patch-requires : tie.Need-is-patch-requires
+is-patch-requires c κs = search needs
 
 patch-requires : tie.Need-patch-requires
 patch-requires c κs = search needs
@@ -42,11 +31,13 @@ patch-requires c κs = search needs
 same-length : tie.Need-same-length
 same-length c = search needs
 
-returns-4 : tie.Need-returns-4
-returns-4 c =
-    let x = c .before .before .before .before .before .before .before .before .before .before .before .args in
-    rw (c .before .before .before .before .before .before .before .before .if1 .left, c .before .before .before .before .before .before .before .if2 .left, patch-answer-alone (length (x .part .now)) (heldIn (x .table) (x .part .now)) (x .payload .now) (c .before .before .before .before .if4 .taken), patch-alone (length (x .part .now)) (heldIn (x .table) (x .part .now)) (x .payload .now) (c .before .before .before .before .if4 .taken))
-    (c .before .before .patch .ensures)
+returns-3 : tie.Need-returns-3
+returns-3 c =
+    let s = c .before .before .before .before .before .before in
+    let x = c .before .before .before .before .before .before .before .before .before .before .args in
+    let y = c .before .before .patch in
+    let d = by-patch (x .table) (x .payload .now) (x .part .now) (x .ttl) (x .hops) (s .before .if1 .left) (s .if2 .left) (sym (c .before .before .before .before .before .is-patch .ensures) ∙ c .before .before .before .before .if3 .taken) (y .result) (y .last .1 .1 .0) (y .ensures) in
+    (d .result, d .entries)
 
 reset-requires : tie.Need-reset-requires
 reset-requires c κs = search needs
@@ -54,11 +45,13 @@ reset-requires c κs = search needs
 same-length-2 : tie.Need-same-length-2
 same-length-2 c = search needs
 
-returns-5 : tie.Need-returns-5
-returns-5 c =
-    let x = c .before .before .before .before .before .before .before .before .before .before .before .args in
-    rw (c .before .before .before .before .before .before .before .before .if1 .left, c .before .before .before .before .before .before .before .if2 .left, reset-answer-alone (length (x .part .now)) (heldIn (x .table) (x .part .now)) (x .payload .now) (c .before .before .before .before .if4 .left), reset-alone (length (x .part .now)) (heldIn (x .table) (x .part .now)) (x .payload .now) (c .before .before .before .before .if4 .left))
-    (c .before .before .reset .ensures)
+returns-4 : tie.Need-returns-4
+returns-4 c =
+    let s = c .before .before .before .before .before .before in
+    let x = c .before .before .before .before .before .before .before .before .before .before .args in
+    let y = c .before .before .reset in
+    let d = by-reset (x .table) (x .payload .now) (x .part .now) (x .ttl) (x .hops) (s .before .if1 .left) (s .if2 .left) (sym (c .before .before .before .before .before .is-patch .ensures) ∙ c .before .before .before .before .if3 .left) (y .result) (y .last .1 .1 .0) (y .ensures) in
+    (d .result, d .entries)
 
 pub update-spec : {M : Type 1} → statement M
 update-spec =
@@ -68,12 +61,10 @@ update-spec =
     returns
     refused-requires-2
     returns-2
-    refused-requires-3
-    returns-3
-    shared-slice-read-variant
+    is-patch-requires
     patch-requires
     same-length
-    returns-4
+    returns-3
     reset-requires
     same-length-2
-    returns-5)
+    returns-4)

@@ -1,4 +1,4 @@
-use Prim.Native.Nat.{_+_, _*_}
+use Prim.Native.Nat.{_+_, _*_, _<_}
 use mathlib.Core.Path.{ap, ap₂, _∙_}
 use native.Mathlib.Omega.{arith}
 use lib.ListN.{getD}
@@ -47,8 +47,8 @@ raw-requires-2 c κs =
     let b = c .before .before .before .base-at2 in
     (omega arith, base-below (x .new .now) base (p .0) (p .1) (x .i + 1) (b .result) (omega arith) (b .ensures))
 
-add-result : tie.Need-add-result
-add-result c =
+small : (c : tie.After-raw2) → c .before .before .raw .result * 16 + c .raw2 .result < 256
+small c =
     let x = c .before .before .before .before .before .before .before .before .args in
     let p = c .before .before .before .before .before .before .before .before .pre in
     let base = baseBy (x .plan) (x .old .now) (x .new .now) in
@@ -60,18 +60,11 @@ add-result c =
       raw-below (x .new .now) base (p .0) (p .1) (x .i + 1) (d .result) (omega arith) (d .ensures) (c .raw2 .result) (c .raw2 .ensures),
     )
 
+add-result : tie.Need-add-result
+add-result c = omega (arith, small c)
+
 cast-result : tie.Need-cast-result
-cast-result c =
-    let x = c .before .before .before .before .before .before .before .before .args in
-    let p = c .before .before .before .before .before .before .before .before .pre in
-    let base = baseBy (x .plan) (x .old .now) (x .new .now) in
-    let b = c .before .before .before .before .before .base-at in
-    let d = c .before .before .before .before .base-at2 in
-    omega (
-      arith,
-      raw-below (x .new .now) base (p .0) (p .1) (x .i) (b .result) (omega arith) (b .ensures) (c .before .before .raw .result) (c .before .before .raw .ensures),
-      raw-below (x .new .now) base (p .0) (p .1) (x .i + 1) (d .result) (omega arith) (d .ensures) (c .raw2 .result) (c .raw2 .ensures),
-    )
+cast-result c = omega (arith, small c)
 
 returns : tie.Need-returns
 returns c =

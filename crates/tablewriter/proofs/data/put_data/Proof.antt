@@ -1,7 +1,7 @@
-use Prim.Native.Nat.{_+_, _-_, _≤_, _<_}
+use Prim.Native.Nat.{_-_, _≤_}
 use mathlib.Core.Path.{_≡_, refl, ap, sym, _∙_}
 use native.Mathlib.Omega.{arith}
-use lib.ListN.{length, getD, take, drop, set, length-set, length-drop}
+use lib.ListN.{length, take, drop, set, length-set, length-drop}
 use lib.Seq.{getD-drop}
 use Rattle.laws.specs.Parts.{over}
 use Rattle.laws.proofs.Writing.{byte-next}

@@ -4,7 +4,6 @@ use native.Mathlib.Omega.{arith}
 use lib.ListN.{length, getD}
 use Rattle.tablewriter.specs.Writer.{baseOf}
 use Rattle.tablewriter.proofs.DataLaws.{base-at}
-use borrow.Author.Needs.{needs}
 use Rattle.tablewriter.proofs.good.base_at.Statement.{statement}
 use Rattle.tablewriter.proofs.good.base_at.Tie as tie
 

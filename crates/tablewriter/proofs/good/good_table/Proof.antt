@@ -14,19 +14,22 @@ good-length-requires c κs = search needs
 returns : tie.Need-returns
 unfolding goodTable
 returns c =
-    let e : goodLength (length (c .before .before .before .args .entries .now)) ≡ false = sym (c .before .good-length .ensures) ∙ not-true _ (c .if1 .taken) in
+    let e : goodLength (length (c .before .before .before .args .entries .now)) ≡ false =
+    sym (c .before .good-length .ensures) ∙ not-true _ (c .if1 .taken) in
     rw e
 
 returns-2 : tie.Need-returns-2
 unfolding goodTable
 returns-2 c =
-    let e : goodLength (length (c .before .before .before .before .args .entries .now)) ≡ true = sym (c .before .before .good-length .ensures) ∙ not-false _ (c .before .if1 .left) in
+    let e : goodLength (length (c .before .before .before .before .args .entries .now)) ≡ true =
+    sym (c .before .before .good-length .ensures) ∙ not-false _ (c .before .if1 .left) in
     rw (e, lt-leb 2 _ (c .if2 .taken))
 
 returns-3 : tie.Need-returns-3
 unfolding goodTable
 returns-3 c =
-    let e : goodLength (length (c .before .before .before .before .before .args .entries .now)) ≡ true = sym (c .before .before .before .good-length .ensures) ∙ not-false _ (c .before .before .if1 .left) in
+    let e : goodLength (length (c .before .before .before .before .before .args .entries .now)) ≡ true =
+    sym (c .before .before .before .good-length .ensures) ∙ not-false _ (c .before .before .if1 .left) in
     rw (e, le-leb 2 _ (c .before .if2 .left), lt-leb _ 127 (c .if3 .taken))
 
 in-range-requires : tie.Need-in-range-requires
@@ -35,7 +38,8 @@ in-range-requires c κs = search needs
 returns-4 : tie.Need-returns-4
 unfolding goodTable
 returns-4 c =
-    let e : goodLength (length (c .before .before .before .before .before .before .args .entries .now)) ≡ true = sym (c .before .before .before .before .good-length .ensures) ∙ not-false _ (c .before .before .before .if1 .left) in
+    let e : goodLength (length (c .before .before .before .before .before .before .args .entries .now)) ≡ true =
+    sym (c .before .before .before .before .good-length .ensures) ∙ not-false _ (c .before .before .before .if1 .left) in
     rw (e, le-leb 2 _ (c .before .before .if2 .left), le-leb _ 127 (c .before .if3 .left)) (c .in-range .ensures)
 
 pub good-table-spec : {M : Type 1} → statement M

@@ -1,4 +1,4 @@
-use mathlib.Core.Path.{_≡_, sym, _∙_}
+use mathlib.Core.Path.{sym, _∙_}
 use borrow.Author.Tests.{lt-leb, le-leb, eq-eqb, ne-eqb, not-true, not-false}
 use Rattle.tablewriter.specs.Steps.{mayWrite}
 use borrow.Author.Needs.{needs}
@@ -19,17 +19,26 @@ good-table-requires c κs = search needs
 returns-3 : tie.Need-returns-3
 unfolding mayWrite
 returns-3 c =
-    rw (le-leb 1 _ (c .before .before .before .if1 .left), le-leb _ 4091 (c .before .before .if2 .left), not-true (c .before .before .before .before .before .before .args .had) (c .before .if3 .taken)) (c .good-table .ensures)
+    let a = le-leb 1 _ (c .before .before .before .if1 .left) in
+    let b = le-leb _ 4091 (c .before .before .if2 .left) in
+    let h = not-true (c .before .before .before .before .before .before .args .had) (c .before .if3 .taken) in
+    rw (a, b, h) (c .good-table .ensures)
 
 returns-4 : tie.Need-returns-4
 unfolding mayWrite
 returns-4 c =
-    rw (le-leb 1 _ (c .before .before .before .if1 .left), le-leb _ 4091 (c .before .before .if2 .left), not-false (c .before .before .before .before .before .before .args .had) (c .before .if3 .left), ne-eqb _ _ (c .if4 .taken))
+    let a = le-leb 1 _ (c .before .before .before .if1 .left) in
+    let b = le-leb _ 4091 (c .before .before .if2 .left) in
+    let h = not-false (c .before .before .before .before .before .before .args .had) (c .before .if3 .left) in
+    rw (a, b, h, ne-eqb _ _ (c .if4 .taken))
 
 returns-5 : tie.Need-returns-5
 unfolding mayWrite
 returns-5 c =
-    rw (le-leb 1 _ (c .before .before .before .before .if1 .left), le-leb _ 4091 (c .before .before .before .if2 .left), not-false (c .before .before .before .before .before .before .before .args .had) (c .before .before .if3 .left), eq-eqb _ _ (c .before .if4 .left), ne-eqb _ _ (c .if5 .taken))
+    let a = le-leb 1 _ (c .before .before .before .before .if1 .left) in
+    let b = le-leb _ 4091 (c .before .before .before .if2 .left) in
+    let h = not-false (c .before .before .before .before .before .before .before .args .had) (c .before .before .if3 .left) in
+    rw (a, b, h, eq-eqb _ _ (c .before .if4 .left), ne-eqb _ _ (c .if5 .taken))
 
 good-table-requires-2 : tie.Need-good-table-requires-2
 good-table-requires-2 c κs = search needs
@@ -37,8 +46,13 @@ good-table-requires-2 c κs = search needs
 returns-6 : tie.Need-returns-6
 unfolding mayWrite
 returns-6 c =
-    let e = sym (c .before .good-table2 .ensures) ∙ not-true _ (c .if6 .taken) in
-    rw (le-leb 1 _ (c .before .before .before .before .before .before .if1 .left), le-leb _ 4091 (c .before .before .before .before .before .if2 .left), not-false (c .before .before .before .before .before .before .before .before .before .args .had) (c .before .before .before .before .if3 .left), eq-eqb _ _ (c .before .before .before .if4 .left), eq-eqb _ _ (c .before .before .if5 .left), e)
+    let a = le-leb 1 _ (c .before .before .before .before .before .before .if1 .left) in
+    let b = le-leb _ 4091 (c .before .before .before .before .before .if2 .left) in
+    let h = not-false (c .before .before .before .before .before .before .before .before .before .args .had) (c .before .before .before .before .if3 .left) in
+    let l = eq-eqb _ _ (c .before .before .before .if4 .left) in
+    let i = eq-eqb _ _ (c .before .before .if5 .left) in
+    let o = sym (c .before .good-table2 .ensures) ∙ not-true _ (c .if6 .taken) in
+    rw (a, b, h, l, i, o)
 
 good-table-requires-3 : tie.Need-good-table-requires-3
 good-table-requires-3 c κs = search needs
@@ -46,9 +60,13 @@ good-table-requires-3 c κs = search needs
 returns-7 : tie.Need-returns-7
 unfolding mayWrite
 returns-7 c =
-    let e = sym (c .before .before .good-table2 .ensures) ∙ not-false _ (c .before .if6 .left) in
-    rw (le-leb 1 _ (c .before .before .before .before .before .before .before .if1 .left), le-leb _ 4091 (c .before .before .before .before .before .before .if2 .left), not-false (c .before .before .before .before .before .before .before .before .before .before .args .had) (c .before .before .before .before .before .if3 .left), eq-eqb _ _ (c .before .before .before .before .if4 .left), eq-eqb _ _ (c .before .before .before .if5 .left), e)
-    (c .good-table3 .ensures)
+    let a = le-leb 1 _ (c .before .before .before .before .before .before .before .if1 .left) in
+    let b = le-leb _ 4091 (c .before .before .before .before .before .before .if2 .left) in
+    let h = not-false (c .before .before .before .before .before .before .before .before .before .before .args .had) (c .before .before .before .before .before .if3 .left) in
+    let l = eq-eqb _ _ (c .before .before .before .before .if4 .left) in
+    let i = eq-eqb _ _ (c .before .before .before .if5 .left) in
+    let o = sym (c .before .before .good-table2 .ensures) ∙ not-false _ (c .before .if6 .left) in
+    rw (a, b, h, l, i, o) (c .good-table3 .ensures)
 
 pub may-write-spec : {M : Type 1} → statement M
 may-write-spec =

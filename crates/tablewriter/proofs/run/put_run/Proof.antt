@@ -1,4 +1,4 @@
-use Prim.Native.Nat.{ℕ, _+_, _-_, _≤_, _<_, min}
+use Prim.Native.Nat.{_+_, _-_, _≤_, _<_, min}
 use mathlib.Core.Path.{_≡_, ap, sym, _∙_}
 use native.Mathlib.Omega.{arith}
 use lib.ListN.{length, length-take, length-drop}
@@ -18,20 +18,16 @@ abbrev μ-loop : tie.MeasureT-loop
 
 -- what is known once the message's data is counted
 least : (c : tie.After-smaller Inv-loop μ-loop)
-    → c .smaller .result
-    ≡ min (c .before .before .before .before .before .before .before .args .plan .size)
-    (length
-    (dataBy (c .before .before .before .before .before .before .before .args .plan)
-    (c .before .before .before .before .before .before .before .args .old .now)
-    (c .before .before .before .before .before .before .before .args .new .now))
-    - c .before .before .loop .from)
-least c =
-    c .smaller .ensures ∙ ap (λ k. min (c .before .before .before .before .before .before .before .args .plan .size) (k - c .before .before .loop .from)) (c .before .before .loop .inv .0)
+    → let x = c .before .before .before .before .before .before .before .args in
+    c .smaller .result ≡ min (x .plan .size) (length (dataBy (x .plan) (x .old .now) (x .new .now)) - c .before .before .loop .from)
+least c = c .smaller .ensures ∙ ap (λ k. min (c .before .before .before .before .before .before .before .args .plan .size) (k - c .before .before .loop .from)) (c .before .before .loop .inv .0)
 
 bounds : (c : tie.After-smaller Inv-loop μ-loop)
-    → (c .before .before .loop .at + 28 + c .smaller .result ≤ length (c .before .before .loop .out))
-    × (c .before .before .loop .place ≤ c .before .before .before .before .before .before .before .args .plan .count)
-    × (c .before .before .loop .from + c .smaller .result ≤ length (dataBy (c .before .before .before .before .before .before .before .args .plan) (c .before .before .before .before .before .before .before .args .old .now) (c .before .before .before .before .before .before .before .args .new .now)))
+    → let x = c .before .before .before .before .before .before .before .args in
+    let i = c .before .before .loop in
+    (i .at + 28 + c .smaller .result ≤ length (i .out))
+    × (i .place ≤ x .plan .count)
+    × (i .from + c .smaller .result ≤ length (dataBy (x .plan) (x .old .now) (x .new .now)))
     × (c .smaller .result ≤ 4091)
     × (0 < c .smaller .result)
 bounds c =
@@ -39,10 +35,14 @@ bounds c =
     let q = c .before .before .before .before .before .before .before .pre in
     let i = c .before .before .loop in
     let l = least c in
-    let m : i .from < length (dataBy (x .plan) (x .old .now) (x .new .now)) = omega arith in (
-      omega (arith, turn-room (x .number) (omega arith) (x .plan) (q .some) (dataBy (x .plan) (x .old .now) (x .new .now)) (x .out .now) (i .out) (i .place) (i .from) (i .at) (i .inv .1) (c .smaller .result) m l, i .inv .1 .long, q .fits),
-      turn-place (x .number) (omega arith) (x .plan) (q .some) (dataBy (x .plan) (x .old .now) (x .new .now)) (x .out .now) (i .out) (i .place) (i .from) (i .at) (i .inv .1) (c .smaller .result) m l,
-      turn-data (x .number) (omega arith) (x .plan) (q .some) (dataBy (x .plan) (x .old .now) (x .new .now)) (x .out .now) (i .out) (i .place) (i .from) (i .at) (i .inv .1) (c .smaller .result) m l,
+    let d = dataBy (x .plan) (x .old .now) (x .new .now) in
+    let n = c .smaller .result in
+    let m : i .from < length d = omega arith in
+    let s : length (x .number) ≡ 16 = omega arith in
+    let r = turn-room (x .number) s (x .plan) (q .some) d (x .out .now) (i .out) (i .place) (i .from) (i .at) (i .inv .1) n m l in (
+      omega (arith, r, i .inv .1 .long, q .fits),
+      turn-place (x .number) s (x .plan) (q .some) d (x .out .now) (i .out) (i .place) (i .from) (i .at) (i .inv .1) n m l,
+      turn-data (x .number) s (x .plan) (q .some) d (x .out .now) (i .out) (i .place) (i .from) (i .at) (i .inv .1) n m l,
       omega (arith, q .most),
       omega (arith, q .some),
     )
@@ -105,7 +105,8 @@ loop-again c =
     let b = bounds (c .before .before .before .before) in
     let m : i .from < length (dataBy (x .plan) (x .old .now) (x .new .now)) = omega arith in (
       i .inv .0,
-      turn (x .number) (omega arith) (x .plan) (q .some) (dataBy (x .plan) (x .old .now) (x .new .now)) (x .out .now) (i .out) (i .place) (i .from) (i .at) (i .inv .1) n m (least (c .before .before .before .before)) (i .at + 28 + n - i .at) _ (omega arith) (omega (arith, b .0)) (c .before .before .put-patch .ensures),
+      turn (x .number) (omega arith) (x .plan) (q .some) (dataBy (x .plan) (x .old .now) (x .new .now)) (x .out .now) (i .out) (i .place) (i .from) (i .at) (i .inv .1) n m
+          (least (c .before .before .before .before)) (i .at + 28 + n - i .at) _ (omega arith) (omega (arith, b .0)) (c .before .before .put-patch .ensures),
     )
 
 same-length : tie.Need-same-length Inv-loop μ-loop

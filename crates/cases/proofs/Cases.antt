@@ -1,0 +1,61 @@
+-- Document 01's eleven cases hold: one theorem over the list, by computation.
+use mathlib.Core.Path.{_≡_, refl, _∙_, ap}
+use mathlib.Core.List.{List, [], _∷_}
+use Prim.Native.Nat.{ℕ, _/_, _^_}
+use native.Mathlib.Omega.{arith}
+use lib.ListN.{length}
+use Rattle.laws.specs.Ring.{keptPlaces}
+use Rattle.wire.specs.Header.{message}
+use Rattle.keywords.specs.Keywords.{isSeparator, lower, keywordsOf, pieces, filled}
+use Rattle.keywords.specs.Hash.{xor32, hashOf, word, placeOf}
+use Rattle.keywords.proofs.PlaceLaws.{place-cut}
+use Rattle.tables.specs.Tables.{goodLength, tableInOrder}
+use Rattle.tables.specs.Patch.{numbers, added, allFit}
+use Rattle.tables.proofs.PatchFacts.{addedAt, addedRun, together, run-at-once}
+use Rattle.tables.specs.Updates.{updateAnswer, updated, goodReset, goodPatch, inTurn, inRange, resetBy, movedOn, patchBy, brokenBy}
+use Rattle.tables.specs.Admission.{withholds}
+use Rattle.protocol.specs.Memory.{remembered, find, remember, noTwice}
+use Rattle.protocol.specs.Lines.{storedPongs}
+use Rattle.protocol.specs.Order.{lineInOrder, inOrder}
+use Rattle.protocol.specs.Queries.{untilZero, queryOutcome}
+use Rattle.protocol.specs.Hits.{hitOutcome}
+use Rattle.protocol.specs.Pings.{walk, pingOutcome, pongOutcome}
+use Rattle.protocol.specs.Calls.{fresh, opening, closing, early, updateOutcome, byType, arriving, asking}
+use Rattle.cases.specs.Cases.{cases, Holds, Stands, AllHold, begun, own, update, number, query, p1, p2, p3, p4, eb, ebckl, ebcklmen, both, opened, waits, settles}
+
+eleven : length cases ≡ 11
+unfolding cases
+eleven = refl
+
+pub all-hold : AllHold cases
+unfolding cases begun own update number query p1 p2 p3 p4 eb ebckl ebcklmen both opened waits settles keptPlaces message isSeparator lower keywordsOf pieces filled xor32 hashOf word goodLength tableInOrder numbers added allFit updateAnswer updated goodReset goodPatch inTurn inRange resetBy movedOn patchBy brokenBy withholds remembered find remember noTwice storedPongs lineInOrder inOrder untilZero queryOutcome hitOutcome walk pingOutcome pongOutcome fresh opening closing early updateOutcome byType arriving asking
+all-hold = (refl, (refl, (refl, (refl, (refl, (refl, (refl, (refl, (refl, (refl, (refl, tt)))))))))))
+
+-- the places of Q1 and Q2 in a table of four entries, from those at 13 bits by the law over the bits
+at-two : (k : List ℕ) (p : ℕ) → Holds (Stands k 13 p) → placeOf 2 k ≡ p / 2 ^ 11
+at-two k p h = place-cut 2 11 k (omega arith) ∙ ap (λ (x : ℕ). x / 2 ^ 11) h
+
+eb-at-two : placeOf 2 eb ≡ 3
+unfolding eb lower xor32 hashOf word
+eb-at-two = at-two eb 6791 refl
+
+ebckl-at-two : placeOf 2 ebckl ≡ 1
+unfolding ebckl lower xor32 hashOf word
+ebckl-at-two = at-two ebckl 3179 refl
+
+ebcklmen-at-two : placeOf 2 ebcklmen ≡ 0
+unfolding ebcklmen lower xor32 hashOf word
+ebcklmen-at-two = at-two ebcklmen 1062 refl
+
+-- the numbers of P2 and of P3 in a run of two messages come to what they come to at once, by the law over the bits
+in-two : (bits v : ℕ) → addedRun bits 0 ((0 ∷ v ∷ []) ∷ (0 ∷ v ∷ []) ∷ []) (8 ∷ 8 ∷ 8 ∷ 8 ∷ []) ≡ addedAt bits 0 (0 ∷ v ∷ 0 ∷ v ∷ []) (8 ∷ 8 ∷ 8 ∷ 8 ∷ [])
+unfolding together
+in-two bits v = run-at-once bits 0 ((0 ∷ v ∷ []) ∷ (0 ∷ v ∷ []) ∷ []) (8 ∷ 8 ∷ 8 ∷ 8 ∷ []) (omega arith)
+
+p2-in-two : addedRun 4 0 ((0 ∷ 9 ∷ []) ∷ (0 ∷ 9 ∷ []) ∷ []) (8 ∷ 8 ∷ 8 ∷ 8 ∷ []) ≡ 8 ∷ 1 ∷ 8 ∷ 1 ∷ []
+unfolding added
+p2-in-two = in-two 4 9
+
+p3-in-two : addedRun 8 0 ((0 ∷ 0xF9 ∷ []) ∷ (0 ∷ 0xF9 ∷ []) ∷ []) (8 ∷ 8 ∷ 8 ∷ 8 ∷ []) ≡ 8 ∷ 1 ∷ 8 ∷ 1 ∷ []
+unfolding added
+p3-in-two = in-two 8 0xF9

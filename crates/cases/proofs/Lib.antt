@@ -1,0 +1,2 @@
+-- Every case holds.
+pub mod Cases

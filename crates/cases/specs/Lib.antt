@@ -1,0 +1,2 @@
+-- Document 01's eleven cases.
+pub mod Cases

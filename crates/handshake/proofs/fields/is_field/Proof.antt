@@ -1,0 +1,20 @@
+use mathlib.Core.Path.{sym}
+use borrow.Author.Tests.{le-ltb, lt-ltb}
+use borrow.Author.Needs.{needs}
+use Rattle.handshake.proofs.fields.is_field.Statement.{statement}
+use Rattle.handshake.proofs.fields.is_field.Tie as tie
+
+leading-requires : tie.Need-leading-requires
+leading-requires c κs = search needs
+
+byte-at-requires : tie.Need-byte-at-requires
+byte-at-requires c κs = search needs
+
+returns : tie.Need-returns
+returns c = rw (sym (c .before .before .leading .ensures), le-ltb 0 (c .before .before .leading .result) (search needs))
+
+returns-2 : tie.Need-returns-2
+returns-2 c = rw (sym (c .before .before .leading .ensures), lt-ltb 0 (c .before .before .leading .result) (search needs), c .before .byte-at .ensures)
+
+pub is-field-spec : {M : Type 1} → statement M
+is-field-spec = tie.close (tie.spec leading-requires byte-at-requires returns returns-2)

@@ -1,0 +1,63 @@
+-- The first end from n on is the first of all.
+use Prim.Native.Nat.{_+_, _-_, _≤_}
+use mathlib.Core.Path.{_≡_, sym, _∙_}
+use native.Mathlib.Omega.{arith}
+use Rattle.handshake.specs.Lines.{endsAt, firstFrom, groupLength}
+use Rattle.handshake.proofs.LineLaws.{first-here, first-on, first-end}
+use borrow.Author.Needs.{needs}
+use Rattle.handshake.proofs.lines.group_length.Statement.{statement}
+use Rattle.handshake.proofs.lines.group_length.Tie as tie
+
+abbrev Inv-loop : tie.InvT-loop
+Inv-loop m last n₀ n = (2 ≤ n) × (firstFrom (endsAt m) (last + 1 - n) n ≡ groupLength m)
+
+abbrev μ-loop : tie.MeasureT-loop
+μ-loop m last n₀ n = last + 1 - n
+
+searched-requires : tie.Need-searched-requires Inv-loop μ-loop
+searched-requires c κs = search needs
+
+loop-holds : tie.Need-loop-holds Inv-loop μ-loop
+unfolding groupLength
+loop-holds c =
+    let e : c .searched .result + 1 - 2 ≡ c .searched .result - 1 = omega arith in
+    (search needs, rw (e, c .searched .ensures))
+
+ends-at-requires : tie.Need-ends-at-requires Inv-loop μ-loop
+ends-at-requires c κs = search needs
+
+returns : tie.Need-returns Inv-loop μ-loop
+returns c =
+    let l = c .before .before .before in
+    sym (first-here (endsAt (l .before .before .before .args .m .now)) _ (l .loop .n) (search needs) (sym (c .before .ends-at .ensures) ∙ c .if1 .taken)) ∙ l .loop .inv .1
+
+add-n : tie.Need-add-n Inv-loop μ-loop
+add-n c = search needs
+
+loop-less : tie.Need-loop-less Inv-loop μ-loop
+loop-less c = search needs
+
+loop-again : tie.Need-loop-again Inv-loop μ-loop
+loop-again c =
+    let l = c .before .before .before in
+    (search needs, sym (first-on (endsAt (l .before .before .before .args .m .now)) _ (l .loop .n) (search needs) (sym (c .before .ends-at .ensures) ∙ c .if1 .left)) ∙ l .loop .inv .1)
+
+returns-2 : tie.Need-returns-2 Inv-loop μ-loop
+returns-2 c =
+    let l = c .before in
+    sym (first-end (endsAt (l .before .before .before .args .m .now)) _ (l .loop .n) (search needs)) ∙ l .loop .inv .1
+
+pub group-length-spec : {M : Type 1} → statement M
+group-length-spec =
+    tie.close
+    (tie.spec
+    Inv-loop
+    μ-loop
+    searched-requires
+    loop-holds
+    ends-at-requires
+    returns
+    add-n
+    loop-less
+    loop-again
+    returns-2)

@@ -1,0 +1,77 @@
+-- A group read, and a field asked for: what is handed back, with the refusals in their order.
+use Prim.Native.Nat.{ℕ, _-_}
+use mathlib.Core.Bool.{Bool, false, cond, not, _&&_, _||_}
+use mathlib.Core.List.{List, [], _∷_}
+use lib.Dec.{leb, ltb, eqb}
+use lib.ListN.{length, take}
+use Rattle.laws.specs.Tests.{firstOf, all}
+use Rattle.laws.specs.Parts.{over}
+use Rattle.handshake.specs.declared.start.Start.{Start}
+use Rattle.handshake.specs.declared.Group.{Group}
+use Rattle.handshake.specs.declared.Asked.{Asked}
+use Rattle.handshake.specs.Text.{isText}
+use Rattle.handshake.specs.Lines.{groupLength, linesOf, firstLine, otherLines}
+use Rattle.handshake.specs.Start.{startOf}
+use Rattle.handshake.specs.Fields.{linesOk, isAbsent, valueFor}
+
+-- ---- of the first n bytes, a group
+
+-- the lines, without the empty one
+abbrev pub linesIn : List ℕ → ℕ → List (List ℕ)
+linesIn m n = linesOf (take (n - 2) m)
+
+abbrev pub startIn : List ℕ → ℕ → Start
+startIn m n = startOf (firstLine (linesIn m n))
+
+abbrev pub fieldsIn : List ℕ → ℕ → List (List ℕ)
+fieldsIn m n = otherLines (linesIn m n)
+
+-- the first line is a greeting or a reply, the others are fields, and no CR or LF stands by itself
+unfoldable pub understood : List ℕ → ℕ → Bool
+understood m n = all isText (firstLine (linesIn m n)) && (not (eqb (startIn m n .kind) 0) && linesOk false (fieldsIn m n))
+
+-- ---- reading a group
+
+-- no end in the first 4,096 bytes: 18 where so many are there, else 4; not understood: 17
+abbrev pub groupRules : ℕ → ℕ → Bool → List (Bool × ℕ)
+groupRules n size ok = (eqb n 0 && leb 4096 size, 18) ∷ (eqb n 0, 4) ∷ (not ok, 17) ∷ []
+
+abbrev pub refusedGroup : ℕ → Group
+refusedGroup a = record { answer = a; used = 0; kind = 0; major = 0; minor = 0; code = 0 }
+
+unfoldable pub groupFrom : ℕ → ℕ → Bool → Start → Group
+groupFrom n size ok s =
+    cond (eqb (firstOf (groupRules n size ok)) 0)
+    (record { answer = 0; used = n; kind = s .kind; major = s .major; minor = s .minor; code = s .code })
+    (refusedGroup (firstOf (groupRules n size ok)))
+
+abbrev pub readGroup : List ℕ → Group
+readGroup m = groupFrom (groupLength m) (length m) (understood m (groupLength m)) (startIn m (groupLength m))
+
+-- ---- asking for a field
+
+-- the value of the name
+abbrev pub valueIn : List ℕ → List ℕ → List ℕ
+valueIn m name = valueFor name (fieldsIn m (groupLength m))
+
+-- as for reading; then 10 where no field has the name, and 2 where its value is longer than the room for it
+abbrev pub askedRules : ℕ → ℕ → Bool → Bool → ℕ → ℕ → List (Bool × ℕ)
+askedRules n size ok absent long room = (eqb n 0 && leb 4096 size, 18) ∷ (eqb n 0, 4) ∷ (not ok, 17) ∷ (absent, 10) ∷ (ltb room long, 2) ∷ []
+
+unfoldable pub askedFrom : ℕ → ℕ → Bool → Bool → ℕ → ℕ → ℕ
+askedFrom n size ok absent long room = firstOf (askedRules n size ok absent long room)
+
+abbrev pub askedNumber : List ℕ → List ℕ → ℕ → ℕ
+askedNumber m name room =
+    askedFrom (groupLength m) (length m) (understood m (groupLength m)) (isAbsent name (fieldsIn m (groupLength m))) (length (valueIn m name)) room
+
+-- the group is used up by 0 and 10; only 0 writes
+unfoldable pub askedWith : ℕ → ℕ → ℕ → Asked
+askedWith a n long = record { answer = a; used = cond (eqb a 0 || eqb a 10) n 0; written = cond (eqb a 0) long 0 }
+
+abbrev pub askField : List ℕ → List ℕ → ℕ → Asked
+askField m name room = askedWith (askedNumber m name room) (groupLength m) (length (valueIn m name))
+
+-- the area afterwards: the value at its front, and as it was where the answer is not 0
+abbrev pub askedOut : List ℕ → List ℕ → List ℕ → List ℕ
+askedOut m name out = cond (eqb (askedNumber m name (length out)) 0) (over 0 (valueIn m name) out) out

@@ -1,0 +1,234 @@
+// The lines behind the first: whether they are fields, and the value of a name.
+use crate::lines::line_at;
+use crate::text::BLANK;
+use crate::text::NAME;
+use crate::text::TEXT;
+use crate::text::after;
+use crate::text::byte_at;
+use crate::text::front;
+use crate::text::is_blank;
+use crate::text::leading;
+use crate::text::same;
+ghost use mathlib.Core.Path.{_≡_};
+ghost use mathlib.Core.Bool.{cond, false};
+ghost use mathlib.Core.List.{_++_};
+ghost use Prim.Native.Nat.{_+_, _≤_};
+ghost use lib.ListN.{length};
+ghost use Rattle.laws.specs.Parts.{over};
+ghost use Rattle.handshake.specs.Lines.{linesOf};
+ghost use Rattle.handshake.specs.Fields.{continues, isField, lineOk, linesOk, valueFor};
+ghost use Rattle.handshake.specs.Step.{passed, stepFrom, stepOf, separated, foundIn};
+
+// A line that begins with a blank goes on with the value before it.
+fn continues(line: &[u8]) -> bool
+    ensures { λ r. ⌜ r ≡ continues (now (line .entry)) ⌝ }
+{
+    is_blank(byte_at(line, 0))
+}
+
+// A name of one byte or more, and a colon right behind it.
+fn is_field(line: &[u8]) -> bool
+    ensures { λ r. ⌜ r ≡ isField (now (line .entry)) ⌝ }
+{
+    let n = leading(line, NAME);
+    let b = byte_at(line, n);
+    if n < 1 {
+        return false;
+    }
+    b == b':'
+}
+
+// All of the line is text, and it is a field or, where a field stands before it, goes on.
+fn line_ok(before: bool, line: &[u8]) -> bool
+    ensures { λ r. ⌜ r ≡ lineOk before (now (line .entry)) ⌝ }
+{
+    if leading(line, TEXT) != line.len() {
+        return false;
+    }
+    if is_field(line) {
+        return true;
+    }
+    if before {
+        return continues(line);
+    }
+    false
+}
+
+// The lines are fields, each with the lines that go on with it.
+pub fn lines_ok(s: &[u8]) -> bool
+    ensures { λ r. ⌜ r ≡ linesOk false (linesOf (now (s .entry))) ⌝ }
+{
+    let mut next: usize = 0;
+    let mut before = false;
+    while next < s.len() {
+        let line = line_at(s, next);
+        if !line_ok(before, line) {
+            return false;
+        }
+        before = true;
+        next = next + line.len() + 2;
+    }
+    true
+}
+
+// What a line adds to the value of a name: a separator, unless that is 0, and the line from a place on. `mine`: the last field has the
+// name; `found`: a field of the name was met.
+pub struct Step {
+    pub mine: bool,
+    pub found: bool,
+    pub separator: u8,
+    pub from: usize,
+}
+
+fn comma(found: bool) -> u8
+    ensures { λ r. ⌜ r ≡ cond found 44 0 ⌝ }
+{
+    if found { b',' } else { 0 }
+}
+
+// The line adds nothing.
+fn passed(found: bool, length: usize) -> Step
+    ensures { λ r. ⌜ r ≡ passed found length ⌝ }
+{
+    Step {
+        mine: false,
+        found,
+        separator: 0,
+        from: length,
+    }
+}
+
+// A line that goes on adds to the value where the last field has the name, behind a space; a field of the name does, behind a comma where
+// it is not the first.
+fn step_from(
+    goes_on: bool,
+    named: bool,
+    mine: bool,
+    found: bool,
+    blanks: usize,
+    start: usize,
+    length: usize,
+) -> Step
+    ensures { λ r. ⌜ r ≡ stepFrom «goes_on» named mine found blanks start length ⌝ }
+{
+    if goes_on {
+        if mine {
+            return Step {
+                mine: true,
+                found,
+                separator: b' ',
+                from: blanks,
+            };
+        }
+        return passed(found, length);
+    }
+    if named {
+        return Step {
+            mine: true,
+            found: true,
+            separator: comma(found),
+            from: start,
+        };
+    }
+    passed(found, length)
+}
+
+fn line_step(name: &[u8], mine: bool, found: bool, line: &[u8]) -> Step
+    ensures { λ r. ⌜ r ≡ stepOf (now (name .entry)) mine found (now (line .entry)) ⌝ }
+{
+    let n = leading(line, NAME);
+    let named = same(true, front(line, n), name);
+    let colon = n + 1;
+    let start = colon + leading(after(line, colon), BLANK);
+    step_from(
+        continues(line),
+        named,
+        mine,
+        found,
+        leading(line, BLANK),
+        start,
+        line.len(),
+    )
+}
+
+// Whether a field of the name is there, and how long its value is.
+pub struct Found {
+    pub there: bool,
+    pub length: usize,
+}
+
+// A separator has one byte, and 0 stands for none.
+fn separator_length(separator: u8) -> usize
+    ensures { λ r. ⌜ r ≡ length (separated separator) ⌝ }
+{
+    if separator == 0 { 0 } else { 1 }
+}
+
+pub fn find(s: &[u8], name: &[u8]) -> Found
+    ensures { λ r. ⌜ r ≡ foundIn (now (name .entry)) (linesOf (now (s .entry))) ⌝ }
+{
+    let mut next: usize = 0;
+    let mut mine = false;
+    let mut there = false;
+    let mut total: usize = 0;
+    while next < s.len() {
+        let line = line_at(s, next);
+        let added = line_step(name, mine, there, line);
+        let part = after(line, added.from);
+        total = total + separator_length(added.separator) + part.len();
+        mine = added.mine;
+        there = added.found;
+        next = next + line.len() + 2;
+    }
+    Found {
+        there,
+        length: total,
+    }
+}
+
+// The part is written from place `at` on.
+fn copy(out: &mut [u8], at: usize, part: &[u8])
+    requires { ⌜ at + length (now part) ≤ length (now out) ⌝ }
+    ensures { λ r. ⌜ now (out .exit) ≡ over at (now (part .entry)) (now (out .entry)) ⌝ }
+{
+    let mut i = 0;
+    while i < part.len() {
+        out[at + i] = part[i];
+        i += 1;
+    }
+}
+
+// The separator, where there is one, and the part are written from place `at` on. What is handed back is the place behind them.
+fn put(out: &mut [u8], at: usize, separator: u8, part: &[u8]) -> usize
+    requires { ⌜ at + length (separated separator ++ now part) ≤ length (now out) ⌝ }
+    ensures { λ r. ⌜ r ≡ at + length (separated separator ++ now (part .entry)) ⌝ }
+    ensures { λ r. ⌜ now (out .exit) ≡ over at (separated separator ++ now (part .entry)) (now (out .entry)) ⌝ }
+{
+    if separator == 0 {
+        copy(out, at, part);
+        return at + part.len();
+    }
+    out[at] = separator;
+    copy(out, at + 1, part);
+    at + 1 + part.len()
+}
+
+// The value of the name is written to the front of `out`, which has room for it.
+pub(crate) fn write_value(s: &[u8], name: &[u8], out: &mut [u8])
+    requires { ⌜ length (valueFor (now name) (linesOf (now s))) ≤ length (now out) ⌝ }
+    ensures { λ r. ⌜ now (out .exit) ≡ over 0 (valueFor (now (name .entry)) (linesOf (now (s .entry)))) (now (out .entry)) ⌝ }
+{
+    let mut next: usize = 0;
+    let mut mine = false;
+    let mut there = false;
+    let mut at: usize = 0;
+    while next < s.len() {
+        let line = line_at(s, next);
+        let added = line_step(name, mine, there, line);
+        let part = after(line, added.from);
+        at = put(out, at, added.separator, part);
+        mine = added.mine;
+        there = added.found;
+        next = next + line.len() + 2;
+    }
+}

@@ -1,0 +1,201 @@
+// The handshake: reading a group of lines, and asking it for a field. Bytes behind the group are not looked at.
+pub mod fields;
+pub mod lines;
+pub mod start;
+pub mod text;
+
+use fields::find;
+use fields::lines_ok;
+use fields::write_value;
+use lines::group_length;
+use lines::line_at;
+use start::Start;
+use start::read_start;
+use text::TEXT;
+use text::after;
+use text::front;
+use text::leading;
+ghost use mathlib.Core.Path.{_≡_};
+ghost use mathlib.Core.Bool.{not};
+ghost use Prim.Native.Nat.{_-_};
+ghost use lib.ListN.{length, take};
+ghost use Rattle.handshake.specs.Lines.{groupLength, linesOf};
+ghost use Rattle.handshake.specs.Group.{startIn, fieldsIn, understood, refusedGroup, groupFrom, readGroup, askedFrom, askedWith, askField, askedOut};
+
+// The kinds of a group that is understood.
+pub const GREETING: u8 = 1;
+
+pub const REPLY: u8 = 2;
+
+// A group that was read. The answer is 0, or 4 (not whole), 17 (not understood) or 18 (no end in 4,096 bytes), with all else 0 then.
+// `used` is the group's length; `code` is 0 for a greeting.
+#[repr(C)]
+pub struct Group {
+    pub answer: u8,
+    pub used: usize,
+    pub kind: u8,
+    pub major: u32,
+    pub minor: u32,
+    pub code: u32,
+}
+
+// A field that was asked for. The answer is as for reading, or 10 (absent) or 2 (the area is short). `used` is the group's length for
+// 0 and 10; `written` is the value's length for 0.
+#[repr(C)]
+pub struct Asked {
+    pub answer: u8,
+    pub used: usize,
+    pub written: usize,
+}
+
+// The lines of a group of n bytes, without the empty one.
+fn lines_part(m: &[u8], n: usize) -> &[u8]
+    ensures { λ r. ⌜ now r ≡ take (n - 2) (now (m .entry)) ⌝ }
+{
+    if n < 2 { front(m, 0) } else { front(m, n - 2) }
+}
+
+// What the first line of a group of n bytes says.
+fn start_of(m: &[u8], n: usize) -> Start
+    ensures { λ r. ⌜ r ≡ startIn (now (m .entry)) n ⌝ }
+{
+    read_start(line_at(lines_part(m, n), 0))
+}
+
+// The lines behind the first, of a group of n bytes.
+fn fields_part(m: &[u8], n: usize) -> &[u8]
+    ensures { λ r. ⌜ linesOf (now r) ≡ fieldsIn (now (m .entry)) n ⌝ }
+{
+    let part = lines_part(m, n);
+    let first = line_at(part, 0);
+    after(part, first.len() + 2)
+}
+
+// Whether all lines of a group of n bytes are understood.
+fn is_understood(m: &[u8], n: usize) -> bool
+    ensures { λ r. ⌜ r ≡ understood (now (m .entry)) n ⌝ }
+{
+    let first = line_at(lines_part(m, n), 0);
+    let s = read_start(first);
+    let kind = s.kind;
+    if leading(first, TEXT) != first.len() {
+        return false;
+    }
+    if kind == 0 {
+        return false;
+    }
+    lines_ok(fields_part(m, n))
+}
+
+fn refused_group(answer: u8) -> Group
+    ensures { λ r. ⌜ r ≡ refusedGroup answer ⌝ }
+{
+    Group {
+        answer,
+        used: 0,
+        kind: 0,
+        major: 0,
+        minor: 0,
+        code: 0,
+    }
+}
+
+fn group_from(n: usize, size: usize, ok: bool, s: Start) -> Group
+    ensures { λ r. ⌜ r ≡ groupFrom n size ok s ⌝ }
+{
+    if n == 0 {
+        if size >= 4096 {
+            return refused_group(18);
+        }
+        return refused_group(4);
+    }
+    if ok {
+        return Group {
+            answer: 0,
+            used: n,
+            kind: s.kind,
+            major: s.major,
+            minor: s.minor,
+            code: s.code,
+        };
+    }
+    refused_group(17)
+}
+
+// Reads the group at the front of the bytes.
+pub fn read_group(bytes: &[u8]) -> Group
+    ensures { λ r. ⌜ r ≡ readGroup (now (bytes .entry)) ⌝ }
+{
+    let n = group_length(bytes);
+    group_from(n, bytes.len(), is_understood(bytes, n), start_of(bytes, n))
+}
+
+fn asked_number(n: usize, size: usize, ok: bool, there: bool, long: usize, room: usize) -> u8
+    ensures { λ r. ⌜ r ≡ askedFrom n size ok (not there) long room ⌝ }
+{
+    if n == 0 {
+        if size >= 4096 {
+            return 18;
+        }
+        return 4;
+    }
+    if ok {
+        if there {
+            if room < long {
+                return 2;
+            }
+            return 0;
+        }
+        return 10;
+    }
+    17
+}
+
+fn asked_with(answer: u8, n: usize, long: usize) -> Asked
+    ensures { λ r. ⌜ r ≡ askedWith answer n long ⌝ }
+{
+    if answer == 0 {
+        return Asked {
+            answer,
+            used: n,
+            written: long,
+        };
+    }
+    if answer == 10 {
+        return Asked {
+            answer,
+            used: n,
+            written: 0,
+        };
+    }
+    Asked {
+        answer,
+        used: 0,
+        written: 0,
+    }
+}
+
+// Writes the value of a name to the front of `out`: all values of the name in the group at the front of the bytes, with commas between
+// them. `out` stays as it is where the answer is not 0.
+pub fn field(bytes: &[u8], name: &[u8], out: &mut [u8]) -> Asked
+    ensures { λ r. ⌜ r ≡ askField (now (bytes .entry)) (now (name .entry)) (length (now (out .entry))) ⌝ }
+    ensures { λ r. ⌜ now (out .exit) ≡ askedOut (now (bytes .entry)) (now (name .entry)) (now (out .entry)) ⌝ }
+{
+    let n = group_length(bytes);
+    let lines = fields_part(bytes, n);
+    let found = find(lines, name);
+    let long = found.length;
+    let answer = asked_number(
+        n,
+        bytes.len(),
+        is_understood(bytes, n),
+        found.there,
+        long,
+        out.len(),
+    );
+    if answer == 0 {
+        write_value(lines, name, out);
+        return asked_with(0, n, long);
+    }
+    asked_with(answer, n, long)
+}

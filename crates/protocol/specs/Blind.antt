@@ -1,0 +1,75 @@
+-- How much of its bytes a message call reads and uses: the message at their front and nothing past it; and its answer as one ordered list.
+use Prim.Native.Nat.{ℕ, _+_, _≤_}
+use mathlib.Core.Path.{_≡_}
+use mathlib.Core.Bool.{Bool, cond, not, _&&_, _||_}
+use mathlib.Core.List.{List, [], _∷_, _++_}
+use lib.Dec.{eqb, leb}
+use lib.ListN.{length, take}
+use Rattle.laws.specs.Tests.{firstOf, any}
+use Rattle.wire.specs.Header.{kindOf, ttlOf, hopsOf, sizeOf, payloadOf, routeUpdate}
+use Rattle.tables.specs.Tables.{Held}
+use Rattle.tables.specs.Updates.{isPatch, goodReset, goodPatch, inTurn, inRange}
+use Rattle.protocol.specs.declared.Station.{Station}
+use Rattle.protocol.specs.declared.Own.{Own}
+use Rattle.protocol.specs.Lines.{lineAt, heldAt}
+use Rattle.protocol.specs.Queries.{usualLimit, queryType, queryRules}
+use Rattle.protocol.specs.Hits.{hitType, hitRules, hitFound}
+use Rattle.protocol.specs.Pings.{pingType, pongType, pingRules, pongRules}
+use Rattle.protocol.specs.Calls.{earlyRules, messageOutcome, messageResult}
+
+-- a whole message stands at the front: its header and as much payload as the header says
+abbrev pub Whole : List ℕ → Type 0
+Whole m = 23 + sizeOf m ≤ length m
+
+-- every call with one is as the call with the other: answer, state, lines, bytes sent, route area, text, delivery, and bytes used
+pub record TakenAlike (m′ m : List ℕ) : Type 0 where
+  pub outcome : (s : Station) (l clock : ℕ) (own : Own) (out : ℕ) (route : List ℕ)
+      → messageOutcome s l clock own m′ out route ≡ messageOutcome s l clock own m out route
+  pub result : (s : Station) (l clock : ℕ) (own : Own) (out : ℕ) (route : List ℕ)
+      → messageResult s l clock own m′ out route ≡ messageResult s l clock own m out route
+
+-- document 01, "Numbers": bytes past the message are not read, whatever they are, and can as well be left away
+pub record ReadNoFurther (m : List ℕ) : Type 0 where
+  pub more : (x : List ℕ) → TakenAlike (m ++ x) m
+  pub less : TakenAlike (take (23 + sizeOf m) m) m
+
+abbrev pub Blind : Type 0
+Blind = (m : List ℕ) → Whole m → ReadNoFurther m
+
+-- nothing is used where the answer is 1 to 5, else the header and the payload
+abbrev pub usedAfter : ℕ → List ℕ → ℕ
+usedAfter answer m = cond (leb 1 answer && leb answer 5) 0 (23 + sizeOf m)
+
+abbrev pub UsedExact : Type 0
+UsedExact =
+    (s : Station) (l clock : ℕ) (own : Own) (m : List ℕ) (out : ℕ) (route : List ℕ)
+    → messageResult s l clock own m out route .used ≡ usedAfter (messageResult s l clock own m out route .answer) m
+
+-- the refusals of an update, in order
+abbrev pub updateRules : ℕ → Held → ℕ → ℕ → List ℕ → List (Bool × ℕ)
+updateRules room h ttl hops p =
+    (not (eqb ttl 1 && eqb hops 0), 14)
+    ∷ (not (goodReset room p || goodPatch p), 14)
+    ∷ (isPatch p && not (inTurn h p), 15)
+    ∷ (isPatch p && not (inRange h p), 16)
+    ∷ []
+
+-- the refusals of a message of each type
+abbrev pub typeRules : Station → ℕ → ℕ → List ℕ → List ℕ → List (Bool × ℕ)
+typeRules s l clock m route =
+    cond (eqb (kindOf m) pingType) (pingRules (lineAt s l) clock m)
+    (cond (eqb (kindOf m) pongType) (pongRules m)
+    (cond (eqb (kindOf m) routeUpdate) (updateRules (s .room) (heldAt s l route) (ttlOf m) (hopsOf m) (payloadOf m))
+    (cond (eqb (kindOf m) queryType) (queryRules usualLimit s m)
+    (cond (eqb (kindOf m) hitType) (hitRules (hitFound s m) m) []))))
+
+-- a type that has no rules
+abbrev pub unnamed : List ℕ → Bool
+unnamed m = not (any (eqb (kindOf m)) (pingType ∷ pongType ∷ routeUpdate ∷ queryType ∷ hitType ∷ []))
+
+-- all refusals of a message call in one ordered list: the answer is the first that holds, and 0 where none does
+abbrev pub Numbers : Type 0
+Numbers =
+    (s : Station) (l clock : ℕ) (own : Own) (m : List ℕ) (out : ℕ) (route : List ℕ)
+    → messageOutcome s l clock own m out route .answer
+    ≡ firstOf (earlyRules s l m out (length route) ++ ((unnamed m, 7) ∷ typeRules s l clock m route))

@@ -1,0 +1,41 @@
+// Hosts to try, as a handshake's X-Try field lists them: address and port pairs read from a field's value, and the
+// three groups that the station writes.
+pub mod group;
+pub mod read;
+pub mod write;
+
+// The address of a host in network order, and its port.
+#[repr(C)]
+pub struct Pair {
+    pub address: [u8; 4],
+    pub port: u16,
+}
+
+// Up to 32 pairs: the first `count` places are in use, the others are zero when read.
+#[repr(C)]
+pub struct Pairs {
+    pub count: usize,
+    pub pairs: [Pair; 32],
+}
+
+// What reading a value gives: the answer's number in document 01, and the pairs (none where it is not 0).
+#[repr(C)]
+pub struct Tried {
+    pub answer: u8,
+    pub pairs: Pairs,
+}
+
+// What asking a group for its hosts gives: `used` is the group's length where the group was understood.
+#[repr(C)]
+pub struct TriedGroup {
+    pub answer: u8,
+    pub used: usize,
+    pub pairs: Pairs,
+}
+
+// What writing a group gives: the answer's number in document 01, and how many bytes were written (none where it is not 0).
+#[repr(C)]
+pub struct Wrote {
+    pub answer: u8,
+    pub written: usize,
+}

@@ -1,0 +1,70 @@
+-- The first pairs, at most 32.
+use Prim.Native.Nat.{_≤_, _-_}
+use borrow.Author.Needs.{needs}
+use Rattle.vectors.proofs.tries.pairs_words.Statement.{statement}
+use Rattle.vectors.proofs.tries.pairs_words.Tie as tie
+
+abbrev Inv-loop : tie.InvT-loop
+Inv-loop found i₀ t6 i = i ≤ 32
+
+abbrev μ-loop : tie.MeasureT-loop
+μ-loop found i₀ t6 i = 32 - i
+
+slice-aggregate-write-all : tie.Need-slice-aggregate-write-all Inv-loop μ-loop
+slice-aggregate-write-all c = search needs
+
+write-all-requires : tie.Need-write-all-requires Inv-loop μ-loop
+write-all-requires c κs = search needs
+
+loop-holds : tie.Need-loop-holds Inv-loop μ-loop
+loop-holds c = search needs
+
+returns : tie.Need-returns Inv-loop μ-loop
+returns c = search needs
+
+slice-aggregate-write-all-2 : tie.Need-slice-aggregate-write-all-2 Inv-loop μ-loop
+slice-aggregate-write-all-2 c = search needs
+
+write-all-requires-2 : tie.Need-write-all-requires-2 Inv-loop μ-loop
+write-all-requires-2 c κs = search needs
+
+mul-p : tie.Need-mul-p Inv-loop μ-loop
+mul-p c = search needs
+
+element-copy-out-p : tie.Need-element-copy-out-p Inv-loop μ-loop
+element-copy-out-p c = search needs
+
+pair-words-requires : tie.Need-pair-words-requires Inv-loop μ-loop
+pair-words-requires c κs = search needs
+
+add-i : tie.Need-add-i Inv-loop μ-loop
+add-i c = search needs
+
+loop-less : tie.Need-loop-less Inv-loop μ-loop
+loop-less c = search needs
+
+loop-again : tie.Need-loop-again Inv-loop μ-loop
+loop-again c = search needs
+
+returns-2 : tie.Need-returns-2 Inv-loop μ-loop
+returns-2 c = search needs
+
+pub pairs-words-spec : {M : Type 1} → statement M
+pairs-words-spec =
+    tie.close
+    (tie.spec
+    Inv-loop
+    μ-loop
+    slice-aggregate-write-all
+    write-all-requires
+    loop-holds
+    returns
+    slice-aggregate-write-all-2
+    write-all-requires-2
+    mul-p
+    element-copy-out-p
+    pair-words-requires
+    add-i
+    loop-less
+    loop-again
+    returns-2)

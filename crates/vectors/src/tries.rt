@@ -1,0 +1,227 @@
+// `try LABEL ANSWER USED PAIRS` and `written LABEL ANSWER BYTES`
+use crate::print;
+use tryhosts::Pair;
+use tryhosts::Pairs;
+
+fn pair_words(p: Pair) {
+    let address = p.address;
+    print::byte(address[0]);
+    io::write_all(1, b".");
+    print::byte(address[1]);
+    io::write_all(1, b".");
+    print::byte(address[2]);
+    io::write_all(1, b".");
+    print::byte(address[3]);
+    io::write_all(1, b":");
+    print::number(p.port as u64);
+}
+
+fn pairs_words(found: Pairs) {
+    if found.count == 0 {
+        io::write_all(1, b"-");
+    }
+    let mut i: usize = 0;
+    while i < 32 {
+        if found.count <= i {
+            return;
+        }
+        if 0 < i {
+            io::write_all(1, b",");
+        }
+        let p = found.pairs[i];
+        pair_words(p);
+        i += 1;
+    }
+}
+
+fn row(label: &[u8], bytes: &[u8]) {
+    let r = tryhosts::group::try_pairs(bytes);
+    io::write_all(1, b"try ");
+    print::word(label);
+    print::space();
+    print::number(r.answer as u64);
+    print::space();
+    print::number(r.used as u64);
+    print::space();
+    let found = r.pairs;
+    pairs_words(found);
+    print::end();
+}
+
+fn lists() {
+    row(
+        b"two",
+        b"GNUTELLA/0.6 503 Busy\r\nX-Try:1.2.3.4:1234,3.4.5.6:3456\r\n\r\n",
+    );
+    row(
+        b"spaces",
+        b"GNUTELLA/0.6 503 Busy\r\nX-Try: 1.2.3.4:1234, 3.4.5.6:3456\r\n\r\n",
+    );
+    row(
+        b"comma",
+        b"GNUTELLA/0.6 503 Busy\r\nX-Try: 1.2.3.4:1234,\r\n\r\n",
+    );
+    row(
+        b"lines",
+        b"GNUTELLA/0.6 503 Busy\r\nX-Try: 1.2.3.4:1234,\r\n 3.4.5.6:3456\r\nx-try: 5.6.7.8:1\r\n\r\n",
+    );
+    row(b"none", b"GNUTELLA/0.6 503 Busy\r\n\r\n");
+    row(b"empty", b"GNUTELLA/0.6 503 Busy\r\nX-Try:\r\n\r\n");
+    row(
+        b"commas",
+        b"GNUTELLA/0.6 503 Busy\r\nX-Try: ,, ,1.2.3.4:5,,\r\n\r\n",
+    );
+    row(
+        b"twospaces",
+        b"GNUTELLA/0.6 503 Busy\r\nX-Try: 1.2.3.4:5,  3.4.5.6:7\r\n\r\n",
+    );
+    row(
+        b"leading",
+        b"GNUTELLA/0.6 503 Busy\r\nX-Try:\r\n 1.2.3.4:5\r\n\r\n",
+    );
+}
+
+fn numbers() {
+    row(
+        b"port0",
+        b"GNUTELLA/0.6 503 Busy\r\nX-Try: 1.2.3.4:0\r\n\r\n",
+    );
+    row(
+        b"port65535",
+        b"GNUTELLA/0.6 503 Busy\r\nX-Try: 1.2.3.4:65535\r\n\r\n",
+    );
+    row(
+        b"port65536",
+        b"GNUTELLA/0.6 503 Busy\r\nX-Try: 1.2.3.4:65536\r\n\r\n",
+    );
+    row(
+        b"zeros",
+        b"GNUTELLA/0.6 503 Busy\r\nX-Try: 01.002.3.4:00080\r\n\r\n",
+    );
+    row(
+        b"octet256",
+        b"GNUTELLA/0.6 503 Busy\r\nX-Try: 1.2.3.256:5\r\n\r\n",
+    );
+    row(
+        b"digits4",
+        b"GNUTELLA/0.6 503 Busy\r\nX-Try: 0001.2.3.4:5\r\n\r\n",
+    );
+    row(b"three", b"GNUTELLA/0.6 503 Busy\r\nX-Try: 1.2.3:5\r\n\r\n");
+    row(
+        b"five",
+        b"GNUTELLA/0.6 503 Busy\r\nX-Try: 1.2.3.4.5:6\r\n\r\n",
+    );
+    row(
+        b"noport",
+        b"GNUTELLA/0.6 503 Busy\r\nX-Try: 1.2.3.4\r\n\r\n",
+    );
+    row(
+        b"more",
+        b"GNUTELLA/0.6 503 Busy\r\nX-Try: 1.2.3.4:5x\r\n\r\n",
+    );
+}
+
+// n pairs `1.2.3.4:5`, each with a comma, behind the name of the field; where the last of them ends.
+fn put_pairs(area: &mut [u8], n: usize) -> usize {
+    let mut at: usize = 30;
+    let mut i: usize = 0;
+    while i < n {
+        if 500 < at {
+            return at;
+        }
+        print::put(&mut *area, at, b"1.2.3.4:5,");
+        at += 10;
+        i += 1;
+    }
+    at
+}
+
+// So many pairs, and then `last`, in a group.
+fn many(label: &[u8], n: usize, last: &[u8]) {
+    let mut area = [0u8; 600];
+    print::put(&mut area, 0, b"GNUTELLA/0.6 503 Busy\r\nX-Try: ");
+    let at = put_pairs(&mut area, n);
+    print::put(&mut area, at, last);
+    row(label, &area);
+}
+
+fn wrote(label: &[u8], r: tryhosts::Wrote, out: &[u8]) {
+    io::write_all(1, b"written ");
+    print::word(label);
+    print::space();
+    print::number(r.answer as u64);
+    print::space();
+    print::hex(out, r.written);
+    print::end();
+}
+
+fn pair(a: u8, b: u8, c: u8, d: u8, port: u16) -> Pair {
+    Pair {
+        address: [a, b, c, d],
+        port,
+    }
+}
+
+fn one(p: Pair) -> Pairs {
+    let mut pairs = [pair(0, 0, 0, 0, 0); 32];
+    pairs[0] = p;
+    Pairs { count: 1, pairs }
+}
+
+fn two(p: Pair, q: Pair) -> Pairs {
+    let mut pairs = [pair(0, 0, 0, 0, 0); 32];
+    pairs[0] = p;
+    pairs[1] = q;
+    Pairs { count: 2, pairs }
+}
+
+fn none() -> Pairs {
+    let pairs = [pair(0, 0, 0, 0, 0); 32];
+    Pairs { count: 0, pairs }
+}
+
+fn busy(label: &[u8], pairs: Pairs, out: &mut [u8]) {
+    let r = tryhosts::write::write_busy(pairs, &mut *out);
+    wrote(label, r, out);
+}
+
+fn greeting(label: &[u8], out: &mut [u8]) {
+    let r = tryhosts::write::write_greeting(&mut *out);
+    wrote(label, r, out);
+}
+
+fn ok(label: &[u8], out: &mut [u8]) {
+    let r = tryhosts::write::write_ok(&mut *out);
+    wrote(label, r, out);
+}
+
+fn writes() {
+    let mut out = [0u8; 128];
+    greeting(b"greeting", &mut out);
+    ok(b"ok", &mut out);
+    busy(b"busy", none(), &mut out);
+    busy(b"busy1", one(pair(1, 2, 3, 4, 5)), &mut out);
+    busy(
+        b"busy2",
+        two(pair(1, 2, 3, 4, 65535), pair(255, 0, 10, 100, 80)),
+        &mut out,
+    );
+    busy(b"port0", one(pair(1, 2, 3, 4, 0)), &mut out);
+    let mut most = [0u8; 23];
+    greeting(b"greetingshort", &mut most);
+    let mut less = [0u8; 22];
+    ok(b"okshort", &mut less);
+    let mut more = [0u8; 24];
+    busy(b"busyshort", none(), &mut more);
+    let mut empty = [0u8; 1];
+    busy(b"port0short", one(pair(1, 2, 3, 4, 0)), &mut empty[..0]);
+}
+
+pub fn all() {
+    lists();
+    numbers();
+    many(b"many32", 31, b"1.2.3.4:5\r\n\r\n");
+    many(b"many33", 32, b"1.2.3.4:5\r\n\r\n");
+    many(b"bad33", 32, b"1.2.3.4:0\r\n\r\n");
+    writes();
+}

@@ -1,0 +1,111 @@
+// `table LABEL ANSWER WRITTEN BYTES` and `run ENTRIES BITS SIZE ANSWER WRITTEN`
+use crate::print;
+
+fn number() -> [u8; 16] {
+    [0, 1, 2, 3, 4, 5, 6, 7, 8, 9, 10, 11, 12, 13, 14, 15]
+}
+
+// A row of what was written to the front of `out`.
+fn words(label: &[u8], answer: u8, written: usize, out: &[u8]) {
+    io::write_all(1, b"table ");
+    print::word(label);
+    print::space();
+    print::number(answer as u64);
+    print::space();
+    print::number(written as u64);
+    print::space();
+    print::hex(out, written);
+    print::end();
+}
+
+// From no table.
+fn fresh_in(label: &[u8], new: &[u8], infinity: u8, size: usize, out: &mut [u8]) {
+    let r = tablewriter::write_table(number(), false, new, 0, new, infinity, size, &mut *out);
+    words(label, r.answer, r.written, out);
+}
+
+fn fresh(label: &[u8], new: &[u8], infinity: u8, size: usize) {
+    let mut out = [0u8; 400];
+    fresh_in(label, new, infinity, size, &mut out);
+}
+
+// From an old table.
+fn change_in<'a>(
+    label: &[u8],
+    old: &'a [u8],
+    was: u8,
+    new: &'a [u8],
+    infinity: u8,
+    size: usize,
+    out: &mut [u8],
+) {
+    let r = tablewriter::write_table(number(), true, old, was, new, infinity, size, &mut *out);
+    words(label, r.answer, r.written, out);
+}
+
+fn change<'a>(label: &[u8], old: &'a [u8], was: u8, new: &'a [u8], infinity: u8, size: usize) {
+    let mut out = [0u8; 400];
+    change_in(label, old, was, new, infinity, size, &mut out);
+}
+
+fn accepted() {
+    fresh(b"fresh", &[8, 1, 8, 1], 8, 4091);
+    fresh(b"fresh1", &[8, 1, 8, 1], 8, 1);
+    change(b"same", &[8, 1, 8, 1], 8, &[8, 1, 8, 1], 8, 4091);
+    change(b"change", &[8, 1, 8, 1], 8, &[1, 8, 1, 8], 8, 2);
+    change(b"wide", &[120, 1, 120, 1], 127, &[1, 120, 127, 1], 127, 3);
+    change(b"edge7", &[1, 9, 1, 1], 20, &[8, 1, 1, 1], 20, 2);
+    change(b"edge8", &[1, 9, 1, 1], 20, &[9, 1, 1, 1], 20, 2);
+}
+
+fn refused() {
+    fresh(b"length6", &[1, 1, 1, 1, 1, 1], 8, 9);
+    fresh(b"entry0", &[0, 1, 1, 1], 8, 9);
+    fresh(b"entry9", &[9, 1, 1, 1], 8, 9);
+    change(b"old9", &[9, 1, 1, 1], 8, &[8, 1, 1, 1], 8, 9);
+    fresh(b"infinity1", &[1, 1, 1, 1], 1, 9);
+    fresh(b"infinity128", &[1, 1, 1, 1], 128, 9);
+    change(b"unlike", &[8, 8, 8, 8], 8, &[8, 8, 8, 8], 9, 9);
+    change(b"longer", &[8, 8, 8, 8], 8, &[8, 8, 8, 8, 8, 8, 8, 8], 8, 9);
+    fresh(b"size0", &[8, 1, 8, 1], 8, 0);
+    fresh(b"size4092", &[8, 1, 8, 1], 8, 4092);
+    let mut exact = [0u8; 59];
+    fresh_in(b"exact", &[8, 1, 8, 1], 8, 4091, &mut exact);
+    let mut short = [0u8; 58];
+    fresh_in(b"short", &[8, 1, 8, 1], 8, 4091, &mut short);
+    fresh_in(b"shortbad", &[0, 1, 8, 1], 8, 4091, &mut short[..0]);
+}
+
+fn run_words(entries: usize, bits: u8, size: usize, answer: u8, written: usize) {
+    io::write_all(1, b"run ");
+    print::number(entries as u64);
+    print::space();
+    print::number(bits as u64);
+    print::space();
+    print::number(size as u64);
+    print::space();
+    print::number(answer as u64);
+    print::space();
+    print::number(written as u64);
+    print::end();
+}
+
+// A long run: every entry 127 goes at 4 bits, every entry 1 at 8.
+fn run(new: &[u8], bits: u8, size: usize, out: &mut [u8]) {
+    let r = tablewriter::write_table(number(), false, new, 0, new, 127, size, out);
+    run_words(new.len(), bits, size, r.answer, r.written);
+}
+
+pub fn all() {
+    accepted();
+    refused();
+    let far = [127u8; 65536];
+    let near = [1u8; 65536];
+    let mut out = [0u8; 131072];
+    run(&near, 8, 257, &mut out);
+    run(&near, 8, 258, &mut out);
+    run(&near, 8, 4091, &mut out);
+    run(&far, 4, 128, &mut out);
+    run(&far, 4, 129, &mut out);
+    run(&[127u8; 4], 4, 1, &mut out);
+}

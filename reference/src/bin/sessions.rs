@@ -1,0 +1,334 @@
+//! Makes seeded random session files, and shows a session file as a readable list of events.
+//!
+//!     sessions make DIR COUNT SEED     writes DIR/0000, DIR/0001, ..
+//!     sessions show FILE               one line for each event
+
+use std::env;
+use std::fs;
+use std::path::Path;
+use std::process::ExitCode;
+
+/// The most bytes of a session file.
+const FILE: usize = 32_768;
+
+/// A small generator (xorshift), so that a seed gives the same files everywhere.
+struct Random(u64);
+
+impl Random {
+    fn next(&mut self) -> u64 {
+        self.0 ^= self.0 << 13;
+        self.0 ^= self.0 >> 7;
+        self.0 ^= self.0 << 17;
+        self.0
+    }
+
+    fn below(&mut self, n: u64) -> u64 {
+        self.next() % n
+    }
+
+    fn one_in(&mut self, n: u64) -> bool {
+        self.below(n) == 0
+    }
+
+    fn pick<T: Copy>(&mut self, items: &[T]) -> T {
+        items[self.below(items.len() as u64) as usize]
+    }
+
+    fn bytes(&mut self, n: usize) -> Vec<u8> {
+        (0..n).map(|_| self.next() as u8).collect()
+    }
+}
+
+/// What a file is made with: its random numbers, the clock, and the numbers of queries it has sent.
+struct Maker {
+    random: Random,
+    clock: u32,
+    asked: Vec<[u8; 16]>,
+    /// How far the run of each line is: place, size and bits of its next PATCH, and the table's length.
+    runs: [(u8, u8, u8, usize); 8],
+}
+
+impl Maker {
+    fn new(seed: u64) -> Maker {
+        let mut random = Random(seed.wrapping_mul(0x9E37_79B9_7F4A_7C15) | 1);
+        for _ in 0..8 {
+            random.next();
+        }
+        let clock = random.pick(&[0, 1_000_000, u32::MAX - 20_000, u32::MAX - 500]);
+        Maker { random, clock, asked: Vec::new(), runs: [(1, 1, 4, 4); 8] }
+    }
+
+    fn number(&mut self) -> [u8; 16] {
+        let mut number = [0; 16];
+        number.copy_from_slice(&self.random.bytes(16));
+        number
+    }
+
+    fn message(&mut self, number: [u8; 16], kind: u8, ttl: u8, hops: u8, payload: &[u8]) -> Vec<u8> {
+        let mut bytes = number.to_vec();
+        bytes.extend([kind, ttl, hops]);
+        bytes.extend((payload.len() as u32).to_le_bytes());
+        bytes.extend(payload);
+        bytes
+    }
+
+    fn ttl(&mut self) -> u8 {
+        self.random.pick(&[0, 1, 1, 2, 3, 3, 4, 7, 7, 8, 15, 16, 255])
+    }
+
+    fn hops(&mut self) -> u8 {
+        self.random.pick(&[0, 0, 0, 1, 1, 2, 3, 5, 6, 7, 8, 254, 255])
+    }
+
+    fn query(&mut self, plain: bool) -> Vec<u8> {
+        let number = if !plain && !self.asked.is_empty() && self.random.one_in(4) {
+            let at = self.random.below(self.asked.len() as u64) as usize;
+            self.asked[at]
+        } else {
+            let number = self.number();
+            self.asked.push(number);
+            number
+        };
+        let text = self.random.pick(&["eb", "eb ebckl", "ebcklmen", "", " ", "EB  EBCKL ", "log", "a b c d"]);
+        let mut payload = vec![0, 0];
+        payload.extend(text.bytes());
+        if plain || !self.random.one_in(12) {
+            payload.push(0);
+        }
+        if self.random.one_in(6) {
+            let rest = self.random.below(9) as usize;
+            payload.extend(self.random.bytes(rest));
+        }
+        let (ttl, hops) = if plain { (7, 0) } else { (self.ttl(), self.hops()) };
+        self.message(number, 0x80, ttl, hops, &payload)
+    }
+
+    fn hit(&mut self) -> Vec<u8> {
+        let number = if self.asked.is_empty() || self.random.one_in(5) {
+            self.number()
+        } else {
+            let at = self.random.below(self.asked.len() as u64) as usize;
+            self.asked[at]
+        };
+        let size = self.random.pick(&[27, 27, 30, 40, 26, 0]);
+        let payload = self.random.bytes(size);
+        let (ttl, hops) = (self.ttl(), self.hops());
+        self.message(number, 0x81, ttl, hops, &payload)
+    }
+
+    fn ping(&mut self) -> Vec<u8> {
+        let (number, ttl, hops) = (self.number(), self.ttl(), self.hops());
+        let size = self.random.below(4) as usize;
+        let payload = self.random.bytes(size);
+        self.message(number, 0x00, ttl, hops, &payload)
+    }
+
+    fn pong(&mut self) -> Vec<u8> {
+        let (number, ttl, hops) = (self.number(), self.ttl(), self.hops());
+        let size = self.random.pick(&[14, 14, 14, 17, 13, 0]);
+        let payload = self.random.bytes(size);
+        self.message(number, 0x01, ttl, hops, &payload)
+    }
+
+    fn reset(&mut self, line: usize) -> Vec<u8> {
+        let length: u32 = self.random.pick(&[4, 4, 4, 8, 64, 2048, 2049, 4096, 3]);
+        let infinity = self.random.pick(&[8, 8, 8, 2, 127, 1, 128]);
+        let mut payload = vec![0];
+        payload.extend(length.to_le_bytes());
+        payload.push(infinity);
+        self.runs[line] = (1, self.random.below(3) as u8 + 1, self.random.pick(&[4, 8]), length as usize);
+        self.message([1; 16], 0x30, 1, 0, &payload)
+    }
+
+    /// A PATCH of the line's run, right in most cases: its share of the entries, with small numbers.
+    fn patch(&mut self, line: usize) -> Vec<u8> {
+        let (place, size, bits, length) = self.runs[line];
+        let all = length * bits as usize / 8;
+        let share = if place == size { all - all / size as usize * (size as usize - 1) } else { all / size as usize };
+        let mut data = vec![0; share.min(4091)];
+        for byte in data.iter_mut() {
+            *byte = if bits == 4 { self.random.pick(&[0x00, 0x99, 0x09, 0xFF, 0x0F]) } else { self.random.pick(&[0, 0xF9, 0xFF, 0xFE]) };
+        }
+        let mut payload = vec![1, place, size, 0, bits];
+        payload.extend(data);
+        self.runs[line].0 = if place >= size { 1 } else { place + 1 };
+        if self.random.one_in(8) {
+            let at = self.random.below(payload.len() as u64) as usize;
+            payload[at] = payload[at].wrapping_add(1 + self.random.below(3) as u8);
+        }
+        let (ttl, hops) = if self.random.one_in(30) { (2, 1) } else { (1, 0) };
+        self.message([2; 16], 0x30, ttl, hops, &payload)
+    }
+
+    fn event(&mut self, kind: u8, line: u8, message: &[u8]) -> Vec<u8> {
+        self.clock = self.clock.wrapping_add(self.random.pick(&[0, 1, 300, 700, 999, 1000, 5000, 16_000]));
+        let mut bytes = vec![kind, line];
+        bytes.extend(self.clock.to_le_bytes());
+        bytes.extend(message);
+        bytes
+    }
+
+    fn any_event(&mut self) -> Vec<u8> {
+        let line = if self.random.one_in(40) { self.random.pick(&[8, 200, 255]) } else { self.random.below(4) as u8 };
+        let at = line as usize % 8;
+        let mut message = match self.random.below(22) {
+            0 | 1 => return self.event(0, line, &[]),
+            2 if self.random.one_in(2) => return self.event(1, line, &[]),
+            2 => return self.event(0, line, b"ignored"),
+            3..=8 => self.query(false),
+            9..=11 => self.hit(),
+            12 | 13 => self.ping(),
+            14 | 15 => self.pong(),
+            16 | 17 => self.reset(at),
+            18..=20 => self.patch(at),
+            _ => {
+                let kind = self.random.pick(&[0x02, 0x20, 0x40, 0x7F, 0xFF]);
+                let number = self.number();
+                self.message(number, kind, 3, 0, &[1, 2, 3])
+            }
+        };
+        match self.random.below(30) {
+            0 => {
+                let keep = self.random.below(message.len() as u64 + 1) as usize;
+                message.truncate(keep);
+            }
+            1 => message.extend(self.random.bytes(5)),
+            2 => {
+                let size: u32 = self.random.pick(&[4096, 4097, u32::MAX]);
+                message.splice(19..23, size.to_le_bytes());
+            }
+            _ => {}
+        }
+        self.event(2, line, &message)
+    }
+
+    fn events(&mut self) -> Vec<Vec<u8>> {
+        let mut events = vec![self.event(0, 0, &[]), self.event(0, 1, &[])];
+        let mut size = 8;
+        let many = self.random.one_in(4);
+        let limit = self.random.pick(&[1_000, 8_000, 32_000]);
+        while size < limit {
+            let event = if many && !self.random.one_in(6) {
+                let query = self.query(true);
+                let line = self.random.below(2) as u8;
+                self.event(2, line, &query)
+            } else {
+                self.any_event()
+            };
+            size += event.len() + 4;
+            events.push(event);
+        }
+        while 8 + events.iter().map(|event| event.len() + 4).sum::<usize>() > FILE {
+            events.pop();
+        }
+        events
+    }
+}
+
+/// The file of these events.
+fn file(events: &[Vec<u8>]) -> Vec<u8> {
+    let mut at = 8 + 4 * events.len() as u32;
+    let mut bytes = (events.len() as u32).to_le_bytes().to_vec();
+    bytes.extend(at.to_le_bytes());
+    for event in events {
+        at += event.len() as u32;
+        bytes.extend(at.to_le_bytes());
+    }
+    for event in events {
+        bytes.extend(event);
+    }
+    bytes
+}
+
+/// Spoils a file: cut, lengthened, an offset or a count moved, a wrong kind, or too long.
+fn spoil(random: &mut Random, bytes: &mut Vec<u8>) {
+    match random.below(6) {
+        0 => {
+            let keep = random.below(bytes.len() as u64) as usize;
+            bytes.truncate(keep);
+        }
+        1 => bytes.push(0),
+        2 => {
+            let at = random.below(12.min(bytes.len() as u64)) as usize;
+            bytes[at] = bytes[at].wrapping_add(1);
+        }
+        3 => bytes.splice(0..4, 0x4000_0000u32.to_le_bytes()).for_each(drop),
+        4 => {
+            let first = u32::from_le_bytes([bytes[4], bytes[5], bytes[6], bytes[7]]) as usize;
+            if first < bytes.len() {
+                bytes[first] = 3;
+            }
+        }
+        _ => bytes.resize(FILE + 1, 0),
+    }
+}
+
+fn make(dir: &Path, count: u64, seed: u64) -> std::io::Result<()> {
+    fs::create_dir_all(dir)?;
+    for i in 0..count {
+        let mut maker = Maker::new(seed.wrapping_mul(1_000_003).wrapping_add(i).wrapping_add(1));
+        let events = maker.events();
+        let mut bytes = file(&events);
+        if i % 10 == 9 {
+            spoil(&mut maker.random, &mut bytes);
+        }
+        fs::write(dir.join(format!("{i:04}")), bytes)?;
+    }
+    Ok(())
+}
+
+fn show(bytes: &[u8]) {
+    let word = |at: usize| bytes.get(at..at + 4).map(|b| u32::from_le_bytes([b[0], b[1], b[2], b[3]]) as usize);
+    let count = match word(0) {
+        Some(count) => count,
+        None => {
+            println!("no count");
+            return;
+        }
+    };
+    println!("{count} events in {} bytes", bytes.len());
+    for i in 0..count.min(10_000) {
+        let (from, to) = match (word(4 + 4 * i), word(8 + 4 * i)) {
+            (Some(from), Some(to)) => (from, to),
+            _ => {
+                println!("{i}: no offset");
+                return;
+            }
+        };
+        match bytes.get(from..to) {
+            Some(e) if e.len() >= 6 => {
+                let kind = ["open", "close", "message"].get(e[0] as usize).copied().unwrap_or("unknown");
+                let clock = u32::from_le_bytes([e[2], e[3], e[4], e[5]]);
+                let hex: String = e[6..].iter().map(|byte| format!("{byte:02x}")).collect();
+                println!("{i}: {kind} line {} clock {clock} {hex}", e[1]);
+            }
+            _ => println!("{i}: bad offsets {from} {to}"),
+        }
+    }
+}
+
+fn main() -> ExitCode {
+    let args: Vec<String> = env::args().skip(1).collect();
+    let words: Vec<&str> = args.iter().map(String::as_str).collect();
+    let done = match words[..] {
+        ["make", dir, count, seed] => match (count.parse(), seed.parse()) {
+            (Ok(count), Ok(seed)) => make(Path::new(dir), count, seed),
+            _ => {
+                eprintln!("sessions: COUNT and SEED are numbers");
+                return ExitCode::from(2);
+            }
+        },
+        ["show", path] => fs::read(path).map(|bytes| show(&bytes)),
+        _ => {
+            eprintln!("usage: sessions make DIR COUNT SEED | sessions show FILE");
+            return ExitCode::from(2);
+        }
+    };
+    match done {
+        Ok(()) => ExitCode::SUCCESS,
+        Err(error) => {
+            eprintln!("sessions: {error}");
+            ExitCode::FAILURE
+        }
+    }
+}
