@@ -6,10 +6,9 @@ use native.Mathlib.Nat.{mul-le-mul-right}
 use native.Mathlib.Numerals.{add-one}
 use mathlib.Core.Path.{_≡_, refl, sym, ap, ap₂, _∙_}
 use mathlib.Core.Bool.{Bool, true, false, cond, not, _&&_, _||_}
-use mathlib.Core.List.{List, [], _∷_, _++_, map, append-nil}
+use mathlib.Core.List.{List, [], _∷_, map}
 use lib.Dec.{eqb, ltb}
-use lib.ListN.{length, getD, set, drop, length-map, drop-of-length-le, List·getD-map}
-use Rattle.laws.specs.Parts.{over}
+use lib.ListN.{length, getD, set, drop, length-map, List·getD-map}
 use lib.Seq.{set-getD, getD-set-same, drop-cons, ext-getD}
 use borrow.Author.Tests.{eqb-true, ltb-true, ltb-false, not-false}
 use Rattle.laws.specs.Tests.{firstOf, all}
@@ -81,10 +80,6 @@ fit s l m out route e =
 -- one of eight parts ends within the area
 pub part-within : (l room area : ℕ) → l < 8 → area / 8 ≡ room → l * room + room ≤ area
 part-within l room area h e = let p : (l + 1) * room ≤ 8 * room = mul-le-mul-right room (omega arith) in omega arith
-
--- what is written over a list of the same length is all that stands there
-pub over-whole : (bs area : List ℕ) → length bs ≡ length area → over 0 bs area ≡ bs
-over-whole bs area e = ap (λ l. bs ++ l) (drop-of-length-le area {i = 0 + length bs} (omega arith)) ∙ append-nil bs
 
 -- a test of every element, from element i on
 pub all-from : {A : Type 0} (f : A → Bool) (l : List A) (i : ℕ) (d : A) → i < length l → all f (drop i l) ≡ (f (getD l i d) && all f (drop (i + 1) l))

@@ -1,36 +1,22 @@
 // An arriving ping, answered with pongs, and an arriving pong, stored on its line.
 ghost use mathlib.Core.Path.{_≡_};
 ghost use Prim.Native.Nat.{_+_, _≤_, _<_};
-ghost use lib.ListN.{length, take};
+ghost use lib.ListN.{length};
 ghost use Rattle.laws.specs.Parts.{over};
 ghost use Rattle.wire.specs.Header.{sizeOf, ttlOf, hopsOf, payloadOf};
-ghost use Rattle.pinging.specs.Numbers.{pongNumber};
+ghost use Rattle.pinging.specs.Numbers.{probing, pongNumber};
 ghost use Rattle.station.specs.Steps.{timeKept, backTo, pingActed, pingSent, pingBy, pongsBack, pongActed};
-ghost use Rattle.pinging.specs.Numbers.{probing};
 use crate::acted::Acted;
 use crate::acted::only_to;
 use crate::acted::quietly;
 use pinging::answers::is_probe;
 use pinging::answers::ping_answer;
 use pinging::answers::pong_answer;
+use pinging::number::number_of;
 use pinging::send::send_pongs;
 use pinging::store::store_pong;
 use protocol::Line;
 use protocol::Own;
-
-// The message's number.
-fn number_of(m: &[u8]) -> [u8; 16]
-    requires { ⌜ 16 ≤ length (now m) ⌝ }
-    ensures { λ r. ⌜ r ≡ take 16 (now (m .entry)) ⌝ }
-{
-    let mut number = [0u8; 16];
-    let mut i = 0;
-    while i < 16 {
-        number[i] = m[i];
-        i += 1;
-    }
-    number
-}
 
 // The line after an accepted ping: a probe's time is not kept.
 fn time_kept(x: Line, probe: bool, clock: u32) -> Line

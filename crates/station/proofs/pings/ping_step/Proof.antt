@@ -1,11 +1,13 @@
 -- Refused, or answered with pongs.
 use mathlib.Core.Path.{ap, ap₂, _∙_}
+use native.Mathlib.Omega.{arith}
 use denote.Ref.{now}
 use lib.ListN.{length}
 use Rattle.laws.specs.Parts.{over}
 use Rattle.wire.specs.Header.{ttlOf, hopsOf}
 use Rattle.pinging.specs.Numbers.{probing}
 use Rattle.pinging.specs.Sending.{pongsWritten}
+use Rattle.pinging.proofs.Joined.{number-is}
 use Rattle.station.specs.Steps.{timeKept, pingBy, pongsBack}
 use Rattle.station.proofs.ReturnLaws.{ping-refused, ping-done}
 use borrow.Author.Needs.{needs}
@@ -46,7 +48,7 @@ same-length : tie.Need-same-length
 same-length c = search needs
 
 returns-2 : tie.Need-returns-2
-returns-2 c = ping-done (c .before .before .before .before .before .before .before .before .before .before .before .before .before .before .args .x) (pingBy (c .before .before .before .before .before .before .before .before .before .before .before .before .before .before .args .x) (c .before .before .before .before .before .before .before .before .before .before .before .before .before .before .args .clock) (now (c .before .before .before .before .before .before .before .before .before .before .before .before .before .before .args .m))) (c .before .before .before .before .before .before .before .before .before .before .before .before .before .before .args .l) (c .before .before .before .before .before .before .before .before .before .before .before .before .before .before .args .clock) (probing (ttlOf (now (c .before .before .before .before .before .before .before .before .before .before .before .before .before .before .args .m))) (hopsOf (now (c .before .before .before .before .before .before .before .before .before .before .before .before .before .before .args .m)))) (pongsBack (length (now (c .before .before .before .before .before .before .before .before .before .before .before .before .before .before .args .out))) (c .before .before .before .before .before .before .before .before .before .before .before .before .before .before .args .lines) (c .before .before .before .before .before .before .before .before .before .before .before .before .before .before .args .l) (c .before .before .before .before .before .before .before .before .before .before .before .before .before .before .args .clock) (c .before .before .before .before .before .before .before .before .before .before .before .before .before .before .args .own) (now (c .before .before .before .before .before .before .before .before .before .before .before .before .before .before .args .m))) (now (c .before .before .before .before .before .before .before .before .before .before .before .before .before .before .args .out)) (c .before .before .before .before .before .before .before .before .before .ping-answer .ensures) (c .before .before .before .before .before .before .before .before .if1 .left) (c .before .before .before .before .send-pongs .ensures .0 ∙ ap₂ (λ nb pr. length (pongsWritten (length (now (c .before .before .before .before .before .before .before .before .before .before .before .before .before .before .args .out))) (c .before .before .before .before .before .before .before .before .before .before .before .before .before .before .args .lines) (c .before .before .before .before .before .before .before .before .before .before .before .before .before .before .args .l) (c .before .before .before .before .before .before .before .before .before .before .before .before .before .before .args .clock) (c .before .before .before .before .before .before .before .before .before .before .before .before .before .before .args .own) nb (hopsOf (now (c .before .before .before .before .before .before .before .before .before .before .before .before .before .before .args .m))) pr)) (c .before .before .before .before .before .before .number-of .ensures) (c .before .before .before .before .before .before .before .is-probe .ensures)) (c .before .back-to .ensures) (c .time-kept .ensures ∙ ap (λ pr. timeKept (c .before .before .before .before .before .before .before .before .before .before .before .before .before .before .args .x) pr (c .before .before .before .before .before .before .before .before .before .before .before .before .before .before .args .clock)) (c .before .before .before .before .before .before .before .is-probe .ensures)) (c .before .before .before .before .send-pongs .ensures .1 .1 ∙ ap₂ (λ nb pr. over 0 (pongsWritten (length (now (c .before .before .before .before .before .before .before .before .before .before .before .before .before .before .args .out))) (c .before .before .before .before .before .before .before .before .before .before .before .before .before .before .args .lines) (c .before .before .before .before .before .before .before .before .before .before .before .before .before .before .args .l) (c .before .before .before .before .before .before .before .before .before .before .before .before .before .before .args .clock) (c .before .before .before .before .before .before .before .before .before .before .before .before .before .before .args .own) nb (hopsOf (now (c .before .before .before .before .before .before .before .before .before .before .before .before .before .before .args .m))) pr) (now (c .before .before .before .before .before .before .before .before .before .before .before .before .before .before .args .out))) (c .before .before .before .before .before .before .number-of .ensures) (c .before .before .before .before .before .before .before .is-probe .ensures))
+returns-2 c = ping-done (c .before .before .before .before .before .before .before .before .before .before .before .before .before .before .args .x) (pingBy (c .before .before .before .before .before .before .before .before .before .before .before .before .before .before .args .x) (c .before .before .before .before .before .before .before .before .before .before .before .before .before .before .args .clock) (now (c .before .before .before .before .before .before .before .before .before .before .before .before .before .before .args .m))) (c .before .before .before .before .before .before .before .before .before .before .before .before .before .before .args .l) (c .before .before .before .before .before .before .before .before .before .before .before .before .before .before .args .clock) (probing (ttlOf (now (c .before .before .before .before .before .before .before .before .before .before .before .before .before .before .args .m))) (hopsOf (now (c .before .before .before .before .before .before .before .before .before .before .before .before .before .before .args .m)))) (pongsBack (length (now (c .before .before .before .before .before .before .before .before .before .before .before .before .before .before .args .out))) (c .before .before .before .before .before .before .before .before .before .before .before .before .before .before .args .lines) (c .before .before .before .before .before .before .before .before .before .before .before .before .before .before .args .l) (c .before .before .before .before .before .before .before .before .before .before .before .before .before .before .args .clock) (c .before .before .before .before .before .before .before .before .before .before .before .before .before .before .args .own) (now (c .before .before .before .before .before .before .before .before .before .before .before .before .before .before .args .m))) (now (c .before .before .before .before .before .before .before .before .before .before .before .before .before .before .args .out)) (c .before .before .before .before .before .before .before .before .before .ping-answer .ensures) (c .before .before .before .before .before .before .before .before .if1 .left) (c .before .before .before .before .send-pongs .ensures .0 ∙ ap₂ (λ nb pr. length (pongsWritten (length (now (c .before .before .before .before .before .before .before .before .before .before .before .before .before .before .args .out))) (c .before .before .before .before .before .before .before .before .before .before .before .before .before .before .args .lines) (c .before .before .before .before .before .before .before .before .before .before .before .before .before .before .args .l) (c .before .before .before .before .before .before .before .before .before .before .before .before .before .before .args .clock) (c .before .before .before .before .before .before .before .before .before .before .before .before .before .before .args .own) nb (hopsOf (now (c .before .before .before .before .before .before .before .before .before .before .before .before .before .before .args .m))) pr)) (c .before .before .before .before .before .before .number-of .ensures ∙ number-is (now (c .before .before .before .before .before .before .before .before .before .before .before .before .before .before .args .m)) (omega (arith, c .before .before .before .before .before .before .before .before .before .before .before .before .before .before .pre .0))) (c .before .before .before .before .before .before .before .is-probe .ensures)) (c .before .back-to .ensures) (c .time-kept .ensures ∙ ap (λ pr. timeKept (c .before .before .before .before .before .before .before .before .before .before .before .before .before .before .args .x) pr (c .before .before .before .before .before .before .before .before .before .before .before .before .before .before .args .clock)) (c .before .before .before .before .before .before .before .is-probe .ensures)) (c .before .before .before .before .send-pongs .ensures .1 .1 ∙ ap₂ (λ nb pr. over 0 (pongsWritten (length (now (c .before .before .before .before .before .before .before .before .before .before .before .before .before .before .args .out))) (c .before .before .before .before .before .before .before .before .before .before .before .before .before .before .args .lines) (c .before .before .before .before .before .before .before .before .before .before .before .before .before .before .args .l) (c .before .before .before .before .before .before .before .before .before .before .before .before .before .before .args .clock) (c .before .before .before .before .before .before .before .before .before .before .before .before .before .before .args .own) nb (hopsOf (now (c .before .before .before .before .before .before .before .before .before .before .before .before .before .before .args .m))) pr) (now (c .before .before .before .before .before .before .before .before .before .before .before .before .before .before .args .out))) (c .before .before .before .before .before .before .number-of .ensures ∙ number-is (now (c .before .before .before .before .before .before .before .before .before .before .before .before .before .before .args .m)) (omega (arith, c .before .before .before .before .before .before .before .before .before .before .before .before .before .before .pre .0))) (c .before .before .before .before .before .before .before .is-probe .ensures))
 
 pub ping-step-spec : {M : Type 1} → statement M
 ping-step-spec =
