@@ -151,12 +151,11 @@ pub fn message(
     keep_byte(&mut s.asker, next, a.remember, (line % 8) as u8);
     s.count = count_after(a.remember, count);
     s.next = next_after(a.remember, next);
-    let used = used_of(a.answer, m);
     let to = a.to;
     Handled {
         state: s,
         answer: a.answer,
-        used,
+        used: used_of(a.answer, m),
         written: a.written,
         to,
         search: a.search,
