@@ -11,7 +11,7 @@ use borrow.Author.Tests.{le-leb, lt-ltb, leb-true}
 use Rattle.laws.specs.Tests.{firstOf, all}
 use Rattle.laws.specs.Ring.{keptPlaces}
 use Rattle.laws.proofs.Refusals.{and-fst, and-snd, and-intro, all-take}
-use Rattle.laws.proofs.Rings.{map-agree}
+use Rattle.laws.proofs.Rings.{map-where}
 use Rattle.laws.proofs.Ranks.{over-all}
 use Rattle.wire.specs.Header.{numberOf, ttlOf, hopsOf, sizeOf, payloadOf}
 use Rattle.protocol.specs.declared.Pong.{Pong}
@@ -98,8 +98,7 @@ pongs-are s l clock own m h =
     ap (λ bs. ownSent own m ++ cond (isProbe m) [] bs)
     (ap (λ ps. flat (map (λ p. pongBytes m (p .hops + 1) (p .bytes)) (take 10 (keepIf (isFresh clock) ps)))) (walk-is s l)
     ∙ ap flat
-    (map-agree low (λ p. pongBytes m (p .hops + 1) (p .bytes)) (storedMessage (numberOf m) (max 1 (hopsOf m))) (storedFor (s .lines) l clock)
-    raised
+    (map-where low (λ p. pongBytes m (p .hops + 1) (p .bytes)) (storedMessage (numberOf m) (max 1 (hopsOf m))) raised (storedFor (s .lines) l clock)
     (all-take low 10 (keepIf (isFresh clock) (walkIn (s .lines) l))
     (all-kept low (isFresh clock) (walkIn (s .lines) l)
     (all-walked low (s .lines) l (λ k. low-at (s .room) (s .lines) k (state-facts s h .lines)))))))

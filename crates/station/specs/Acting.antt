@@ -80,3 +80,7 @@ handledAfter s l m a used =
 -- what a message does whose first refusal is the number n (0 for none)
 unfoldable pub actOutcome : ℕ → Station → ℕ → ℕ → Own → List ℕ → List ℕ → Outcome
 actOutcome n s l clock own m route = refusedOr n s route (byType usualLimit s l clock own m route)
+
+-- the same without the state
+unfoldable pub actedFor : ℕ → Station → ℕ → ℕ → Own → List ℕ → List ℕ → Acted
+actedFor n s l clock own m route = actedOf (actOutcome n s l clock own m route) l (isTaken m (actOutcome n s l clock own m route))

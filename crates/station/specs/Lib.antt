@@ -1,2 +1,3 @@
 -- How the calls are put together.
 pub mod Acting
+pub mod Steps

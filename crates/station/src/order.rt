@@ -1,0 +1,41 @@
+// Whether a state is in order.
+ghost use mathlib.Core.Path.{_≡_};
+ghost use Rattle.laws.specs.Tests.{all};
+ghost use Rattle.protocol.specs.Order.{lineInOrder, inOrder};
+ghost use Rattle.station.specs.Acting.{stationOf};
+use crate::lines::lives;
+use pinging::order::line_in_order;
+use protocol::Line;
+
+fn lines_in_order(lines: [Line; 8], room: usize) -> bool
+    ensures { λ r. ⌜ r ≡ all (lineInOrder room) lines ⌝ }
+{
+    let mut k = 0;
+    while k < 8 {
+        if !line_in_order(lines[k], room) {
+            return false;
+        }
+        k += 1;
+    }
+    true
+}
+
+// The remembered queries and the lines, as a state has them.
+pub fn in_order<'a>(
+    lo: &'a [u64; 512],
+    hi: &'a [u64; 512],
+    asker: &'a [u8; 512],
+    next: usize,
+    count: usize,
+    room: usize,
+    lines: [Line; 8],
+) -> bool
+    ensures { λ r. ⌜ r ≡ inOrder (stationOf room lines (now (lo .entry)) (now (hi .entry)) (now (asker .entry)) count next) ⌝ }
+{
+    let live = lives(lines);
+    let memory = memory::order::in_order(lo, hi, asker, next, count, live);
+    if !memory {
+        return false;
+    }
+    lines_in_order(lines, room)
+}
