@@ -1,0 +1,2 @@
+-- Laws and vectors of the session's text.
+pub mod Vectors
