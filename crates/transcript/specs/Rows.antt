@@ -45,6 +45,12 @@ abbrev pub lineList : List ℕ → List ℕ
 lineList [] = dash ∷ []
 lineList (k ∷ ks) = digit k ∷ furtherLines ks
 
+-- what the flag of line k adds to a list of lines, which has begun or not
+abbrev pub flagText : Bool → Bool → ℕ → List ℕ
+flagText started false k = []
+flagText false true k = digit k ∷ []
+flagText true true k = comma ∷ digit k ∷ []
+
 -- the last column
 unfoldable pub sentText : List Bool → List ℕ
 sentText to = lineList (flagged 0 to)

@@ -10,6 +10,7 @@ use Rattle.protocol.specs.declared.Own.{Own}
 use Rattle.protocol.specs.Outcomes.{Outcome}
 use Rattle.protocol.specs.Calls.{fresh}
 use Rattle.protocol.specs.Runs.{Call, Open, Close, Message, Same, outcomeOf, areaAfter, start}
+use Rattle.transcript.specs.declared.events.Answered.{Answered}
 use Rattle.transcript.specs.Files.{kindOf, lineOf, clockOf, messageOf, eventAt, countFrom, countOf, goodFile}
 use Rattle.transcript.specs.Rows.{rowText}
 
@@ -41,6 +42,10 @@ outcomeBy s route e = outcomeOf (start s route) (callOf e)
 
 abbrev pub routeBy : Station → List ℕ → List ℕ → List ℕ
 routeBy s route e = areaAfter (callOf e) route (outcomeBy s route e .route)
+
+-- of which the code hands on the state, the answer and the lines sent to
+abbrev pub answered : Outcome → Answered
+answered o = record { state = o .state; answer = o .answer; to = o .to }
 
 -- a row for each of these events, each call made on what the one before it left
 unfoldable pub rowsFrom : List ℕ → Station → List ℕ → List ℕ → List ℕ

@@ -55,7 +55,8 @@ fn last_digit(n: u16) -> u8
 // A number in decimal, whose digits are written from the last to the first.
 pub fn put_number(out: &mut [u8], at: usize, n: u16) -> usize
     requires { ⌜ at + 5 ≤ length (now out) ⌝ }
-    ensures { λ r. ⌜ Put at (decimal n) (now (out .entry)) (now (out .exit)) r ⌝ }
+    ensures text { λ r. ⌜ Put at (decimal n) (now (out .entry)) (now (out .exit)) r ⌝ }
+    ensures near { λ r. ⌜ r ≤ at + 5 ⌝ }
 {
     let size = digits(n);
     let mut m = n;
