@@ -5,3 +5,4 @@ pub mod Putting
 pub mod Reading
 pub mod Listing
 pub mod Acting
+pub mod Writing

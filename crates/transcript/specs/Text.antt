@@ -1,9 +1,12 @@
 -- The text of a session, from the bytes of its event file.
-use Prim.Native.Nat.{ℕ, _+_}
+use Prim.Native.Nat.{ℕ, _+_, _*_, _≤_}
+use mathlib.Core.Path.{_≡_}
 use mathlib.Core.Bool.{Bool, true, false, cond}
 use mathlib.Core.List.{List, [], _∷_, _++_}
-use lib.Dec.{eqb}
-use lib.ListN.{replicate}
+use lib.Dec.{eqb, leb}
+use lib.ListN.{length, replicate}
+use Rattle.laws.specs.Tests.{all}
+use Rattle.laws.specs.Parts.{over}
 use Rattle.laws.specs.Text.{codes}
 use Rattle.protocol.specs.declared.Station.{Station}
 use Rattle.protocol.specs.declared.Own.{Own}
@@ -11,7 +14,8 @@ use Rattle.protocol.specs.Outcomes.{Outcome}
 use Rattle.protocol.specs.Calls.{fresh}
 use Rattle.protocol.specs.Runs.{Call, Open, Close, Message, Same, outcomeOf, areaAfter, start}
 use Rattle.transcript.specs.declared.events.Answered.{Answered}
-use Rattle.transcript.specs.Files.{kindOf, lineOf, clockOf, messageOf, eventAt, countFrom, countOf, goodFile}
+use Rattle.transcript.specs.declared.Written.{Written}
+use Rattle.transcript.specs.Files.{kindOf, lineOf, clockOf, messageOf, eventAt, countFrom, countOf, longest, goodEvent, goodFile}
 use Rattle.transcript.specs.Rows.{rowText}
 
 -- what the station says of itself: 127.0.0.1, port 6346, no files, and calls are taken
@@ -58,6 +62,15 @@ rowsFrom file s route (i ∷ is) =
 unfoldable pub allRows : List ℕ → List ℕ
 allRows file = rowsFrom file (fresh routeSize .state) (replicate routeSize 0) (countFrom 0 (countOf file))
 
+-- what the function that writes n rows from place `at` on needs: good events, whose offsets are there, an output area of the right
+-- length, and room for rows of at most 30 bytes
+pub record RowsFit (file : List ℕ) (n lent size at : ℕ) : Type 0 where
+  pub good : all (goodEvent file) (countFrom 0 n) ≡ true
+  pub offsets : 8 + 4 * n ≤ length file
+  pub short : length file ≤ longest
+  pub output : lent ≡ outputSize
+  pub room : at + 30 * n ≤ size
+
 abbrev pub heading : List ℕ
 heading = codes "event answer to\n"
 
@@ -66,3 +79,14 @@ badFile = codes "bad file\n"
 
 unfoldable pub sessionText : List ℕ → List ℕ
 sessionText file = cond (goodFile file) (heading ++ allRows file) badFile
+
+-- an area of this many bytes has room for every text
+abbrev pub textRoom : ℕ
+textRoom = 98304
+
+-- what is handed back, and the area after it; a shorter area stays as it is
+abbrev pub writtenOf : ℕ → List ℕ → Written
+writtenOf size text = record { fits = leb textRoom size; written = cond (leb textRoom size) (length text) 0 }
+
+abbrev pub areaOf : List ℕ → List ℕ → List ℕ
+areaOf text area = cond (leb textRoom (length area)) (over 0 text area) area
