@@ -138,6 +138,17 @@ module _ (file : List ℕ) (e : goodOffsets file ≡ true) where
       leb-true (8 + 4 * countOf file) (length file)
       (and-fst (leb (8 + 4 * countOf file) (length file)) _ (and-snd (leb 8 (length file)) _ (and-snd (leb (length file) longest) _ tests)))
 
+  pub offsets-first : offsetOf file 0 ≡ 8 + 4 * countOf file
+  offsets-first =
+      eqb-true (offsetOf file 0) (8 + 4 * countOf file)
+      (and-fst (eqb (offsetOf file 0) (8 + 4 * countOf file)) _ (and-snd (leb (8 + 4 * countOf file) (length file)) _ (and-snd (leb 8 (length file)) _ (and-snd (leb (length file) longest) _ tests))))
+
+  pub offsets-last : offsetOf file (countOf file) ≡ length file
+  offsets-last =
+      eqb-true (offsetOf file (countOf file)) (length file)
+      (and-fst (eqb (offsetOf file (countOf file)) (length file)) _
+      (and-snd (eqb (offsetOf file 0) (8 + 4 * countOf file)) _ (and-snd (leb (8 + 4 * countOf file) (length file)) _ (and-snd (leb 8 (length file)) _ (and-snd (leb (length file) longest) _ tests)))))
+
 pub file-bad : (file : List ℕ) → goodOffsets file ≡ false → false ≡ goodFile file
 file-bad file e = sym (rw e)
 

@@ -3,7 +3,7 @@ mod events;
 mod file;
 mod put;
 mod rows;
-mod text;
+pub mod text;
 
 // What writing a session's text gives: whether there was room for it, and its length (none where there was not).
 pub struct Written {

@@ -42,3 +42,43 @@ fn put_rows(
     }
     next
 }
+
+// The text of a good file.
+fn put_session(file: &[u8], out: &mut [u8]) -> usize
+    requires { ⌜ (goodFile (now file) ≡ true) × (textRoom ≤ length (now out)) ⌝ }
+    ensures { λ r. ⌜ Put 0 (heading ++ allRows (now (file .entry))) (now (out .entry)) (now (out .exit)) r ⌝ }
+{
+    let mut route = [0u8; 16384];
+    let mut area = [0u8; 4119];
+    let begun = station::changes::fresh(&route);
+    let state = begun.state;
+    let at = put_text(out, 0, b"event answer to\n");
+    let n = count(file);
+    put_rows(state, file, n, &mut area, &mut route, out, at)
+}
+
+// The text of a session, from the bytes of its event file. An area that is too short for some text is left as it is.
+pub fn session_text(file: &[u8], out: &mut [u8]) -> Written
+    ensures result { λ r. ⌜ r ≡ writtenOf (length (now (out .entry))) (sessionText (now (file .entry))) ⌝ }
+    ensures area { λ _. ⌜ now (out .exit) ≡ areaOf (sessionText (now (file .entry))) (now (out .entry)) ⌝ }
+    ensures inside { λ r. ⌜ r .written ≤ length (now (out .entry)) ⌝ }
+{
+    if out.len() < 98304 {
+        return Written {
+            fits: false,
+            written: 0,
+        };
+    }
+    if !good_file(file) {
+        let short = put_text(out, 0, b"bad file\n");
+        return Written {
+            fits: true,
+            written: short,
+        };
+    }
+    let written = put_session(file, out);
+    Written {
+        fits: true,
+        written,
+    }
+}
