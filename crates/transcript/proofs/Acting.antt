@@ -59,9 +59,10 @@ module _ (s : Station) (route e : List ℕ) (l : ℕ) (f : l ≡ lineOf e) (r : 
   module _ (h : kindOf e ≡ 0 → ⊥) where
     pub act-close : kindOf e ≡ 1 → r ≡ answered (closing s l) → (r ≡ answered (outcomeBy s route e)) × (route ≡ routeBy s route e)
     unfolding callOf
-    act-close k g =
-        (rw (ne-eqb (kindOf e) 0 h, eq-eqb (kindOf e) 1 k) (g ∙ ap (λ x. answered (closing s x)) f)
-        , rw (ne-eqb (kindOf e) 0 h, eq-eqb (kindOf e) 1 k))
+    act-close k g = (
+      rw (ne-eqb (kindOf e) 0 h, eq-eqb (kindOf e) 1 k) (g ∙ ap (λ x. answered (closing s x)) f),
+      rw (ne-eqb (kindOf e) 0 h, eq-eqb (kindOf e) 1 k),
+    )
 
     pub act-message : (kindOf e ≡ 1 → ⊥) → (clock : ℕ) (m after : List ℕ) → clock ≡ clockOf e → m ≡ messageOf e
         → r ≡ answered (messageOutcome s l clock ownPong m outputSize route) → after ≡ messageOutcome s l clock ownPong m outputSize route .route
@@ -69,6 +70,7 @@ module _ (s : Station) (route e : List ℕ) (l : ℕ) (f : l ≡ lineOf e) (r : 
     unfolding callOf
     act-message k clock m after g i p q =
         let same : messageOutcome s l clock ownPong m outputSize route ≡ messageOutcome s (lineOf e) (clockOf e) ownPong (messageOf e) outputSize route =
-        ap (λ x. messageOutcome s x clock ownPong m outputSize route) f ∙ ap₂ (λ x y. messageOutcome s (lineOf e) x ownPong y outputSize route) g i in
-        (rw (ne-eqb (kindOf e) 0 h, ne-eqb (kindOf e) 1 k) (p ∙ ap answered same)
-        , rw (ne-eqb (kindOf e) 0 h, ne-eqb (kindOf e) 1 k) (q ∙ ap (λ (o : Outcome). o .route) same))
+        ap (λ x. messageOutcome s x clock ownPong m outputSize route) f ∙ ap₂ (λ x y. messageOutcome s (lineOf e) x ownPong y outputSize route) g i in (
+          rw (ne-eqb (kindOf e) 0 h, ne-eqb (kindOf e) 1 k) (p ∙ ap answered same),
+          rw (ne-eqb (kindOf e) 0 h, ne-eqb (kindOf e) 1 k) (q ∙ ap (λ (o : Outcome). o .route) same),
+        )

@@ -43,11 +43,12 @@ module _ (file : List ℕ) where
         not-first k =
             let x : offsetOf file 0 ≡ 8 + 4 * countOf file → ⊥ = λ p. k (f ∙ p ∙ ap (λ m. 8 + 4 * m) (sym e)) in
             sym
-            (rw
-            (le-leb (length file) longest a
-            , le-leb 8 (length file) b
-            , le-leb (8 + 4 * countOf file) (length file) room
-            , ne-eqb (offsetOf file 0) (8 + 4 * countOf file) x))
+            (rw (
+              le-leb (length file) longest a,
+              le-leb 8 (length file) b,
+              le-leb (8 + 4 * countOf file) (length file) room,
+              ne-eqb (offsetOf file 0) (8 + 4 * countOf file) x,
+            ))
 
         pub last-decides : first ≡ 8 + 4 * n → (last : ℕ) → last ≡ offsetOf file n → eqb last (length file) ≡ goodOffsets file
         unfolding goodOffsets
@@ -56,11 +57,12 @@ module _ (file : List ℕ) where
             let y : last ≡ offsetOf file (countOf file) = l ∙ ap (offsetOf file) e in
             ap (λ z. eqb z (length file)) y
             ∙ sym
-            (rw
-            (le-leb (length file) longest a
-            , le-leb 8 (length file) b
-            , le-leb (8 + 4 * countOf file) (length file) room
-            , eq-eqb (offsetOf file 0) (8 + 4 * countOf file) x)
+            (rw (
+              le-leb (length file) longest a,
+              le-leb 8 (length file) b,
+              le-leb (8 + 4 * countOf file) (length file) room,
+              eq-eqb (offsetOf file 0) (8 + 4 * countOf file) x,
+            )
             (and-end (eqb (offsetOf file (countOf file)) (length file))))
 
 -- ---- an event

@@ -54,7 +54,14 @@ fn close_event(s: Station, line: u32) -> Answered
     }
 }
 
-fn message_event(s: Station, line: u32, clock: u32, m: &[u8], area: &mut [u8], route: &mut [u8]) -> Answered
+fn message_event(
+    s: Station,
+    line: u32,
+    clock: u32,
+    m: &[u8],
+    area: &mut [u8],
+    route: &mut [u8],
+) -> Answered
     requires { ⌜ length (now area) ≡ outputSize ⌝ }
     ensures result { λ r. ⌜ r ≡ answered (messageOutcome s line clock ownPong (now (m .entry)) outputSize (now (route .entry))) ⌝ }
     ensures after { λ _. ⌜ now (route .exit) ≡ messageOutcome s line clock ownPong (now (m .entry)) outputSize (now (route .entry)) .route ⌝ }

@@ -2,18 +2,13 @@ use native.Mathlib.Omega.{arith}
 use borrow.Author.Needs.{needs}
 use Rattle.transcript.proofs.events.line_of.Statement.{statement}
 use Rattle.transcript.proofs.events.line_of.Tie as tie
-use Rattle.transcript.proofs.events.line_of.Reads as reads
-use Rattle.transcript.proofs.events.line_of.Lts as lts
 
--- src/events.rt:77:5
 shared-slice-read-result : tie.Need-shared-slice-read-result
 shared-slice-read-result c = search needs
 
--- src/events.rt:77:5
 cast-result : tie.Need-cast-result
 cast-result c = omega (arith, c .shared-slice-known .given 1)
 
--- src/events.rt:73:1
 returns : tie.Need-returns
 returns c = search needs
 

@@ -2,15 +2,10 @@ use Rattle.transcript.proofs.Acting.{opened}
 use borrow.Author.Needs.{needs}
 use Rattle.transcript.proofs.events.open_event.Statement.{statement}
 use Rattle.transcript.proofs.events.open_event.Tie as tie
-use Rattle.transcript.proofs.events.open_event.Reads as reads
-use Rattle.transcript.proofs.events.open_event.Lts as lts
-use Rattle.station.proofs.changes.open_line.Reads as open-line-reads
 
--- src/events.rt:34:9
 open-line-requires : tie.Need-open-line-requires
 open-line-requires c κs = search needs
 
--- src/events.rt:31:1
 returns : tie.Need-returns
 returns c = opened (c .before .before .args .s) (c .before .before .args .line) (c .before .open-line .result) (c .before .open-line .ensures)
 

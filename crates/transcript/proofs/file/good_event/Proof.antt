@@ -2,51 +2,37 @@ use Rattle.transcript.proofs.Reading.{event-short, event-past, event-ki
 use borrow.Author.Needs.{needs}
 use Rattle.transcript.proofs.file.good_event.Statement.{statement}
 use Rattle.transcript.proofs.file.good_event.Tie as tie
-use Rattle.transcript.proofs.file.good_event.Reads as reads
-use Rattle.transcript.proofs.file.good_event.Lts as lts
-use Rattle.transcript.proofs.file.offset.Reads as offset-reads
 
--- src/file.rt:56:9
 offset-requires : tie.Need-offset-requires
 offset-requires c κs = search needs
 
--- src/file.rt:57:27
 add-offset : tie.Need-add-offset
 add-offset c = search needs
 
--- src/file.rt:57:9
 offset-requires-2 : tie.Need-offset-requires-2
 offset-requires-2 c κs = search needs
 
--- src/file.rt:58:13
 add-if1 : tie.Need-add-if1
 add-if1 c = search needs
 
--- src/file.rt:59:9
 returns : tie.Need-returns
 returns c = event-short (c .before .before .before .before .args .file .now) (c .before .before .before .before .args .i) (c .before .before .offset .result) (c .before .offset2 .result) (c .before .before .offset .ensures .0) (c .before .offset2 .ensures .0) (c .if1 .taken)
 
--- src/file.rt:62:9
 returns-2 : tie.Need-returns-2
 returns-2 c = event-past (c .before .before .before .before .before .args .file .now) (c .before .before .before .before .before .args .i) (c .before .before .before .offset .result) (c .before .before .offset2 .result) (c .before .before .before .offset .ensures .0) (c .before .before .offset2 .ensures .0) (c .before .if1 .left) (c .if2 .taken)
 
--- src/file.rt:64:17
 sub-event : tie.Need-sub-event
 sub-event c = search needs
 
--- src/file.rt:64:17
 part-event-start : tie.Need-part-event-start
 part-event-start c = search needs
 
--- src/file.rt:64:17
 part-event-end : tie.Need-part-event-end
 part-event-end c = search needs
 
--- src/file.rt:65:5
 shared-slice-read-result : tie.Need-shared-slice-read-result
 shared-slice-read-result c = search needs
 
--- src/file.rt:52:1
 returns-3 : tie.Need-returns-3
 returns-3 c = event-kind (c .before .before .before .before .before .before .before .args .file .now) (c .before .before .before .before .before .before .before .args .i) (c .before .before .before .before .before .offset .result) (c .before .before .before .before .offset2 .result) (c .before .before .before .before .before .offset .ensures .0) (c .before .before .before .before .offset2 .ensures .0) (c .before .before .before .if1 .left) (c .before .before .if2 .left)
 

@@ -5,9 +5,6 @@ use Prim.Native.Nat.{_-_}
 use borrow.Author.Needs.{needs}
 use Rattle.transcript.proofs.file.good_events.Statement.{statement}
 use Rattle.transcript.proofs.file.good_events.Tie as tie
-use Rattle.transcript.proofs.file.good_events.Reads as reads
-use Rattle.transcript.proofs.file.good_events.Lts as lts
-use Rattle.transcript.proofs.file.good_event.Reads as good-event-reads
 
 abbrev Inv-loop : tie.InvT-loop
 Inv-loop file n i₀ i = Tested file n i
@@ -15,31 +12,24 @@ Inv-loop file n i₀ i = Tested file n i
 abbrev μ-loop : tie.MeasureT-loop
 μ-loop file n i₀ i = n - i
 
--- src/file.rt:74:5
 loop-holds : tie.Need-loop-holds Inv-loop μ-loop
 loop-holds c = tested-start (c .before .args .file .now) (c .before .args .n)
 
--- src/file.rt:75:13
 good-event-requires : tie.Need-good-event-requires Inv-loop μ-loop
 good-event-requires c κs = search needs
 
--- src/file.rt:76:13
 returns : tie.Need-returns Inv-loop μ-loop
 returns c = tested-bad (c .before .before .before .before .before .args .file .now) (c .before .before .before .before .before .args .n) (c .before .before .before .loop .i) (c .before .before .before .loop .inv) (c .before .before .loop-test .taken) (sym (c .before .good-event .ensures) ∙ not-true _ (c .if1 .taken))
 
--- src/file.rt:78:9
 add-i : tie.Need-add-i Inv-loop μ-loop
 add-i c = search needs
 
--- src/file.rt:74:5
 loop-less : tie.Need-loop-less Inv-loop μ-loop
 loop-less c = search needs
 
--- src/file.rt:74:5
 loop-again : tie.Need-loop-again Inv-loop μ-loop
 loop-again c = tested-on (c .before .before .before .before .before .args .file .now) (c .before .before .before .before .before .args .n) (c .before .before .before .loop .i) (c .before .before .before .loop .inv) (c .before .before .loop-test .taken) (sym (c .before .good-event .ensures) ∙ not-false _ (c .if1 .left))
 
--- src/file.rt:69:1
 returns-2 : tie.Need-returns-2 Inv-loop μ-loop
 returns-2 c = tested-end (c .before .before .before .args .file .now) (c .before .before .before .args .n) (c .before .loop .i) (c .before .loop .inv) (c .loop-test .left)
 

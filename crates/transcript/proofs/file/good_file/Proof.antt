@@ -5,29 +5,19 @@ use borrow.Author.Tests.{not-true, not-false}
 use borrow.Author.Needs.{needs}
 use Rattle.transcript.proofs.file.good_file.Statement.{statement}
 use Rattle.transcript.proofs.file.good_file.Tie as tie
-use Rattle.transcript.proofs.file.good_file.Reads as reads
-use Rattle.transcript.proofs.file.good_file.Lts as lts
-use Rattle.transcript.proofs.file.count.Reads as count-reads
-use Rattle.transcript.proofs.file.good_events.Reads as good-events-reads
-use Rattle.transcript.proofs.file.good_offsets.Reads as good-offsets-reads
 
--- src/file.rt:87:9
 good-offsets-requires : tie.Need-good-offsets-requires
 good-offsets-requires c κs = search needs
 
--- src/file.rt:88:9
 returns : tie.Need-returns
 returns c = file-bad (c .before .before .before .args .file .now) (sym (c .before .good-offsets .ensures) ∙ not-true _ (c .if1 .taken))
 
--- src/file.rt:90:9
 count-requires : tie.Need-count-requires
 count-requires c κs = search needs
 
--- src/file.rt:91:5
 good-events-requires : tie.Need-good-events-requires
 good-events-requires c κs = omega (arith, offsets-room (c .before .before .before .before .args .file .now) (sym (c .before .before .good-offsets .ensures) ∙ not-false _ (c .before .if1 .left)), c .count .ensures .0)
 
--- src/file.rt:84:1
 returns-2 : tie.Need-returns-2
 returns-2 c = file-events (c .before .before .before .before .before .args .file .now) (c .before .count .result) (c .good-events .result) (sym (c .before .before .before .good-offsets .ensures) ∙ not-false _ (c .before .before .if1 .left)) (c .before .count .ensures .0) (c .good-events .ensures)
 

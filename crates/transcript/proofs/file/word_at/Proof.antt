@@ -2,31 +2,22 @@ use Rattle.laws.proofs.Parts.{part-tail}
 use borrow.Author.Needs.{needs}
 use Rattle.transcript.proofs.file.word_at.Statement.{statement}
 use Rattle.transcript.proofs.file.word_at.Tie as tie
-use Rattle.transcript.proofs.file.word_at.Reads as reads
-use Rattle.transcript.proofs.file.word_at.Lts as lts
-use Rattle.wire.proofs.little4.Reads as little4-reads
 
--- src/file.rt:13:19
 sub-little4 : tie.Need-sub-little4
 sub-little4 c = search needs
 
--- src/file.rt:13:19
 part-little4-start : tie.Need-part-little4-start
 part-little4-start c = search needs
 
--- src/file.rt:13:19
 part-little4-end : tie.Need-part-little4-end
 part-little4-end c = search needs
 
--- src/file.rt:13:5
 little4-requires : tie.Need-little4-requires
 little4-requires c κs = search needs
 
--- src/file.rt:13:5
 cast-result : tie.Need-cast-result
 cast-result c = search needs
 
--- src/file.rt:9:1
 returns : tie.Need-returns
 returns c = (rw part-tail at (c .little4 .ensures), search needs)
 

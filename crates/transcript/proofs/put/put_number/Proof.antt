@@ -6,10 +6,6 @@ use native.Mathlib.Omega.{arith}
 use borrow.Author.Needs.{needs}
 use Rattle.transcript.proofs.put.put_number.Statement.{statement}
 use Rattle.transcript.proofs.put.put_number.Tie as tie
-use Rattle.transcript.proofs.put.put_number.Reads as reads
-use Rattle.transcript.proofs.put.put_number.Lts as lts
-use Rattle.transcript.proofs.put.digits.Reads as digits-reads
-use Rattle.transcript.proofs.put.last_digit.Reads as last-digit-reads
 
 abbrev Inv-loop : tie.InvT-loop
 Inv-loop out₀ at n size m₀ i₀ out m i = Spelling out₀ at n out m i
@@ -17,55 +13,42 @@ Inv-loop out₀ at n size m₀ i₀ out m i = Spelling out₀ at n out m i
 abbrev μ-loop : tie.MeasureT-loop
 μ-loop out₀ at n size m₀ i₀ out m i = m
 
--- src/put.rt:60:9
 digits-requires : tie.Need-digits-requires Inv-loop μ-loop
 digits-requires c κs = search needs
 
--- src/put.rt:62:17
 add-i : tie.Need-add-i Inv-loop μ-loop
 add-i c = search needs
 
--- src/put.rt:63:5
 loop-holds : tie.Need-loop-holds Inv-loop μ-loop
 loop-holds c = spelling-start (c .before .before .args .out .now) (c .before .before .args .at) (c .before .before .args .n) _ (omega arith) (ap (λ k. c .before .before .args .at + k) (c .digits .ensures .0)) (omega arith)
 
--- src/put.rt:64:9
 sub-i : tie.Need-sub-i Inv-loop μ-loop
 sub-i c = spelling-back (c .before .before .before .before .args .out .now) (c .before .before .before .before .args .at) (c .before .before .before .before .args .n) (c .before .loop .out) (c .before .loop .m) (c .before .loop .i) (c .before .loop .inv) (c .loop-test .taken)
 
--- src/put.rt:65:18
 last-digit-requires : tie.Need-last-digit-requires Inv-loop μ-loop
 last-digit-requires c κs = search needs
 
--- src/put.rt:65:9
 slice-write-out : tie.Need-slice-write-out Inv-loop μ-loop
 slice-write-out c = omega (arith, spelling-back (c .before .before .before .before .before .args .out .now) (c .before .before .before .before .before .args .at) (c .before .before .before .before .before .args .n) (c .before .before .loop .out) (c .before .before .loop .m) (c .before .before .loop .i) (c .before .before .loop .inv) (c .before .loop-test .taken), c .before .before .loop .inv .room)
 
--- src/put.rt:63:5
 loop-less : tie.Need-loop-less Inv-loop μ-loop
 loop-less c = search needs
 
--- src/put.rt:63:5
 loop-again : tie.Need-loop-again Inv-loop μ-loop
 loop-again c = rw (← c .last-digit .ensures) at (spelling-on (c .before .before .before .before .before .args .out .now) (c .before .before .before .before .before .args .at) (c .before .before .before .before .before .args .n) (c .before .before .loop .out) (c .before .before .loop .m) (c .before .before .loop .i) (c .before .before .loop .inv) (c .before .loop-test .taken))
 
--- src/put.rt:68:15
 last-digit-requires-2 : tie.Need-last-digit-requires-2 Inv-loop μ-loop
 last-digit-requires-2 c κs = search needs
 
--- src/put.rt:68:5
 slice-write-out-2 : tie.Need-slice-write-out-2 Inv-loop μ-loop
 slice-write-out-2 c = spelling-room (c .before .before .before .before .before .args .out .now) (c .before .before .before .before .before .args .at) (c .before .before .before .before .before .args .n) (c .before .before .loop .out) (c .before .before .loop .m) (c .before .before .loop .i) (c .before .before .loop .inv)
 
--- src/put.rt:69:5
 add-result : tie.Need-add-result Inv-loop μ-loop
 add-result c = search needs
 
--- src/put.rt:56:1
 same-length : tie.Need-same-length Inv-loop μ-loop
 same-length c = simp length-set (c .before .before .loop .inv .size)
 
--- src/put.rt:56:1
 returns : tie.Need-returns Inv-loop μ-loop
 returns c = (rw (← c .last-digit2 .ensures) at (spelling-end (c .before .before .before .before .before .args .out .now) (c .before .before .before .before .before .args .at) (c .before .before .before .before .before .args .n) (c .before .before .loop .out) (c .before .before .loop .m) (c .before .before .loop .i) (c .before .before .loop .inv) (c .before .before .before .digits .result) (omega arith) (c .before .before .before .digits .ensures .0)), omega (arith, c .before .before .before .digits .ensures .1))
 

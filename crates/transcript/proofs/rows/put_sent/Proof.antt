@@ -6,11 +6,6 @@ use mathlib.Core.Path.{_≡_, sym, _∙_}
 use borrow.Author.Needs.{needs}
 use Rattle.transcript.proofs.rows.put_sent.Statement.{statement}
 use Rattle.transcript.proofs.rows.put_sent.Tie as tie
-use Rattle.transcript.proofs.rows.put_sent.Reads as reads
-use Rattle.transcript.proofs.rows.put_sent.Lts as lts
-use Rattle.transcript.proofs.put.put_byte.Reads as put-byte-reads
-use Rattle.transcript.proofs.rows.either.Reads as either-reads
-use Rattle.transcript.proofs.rows.put_flag.Reads as put-flag-reads
 
 abbrev Inv-loop : tie.InvT-loop
 Inv-loop out₀ at to next₀ started₀ k₀ out next started k = Listing to out₀ at out next started k
@@ -18,55 +13,42 @@ Inv-loop out₀ at to next₀ started₀ k₀ out next started k = Listing to ou
 abbrev μ-loop : tie.MeasureT-loop
 μ-loop out₀ at to next₀ started₀ k₀ out next started k = 8 - k
 
--- src/rows.rt:41:5
 loop-holds : tie.Need-loop-holds Inv-loop μ-loop
 loop-holds c = listing-start (c .before .args .t3) (c .before .args .at) (c .before .args .out .now)
 
--- src/rows.rt:42:23
 cast-flag : tie.Need-cast-flag Inv-loop μ-loop
 cast-flag c = search needs
 
--- src/rows.rt:42:20
 array-read-flag : tie.Need-array-read-flag Inv-loop μ-loop
 array-read-flag c = search needs
 
--- src/rows.rt:43:9
 put-flag-requires : tie.Need-put-flag-requires Inv-loop μ-loop
 put-flag-requires c κs = (omega (arith, c .before .before .loop .inv .near, c .before .before .loop .inv .rest .size), omega arith)
 
--- src/rows.rt:44:9
 either-requires : tie.Need-either-requires Inv-loop μ-loop
 either-requires c κs = search needs
 
--- src/rows.rt:45:9
 add-k : tie.Need-add-k Inv-loop μ-loop
 add-k c = search needs
 
--- src/rows.rt:41:5
 loop-less : tie.Need-loop-less Inv-loop μ-loop
 loop-less c = search needs
 
--- src/rows.rt:41:5
 loop-again : tie.Need-loop-again Inv-loop μ-loop
 loop-again c = let k : length (c .before .before .before .before .before .before .before .before .args .t3) ≡ 8 = search needs in rw (← c .either .ensures) at (listing-on (c .before .before .before .before .before .before .before .before .args .t3) (c .before .before .before .before .before .before .before .before .args .out .now) (c .before .before .before .before .before .before .before .before .args .at) (c .before .before .before .before .before .before .loop .out) (c .before .before .before .before .before .before .loop .next) (c .before .before .before .before .before .before .loop .started) (c .before .before .before .before .before .before .loop .k) (c .before .before .before .before .before .before .loop .inv) k (c .before .before .before .before .before .before .before .before .pre) (c .before .before .before .put-flag .last .0) (c .before .before .before .put-flag .result) (c .before .before .before .before .before .loop-test .taken) (c .before .before .before .put-flag .ensures))
 
--- src/rows.rt:48:9
 same-length : tie.Need-same-length Inv-loop μ-loop
 same-length c = c .before .before .loop .inv .rest .size
 
--- src/rows.rt:48:9
 returns : tie.Need-returns Inv-loop μ-loop
 returns c = let k : length (c .before .before .before .before .args .t3) ≡ 8 = search needs in (listing-some (c .before .before .before .before .args .t3) (c .before .before .before .before .args .out .now) (c .before .before .before .before .args .at) (c .before .before .loop .out) (c .before .before .loop .next) (c .before .before .loop .started) (c .before .before .loop .k) (c .before .before .loop .inv) k (c .before .before .before .before .pre) (c .before .loop-test .left) (c .if1 .taken), omega (arith, c .before .before .loop .inv .near, c .before .before .loop .inv .within))
 
--- src/rows.rt:50:5
 put-byte-requires : tie.Need-put-byte-requires Inv-loop μ-loop
 put-byte-requires c κs = omega (arith, c .before .before .before .loop .inv .near, c .before .before .before .loop .inv .rest .size, c .before .before .before .loop .inv .within)
 
--- src/rows.rt:33:1
 same-length-2 : tie.Need-same-length-2 Inv-loop μ-loop
 same-length-2 c = search needs
 
--- src/rows.rt:33:1
 returns-2 : tie.Need-returns-2 Inv-loop μ-loop
 returns-2 c = let k : length (c .before .before .before .before .before .before .before .before .args .t3) ≡ 8 = search needs in (listing-none (c .before .before .before .before .before .before .before .before .args .t3) (c .before .before .before .before .before .before .before .before .args .out .now) (c .before .before .before .before .before .before .before .before .args .at) (c .before .before .before .before .before .before .loop .out) (c .before .before .before .before .before .before .loop .next) (c .before .before .before .before .before .before .loop .started) (c .before .before .before .before .before .before .loop .k) (c .before .before .before .before .before .before .loop .inv) k (c .before .before .before .before .before .before .before .before .pre) (c .before .before .before .before .before .loop-test .left) (c .before .before .before .before .if1 .left) (c .before .before .put-byte .last .0) (c .before .before .put-byte .result) (c .before .before .put-byte .ensures), omega (arith, c .before .before .before .before .before .before .loop .inv .near, c .before .before .before .before .before .before .loop .inv .within, c .before .before .put-byte .ensures .moved))
 

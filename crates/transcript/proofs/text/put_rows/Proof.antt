@@ -6,11 +6,6 @@ use Rattle.transcript.proofs.Writing.{Rows, rows-start, rows-on, rows-e
 use borrow.Author.Needs.{needs}
 use Rattle.transcript.proofs.text.put_rows.Statement.{statement}
 use Rattle.transcript.proofs.text.put_rows.Tie as tie
-use Rattle.transcript.proofs.text.put_rows.Reads as reads
-use Rattle.transcript.proofs.text.put_rows.Lts as lts
-use Rattle.transcript.proofs.events.act.Reads as act-reads
-use Rattle.transcript.proofs.file.offset.Reads as offset-reads
-use Rattle.transcript.proofs.rows.put_row.Reads as put-row-reads
 
 abbrev Inv-loop : tie.InvT-loop
 Inv-loop s₀ file n area₀ route₀ out₀ at next₀ i₀ s area route out next i = Rows file n at s₀ route₀ out₀ area route out s next i
@@ -18,71 +13,54 @@ Inv-loop s₀ file n area₀ route₀ out₀ at next₀ i₀ s area route out ne
 abbrev μ-loop : tie.MeasureT-loop
 μ-loop s₀ file n area₀ route₀ out₀ at next₀ i₀ s area route out next i = n - i
 
--- src/text.rt:34:5
 loop-holds : tie.Need-loop-holds Inv-loop μ-loop
 loop-holds c = rows-start (c .before .before .before .before .args .file .now) (c .before .before .before .before .args .n) (c .before .before .before .before .args .at) (c .before .before .before .before .args .s) (c .before .before .before .before .args .area .now) (c .before .before .before .before .args .route .now) (c .before .before .before .before .args .out .now) (c .before .before .before .before .pre)
 
--- src/text.rt:35:13
 offset-requires : tie.Need-offset-requires Inv-loop μ-loop
 offset-requires c κs = omega (arith, c .before .before .before .before .before .before .pre .offsets, c .loop-test .taken)
 
--- src/text.rt:36:31
 add-offset : tie.Need-add-offset Inv-loop μ-loop
 add-offset c = search needs
 
--- src/text.rt:36:13
 offset-requires-2 : tie.Need-offset-requires-2 Inv-loop μ-loop
 offset-requires-2 c κs = omega (arith, c .before .before .before .before .before .before .before .pre .offsets, c .before .loop-test .taken)
 
--- src/text.rt:37:27
 sub-act : tie.Need-sub-act Inv-loop μ-loop
 sub-act c = omega (arith, part-rises (c .before .before .before .before .before .before .before .before .args .file .now) (c .before .before .before .before .before .before .before .before .args .n) (c .before .before .before .before .before .before .before .before .args .at) (c .before .before .before .before .before .before .before .before .args .s) (c .before .before .before .before .before .before .before .before .args .route .now) (c .before .before .before .before .before .before .before .before .args .out .now) (c .before .before .before .loop .area) (c .before .before .before .loop .route) (c .before .before .before .loop .out) (c .before .before .before .loop .s) (c .before .before .before .loop .next) (c .before .before .before .loop .i) (c .before .before .before .loop .inv) (c .before .before .loop-test .taken) (c .before .offset .result) (c .offset2 .result) (c .before .offset .ensures .0) (c .offset2 .ensures .0))
 
--- src/text.rt:37:27
 part-act-start : tie.Need-part-act-start Inv-loop μ-loop
 part-act-start c = omega (arith, part-rises (c .before .before .before .before .before .before .before .before .args .file .now) (c .before .before .before .before .before .before .before .before .args .n) (c .before .before .before .before .before .before .before .before .args .at) (c .before .before .before .before .before .before .before .before .args .s) (c .before .before .before .before .before .before .before .before .args .route .now) (c .before .before .before .before .before .before .before .before .args .out .now) (c .before .before .before .loop .area) (c .before .before .before .loop .route) (c .before .before .before .loop .out) (c .before .before .before .loop .s) (c .before .before .before .loop .next) (c .before .before .before .loop .i) (c .before .before .before .loop .inv) (c .before .before .loop-test .taken) (c .before .offset .result) (c .offset2 .result) (c .before .offset .ensures .0) (c .offset2 .ensures .0))
 
--- src/text.rt:37:27
 part-act-end : tie.Need-part-act-end Inv-loop μ-loop
 part-act-end c = part-within (c .before .before .before .before .before .before .before .before .args .file .now) (c .before .before .before .before .before .before .before .before .args .n) (c .before .before .before .before .before .before .before .before .args .at) (c .before .before .before .before .before .before .before .before .args .s) (c .before .before .before .before .before .before .before .before .args .route .now) (c .before .before .before .before .before .before .before .before .args .out .now) (c .before .before .before .loop .area) (c .before .before .before .loop .route) (c .before .before .before .loop .out) (c .before .before .before .loop .s) (c .before .before .before .loop .next) (c .before .before .before .loop .i) (c .before .before .before .loop .inv) (c .before .before .loop-test .taken) (c .before .offset .result) (c .offset2 .result) (c .before .offset .ensures .0) (c .offset2 .ensures .0)
 
--- src/text.rt:37:13
 act-requires : tie.Need-act-requires Inv-loop μ-loop
 act-requires c κs = (c .before .before .before .before .before .before .loop .inv .output, part-size (c .before .before .before .before .before .before .before .before .before .before .before .args .file .now) (c .before .before .before .before .before .before .before .before .before .before .before .args .n) (c .before .before .before .before .before .before .before .before .before .before .before .args .at) (c .before .before .before .before .before .before .before .before .before .before .before .args .s) (c .before .before .before .before .before .before .before .before .before .before .before .args .route .now) (c .before .before .before .before .before .before .before .before .before .before .before .args .out .now) (c .before .before .before .before .before .before .loop .area) (c .before .before .before .before .before .before .loop .route) (c .before .before .before .before .before .before .loop .out) (c .before .before .before .before .before .before .loop .s) (c .before .before .before .before .before .before .loop .next) (c .before .before .before .before .before .before .loop .i) (c .before .before .before .before .before .before .loop .inv) (c .before .before .before .before .before .loop-test .taken) (c .before .before .before .before .offset .result) (c .before .before .before .offset2 .result) (c .before .before .before .before .offset .ensures .0) (c .before .before .before .offset2 .ensures .0))
 
--- src/text.rt:39:35
 cast-put-row : tie.Need-cast-put-row Inv-loop μ-loop
 cast-put-row c = omega (arith, c .before .before .before .before .before .before .before .before .before .before .before .before .before .before .before .before .before .before .pre .offsets, c .before .before .before .before .before .before .before .before .before .before .before .before .before .before .before .before .before .before .pre .short, c .before .before .before .before .before .before .before .before .before .before .before .before .loop-test .taken)
 
--- src/text.rt:39:9
 put-row-requires : tie.Need-put-row-requires Inv-loop μ-loop
 put-row-requires c κs = omega (arith, c .before .before .before .before .before .before .before .before .before .before .before .before .before .before .before .before .before .before .pre .room, c .before .before .before .before .before .before .before .before .before .before .before .before .before .loop .inv .near, c .before .before .before .before .before .before .before .before .before .before .before .before .before .loop .inv .rest .size, c .before .before .before .before .before .before .before .before .before .before .before .before .loop-test .taken)
 
--- src/text.rt:41:9
 add-i : tie.Need-add-i Inv-loop μ-loop
 add-i c = omega (arith, c .before .before .before .before .before .before .before .before .before .before .before .before .before .before .before .before .before .before .before .before .before .before .pre .offsets, c .before .before .before .before .before .before .before .before .before .before .before .before .before .before .before .before .before .before .before .before .before .before .pre .short, c .before .before .before .before .before .before .before .before .before .before .before .before .before .before .before .before .loop-test .taken)
 
--- src/text.rt:34:5
 loop-less : tie.Need-loop-less Inv-loop μ-loop
 loop-less c = search needs
 
--- src/text.rt:34:5
 loop-again : tie.Need-loop-again Inv-loop μ-loop
 loop-again c = rows-on (c .before .before .before .before .before .before .before .before .before .before .before .before .before .before .before .before .before .before .before .before .before .before .args .file .now) (c .before .before .before .before .before .before .before .before .before .before .before .before .before .before .before .before .before .before .before .before .before .before .args .n) (c .before .before .before .before .before .before .before .before .before .before .before .before .before .before .before .before .before .before .before .before .before .before .args .at) (c .before .before .before .before .before .before .before .before .before .before .before .before .before .before .before .before .before .before .before .before .before .before .args .s) (c .before .before .before .before .before .before .before .before .before .before .before .before .before .before .before .before .before .before .before .before .before .before .args .route .now) (c .before .before .before .before .before .before .before .before .before .before .before .before .before .before .before .before .before .before .before .before .before .before .args .out .now) (c .before .before .before .before .before .before .before .before .before .before .before .before .before .before .before .before .before .loop .area) (c .before .before .before .before .before .before .before .before .before .before .before .before .before .before .before .before .before .loop .route) (c .before .before .before .before .before .before .before .before .before .before .before .before .before .before .before .before .before .loop .out) (c .before .before .before .before .before .before .before .before .before .before .before .before .before .before .before .before .before .loop .s) (c .before .before .before .before .before .before .before .before .before .before .before .before .before .before .before .before .before .loop .next) (c .before .before .before .before .before .before .before .before .before .before .before .before .before .before .before .before .before .loop .i) (c .before .before .before .before .before .before .before .before .before .before .before .before .before .before .before .before .before .loop .inv) (c .before .before .before .before .before .before .before .before .before .before .before .before .before .before .before .before .loop-test .taken) (c .before .before .before .before .before .before .before .before .before .before .act .result) (c .before .before .before .before .before .before .before .before .before .before .act .last .1 .1 .0) (c .before .before .before .before .before .before .before .before .before .before .act .last .1 .1 .1 .0) (c .before .before .before .put-row .last .0) (c .before .before .before .put-row .result) (c .before .before .before .before .before .before .before .before .before .before .act .kept .1 .1 .0) (c .before .before .before .before .before .before .before .before .before .before .act .kept .1 .1 .1 .0) (rw (part-event (c .before .before .before .before .before .before .before .before .before .before .before .before .before .before .before .before .before .before .before .before .before .before .args .file .now) (c .before .before .before .before .before .before .before .before .before .before .before .before .before .before .before .before .before .before .before .before .before .before .args .n) (c .before .before .before .before .before .before .before .before .before .before .before .before .before .before .before .before .before .before .before .before .before .before .args .at) (c .before .before .before .before .before .before .before .before .before .before .before .before .before .before .before .before .before .before .before .before .before .before .args .s) (c .before .before .before .before .before .before .before .before .before .before .before .before .before .before .before .before .before .before .before .before .before .before .args .route .now) (c .before .before .before .before .before .before .before .before .before .before .before .before .before .before .before .before .before .before .before .before .before .before .args .out .now) (c .before .before .before .before .before .before .before .before .before .before .before .before .before .before .before .before .before .loop .area) (c .before .before .before .before .before .before .before .before .before .before .before .before .before .before .before .before .before .loop .route) (c .before .before .before .before .before .before .before .before .before .before .before .before .before .before .before .before .before .loop .out) (c .before .before .before .before .before .before .before .before .before .before .before .before .before .before .before .before .before .loop .s) (c .before .before .before .before .before .before .before .before .before .before .before .before .before .before .before .before .before .loop .next) (c .before .before .before .before .before .before .before .before .before .before .before .before .before .before .before .before .before .loop .i) (c .before .before .before .before .before .before .before .before .before .before .before .before .before .before .before .before .before .loop .inv) (c .before .before .before .before .before .before .before .before .before .before .before .before .before .before .before .before .loop-test .taken) (c .before .before .before .before .before .before .before .before .before .before .before .before .before .before .before .offset .result) (c .before .before .before .before .before .before .before .before .before .before .before .before .before .before .offset2 .result) (c .before .before .before .before .before .before .before .before .before .before .before .before .before .before .before .offset .ensures .0) (c .before .before .before .before .before .before .before .before .before .before .before .before .before .before .offset2 .ensures .0)) at (c .before .before .before .before .before .before .before .before .before .before .act .ensures .0)) (rw (part-event (c .before .before .before .before .before .before .before .before .before .before .before .before .before .before .before .before .before .before .before .before .before .before .args .file .now) (c .before .before .before .before .before .before .before .before .before .before .before .before .before .before .before .before .before .before .before .before .before .before .args .n) (c .before .before .before .before .before .before .before .before .before .before .before .before .before .before .before .before .before .before .before .before .before .before .args .at) (c .before .before .before .before .before .before .before .before .before .before .before .before .before .before .before .before .before .before .before .before .before .before .args .s) (c .before .before .before .before .before .before .before .before .before .before .before .before .before .before .before .before .before .before .before .before .before .before .args .route .now) (c .before .before .before .before .before .before .before .before .before .before .before .before .before .before .before .before .before .before .before .before .before .before .args .out .now) (c .before .before .before .before .before .before .before .before .before .before .before .before .before .before .before .before .before .loop .area) (c .before .before .before .before .before .before .before .before .before .before .before .before .before .before .before .before .before .loop .route) (c .before .before .before .before .before .before .before .before .before .before .before .before .before .before .before .before .before .loop .out) (c .before .before .before .before .before .before .before .before .before .before .before .before .before .before .before .before .before .loop .s) (c .before .before .before .before .before .before .before .before .before .before .before .before .before .before .before .before .before .loop .next) (c .before .before .before .before .before .before .before .before .before .before .before .before .before .before .before .before .before .loop .i) (c .before .before .before .before .before .before .before .before .before .before .before .before .before .before .before .before .before .loop .inv) (c .before .before .before .before .before .before .before .before .before .before .before .before .before .before .before .before .loop-test .taken) (c .before .before .before .before .before .before .before .before .before .before .before .before .before .before .before .offset .result) (c .before .before .before .before .before .before .before .before .before .before .before .before .before .before .offset2 .result) (c .before .before .before .before .before .before .before .before .before .before .before .before .before .before .before .offset .ensures .0) (c .before .before .before .before .before .before .before .before .before .before .before .before .before .before .offset2 .ensures .0)) at (c .before .before .before .before .before .before .before .before .before .before .act .ensures .1)) (c .before .before .before .put-row .ensures .0) (c .before .before .before .put-row .ensures .1) (c .before .before .before .before .before .before .before .before .before .before .before .before .before .before .before .before .before .before .before .before .before .before .pre .room)
 
--- src/text.rt:20:1
 same-length : tie.Need-same-length Inv-loop μ-loop
 same-length c = c .before .loop .inv .output ∙ sym (c .before .before .before .before .before .before .pre .output)
 
--- src/text.rt:20:1
 same-length-2 : tie.Need-same-length-2 Inv-loop μ-loop
 same-length-2 c = c .before .loop .inv .kept
 
--- src/text.rt:20:1
 same-length-3 : tie.Need-same-length-3 Inv-loop μ-loop
 same-length-3 c = c .before .loop .inv .rest .size
 
--- src/text.rt:20:1
 returns : tie.Need-returns Inv-loop μ-loop
 returns c = rows-end (c .before .before .before .before .before .before .args .file .now) (c .before .before .before .before .before .before .args .n) (c .before .before .before .before .before .before .args .at) (c .before .before .before .before .before .before .args .s) (c .before .before .before .before .before .before .args .route .now) (c .before .before .before .before .before .before .args .out .now) (c .before .loop .area) (c .before .loop .route) (c .before .loop .out) (c .before .loop .s) (c .before .loop .next) (c .before .loop .i) (c .before .loop .inv) (c .loop-test .left)
 

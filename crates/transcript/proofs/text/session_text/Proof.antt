@@ -6,49 +6,35 @@ use Rattle.transcript.proofs.Writing.{put-inside, no-space, bad-written
 use borrow.Author.Needs.{needs}
 use Rattle.transcript.proofs.text.session_text.Statement.{statement}
 use Rattle.transcript.proofs.text.session_text.Tie as tie
-use Rattle.transcript.proofs.text.session_text.Reads as reads
-use Rattle.transcript.proofs.text.session_text.Lts as lts
-use Rattle.transcript.proofs.file.good_file.Reads as good-file-reads
-use Rattle.transcript.proofs.put.put_text.Reads as put-text-reads
-use Rattle.transcript.proofs.text.put_session.Reads as put-session-reads
 
--- src/text.rt:66:9
 returns : tie.Need-returns
 returns c =
     let both = no-space (c .before .before .before .args .file .now) (c .before .before .before .args .out .now) (c .if1 .taken) in
     (both .0, (both .1, search needs))
 
--- src/text.rt:71:9
 good-file-requires : tie.Need-good-file-requires
 good-file-requires c κs = search needs
 
--- src/text.rt:72:38
 slice-aggregate-put-text : tie.Need-slice-aggregate-put-text
 slice-aggregate-put-text c = search needs
 
--- src/text.rt:72:13
 put-text-requires : tie.Need-put-text-requires
 put-text-requires c κs = search needs
 
--- src/text.rt:73:9
 same-length : tie.Need-same-length
 same-length c = search needs
 
--- src/text.rt:73:9
 returns-2 : tie.Need-returns-2
 returns-2 c =
     let both = bad-written (c .before .before .before .before .before .before .before .before .before .before .args .file .now) (c .before .before .before .before .before .before .before .before .before .before .args .out .now) (c .before .before .before .before .before .before .before .if1 .left) (c .before .before .put-text .last .0) (c .before .before .put-text .result) (sym (c .before .before .before .before .before .before .good-file .ensures) ∙ not-true _ (c .before .before .before .before .before .if2 .taken)) (c .before .before .put-text .ensures) in
     (both .0, (both .1, put-inside badFile (c .before .before .before .before .before .before .before .before .before .before .args .out .now) (c .before .before .put-text .last .0) (c .before .before .put-text .result) (c .before .before .put-text .ensures) (c .before .before .put-text .kept .0)))
 
--- src/text.rt:78:9
 put-session-requires : tie.Need-put-session-requires
 put-session-requires c κs = (sym (c .before .before .good-file .ensures) ∙ not-false _ (c .before .if2 .left), c .before .before .before .if1 .left)
 
--- src/text.rt:61:1
 same-length-2 : tie.Need-same-length-2
 same-length-2 c = search needs
 
--- src/text.rt:61:1
 returns-3 : tie.Need-returns-3
 returns-3 c =
     let both = good-written (c .before .before .before .before .before .before .before .before .before .args .file .now) (c .before .before .before .before .before .before .before .before .before .args .out .now) (c .before .before .before .before .before .before .if1 .left) (c .before .before .put-session .last .1 .0) (c .before .before .put-session .result) (sym (c .before .before .before .before .before .good-file .ensures) ∙ not-false _ (c .before .before .before .before .if2 .left)) (c .before .before .put-session .ensures) in
