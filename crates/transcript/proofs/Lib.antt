@@ -1,0 +1,8 @@
+-- Laws and vectors of the session's text.
+pub mod Vectors
+pub mod Digits
+pub mod Putting
+pub mod Reading
+pub mod Listing
+pub mod Acting
+pub mod Writing

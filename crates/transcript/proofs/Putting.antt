@@ -1,0 +1,139 @@
+-- Texts put over an area: byte by byte, digit by digit, and one behind another.
+use Prim.Native.Nat.{ℕ, _+_, _-_, _/_, _%_, _≤_, _<_}
+use mathlib.Core.Path.{_≡_, refl, sym, ap, _∙_}
+use mathlib.Core.List.{List, [], _∷_, _++_}
+use native.Mathlib.Nat.{add-zero}
+use native.Mathlib.Omega.{arith}
+use native.Mathlib.Decide.{decLe}
+use lib.ListN.{length, getD, drop, set, length-set, length-append}
+use Rattle.laws.specs.Parts.{over}
+use Rattle.laws.proofs.Text.{over-none, over-append, over-length, copy-on, copy-end}
+use Rattle.laws.proofs.Decimal.{over-byte, over-last}
+use Rattle.transcript.specs.Rows.{decimal}
+use Rattle.transcript.specs.Put.{Put}
+use Rattle.transcript.proofs.Digits.{decimal-one, decimal-more, size-one, size-more}
+
+pub put-one : (at b : ℕ) (area : List ℕ) → at < length area → Put at (b ∷ []) area (set area at b) (at + 1)
+put-one at b area h = record { written = over-byte at b area h; moved = refl }
+
+-- one text behind another
+pub put-then : {at : ℕ} {x y area mid after : List ℕ} {i j : ℕ} → Put at x area mid i → Put i y mid after j → i ≤ length area → Put at (x ++ y) area after j
+put-then {at} {x} {y} {area} {mid} {after} {i} {j} p q h =
+    let m = p .moved in
+    let n = q .moved in
+    record {
+      written =
+          q .written
+          ∙ ap (λ l. over i y l) (p .written)
+          ∙ ap (λ k. over k y (over at x area)) m
+          ∙ over-append at x y area (omega arith);
+      moved = omega (arith, length-append x y);
+    }
+
+-- nothing
+pub put-none : (at : ℕ) (area : List ℕ) → Put at [] area area at
+put-none at area = record { written = sym (over-none at area); moved = sym (add-zero at) }
+
+-- `rest` is still to be put from `next` on, and then `text` stands from `at` on
+pub record Left (at : ℕ) (text before : List ℕ) (next : ℕ) (rest area : List ℕ) : Type 0 where
+  pub size : length area ≡ length before
+  pub left : over next rest area ≡ over at text before
+  pub place : next + length rest ≡ at + length text
+
+pub left-start : (at : ℕ) (text area : List ℕ) → Left at text area at text area
+left-start at text area = record { size = refl; left = refl; place = refl }
+
+-- a part of it is put
+pub left-on : {at : ℕ} {text before : List ℕ} {next : ℕ} {area after : List ℕ} {j : ℕ} (piece rest : List ℕ) → Left at text before next (piece ++ rest) area
+    → Put next piece area after j → next + length piece ≤ length area → Left at text before j rest after
+left-on {at} {text} {before} {next} {area} {after} {j} piece rest l p h =
+    let m = p .moved in
+    record {
+      size = ap length (p .written) ∙ over-length next piece area h ∙ l .size;
+      left =
+          ap (λ k. over k rest after) m
+          ∙ ap (λ a. over (next + length piece) rest a) (p .written)
+          ∙ over-append next piece rest area h
+          ∙ l .left;
+      place = omega (arith, length-append piece rest, l .place);
+    }
+
+pub left-end : {at : ℕ} {text before : List ℕ} {next : ℕ} {area : List ℕ} → Left at text before next [] area → Put at text before area next
+left-end {at} {text} {before} {next} {area} l =
+    record { written = sym (over-none next area) ∙ l .left; moved = omega (arith, l .place) }
+
+-- ---- a text, byte by byte
+
+pub record Copying (text before : List ℕ) (at : ℕ) (area : List ℕ) (i : ℕ) : Type 0 where
+  pub within : i ≤ length text
+  pub size : length area ≡ length before
+  pub left : over (at + i) (drop i text) area ≡ over at text before
+
+pub copying-start : (text area : List ℕ) (at : ℕ) → Copying text area at area 0
+copying-start text area at = record { within = omega arith; size = refl; left = rw (add-zero at) }
+
+module _ (text before : List ℕ) (at : ℕ) (area : List ℕ) (i : ℕ) (p : Copying text before at area i) where
+  pub copying-on : at + length text ≤ length before → i < length text → Copying text before at (set area (at + i) (getD text i 0)) (i + 1)
+  copying-on room h =
+      record {
+        within = omega arith;
+        size = simp length-set (p .size);
+        left = copy-on at i text area h (omega (arith, p .size)) ∙ p .left;
+      }
+
+  pub copying-end : length text ≤ i → Put at text before area (at + length text)
+  copying-end h = record { written = sym (copy-end at i text area h) ∙ p .left; moved = refl }
+
+-- ---- a number, from its last digit to its first
+
+-- the digits of m are still to be written, and the last of them is before place i
+pub record Spelling (before : List ℕ) (at n : ℕ) (area : List ℕ) (m i : ℕ) : Type 0 where
+  pub small : m < 100000
+  pub place : i ≡ at + length (decimal m)
+  pub size : length area ≡ length before
+  pub room : i ≤ length area
+  pub left : over at (decimal m) area ≡ over at (decimal n) before
+
+pub spelling-start : (area : List ℕ) (at n i : ℕ) → n < 100000 → i ≡ at + length (decimal n) → i ≤ length area → Spelling area at n area n i
+spelling-start area at n i b e h = record { small = b; place = e; size = refl; room = h; left = refl }
+
+module _ (before : List ℕ) (at n : ℕ) (area : List ℕ) (m i : ℕ) (s : Spelling before at n area m i) where
+  pub spelling-back : 10 ≤ m → 1 ≤ i
+  spelling-back h = omega (arith, size-more m h (s .small), s .place)
+
+  pub spelling-on : 10 ≤ m → Spelling before at n (set area (i - 1) (48 + m % 10)) (m / 10) (i - 1)
+  spelling-on h =
+      let k = size-more m h (s .small) in
+      let e : i - 1 ≡ at + length (decimal (m / 10)) = omega (arith, s .place) in
+      record {
+        small = omega (arith, s .small);
+        place = e;
+        size = simp length-set (s .size);
+        room = simp length-set (omega (arith, s .room));
+        left =
+            ap (λ j. over at (decimal (m / 10)) (set area j (48 + m % 10))) e
+            ∙ over-last at (decimal (m / 10)) (48 + m % 10) area (omega (arith, s .room, s .place))
+            ∙ ap (λ x. over at x area) (sym (decimal-more m h (s .small)))
+            ∙ s .left;
+      }
+
+  pub spelling-room : at < length area
+  spelling-room = omega (arith, s .room, s .place, decimal-some m (s .small))
+    where
+      decimal-some : (m : ℕ) → m < 100000 → 1 ≤ length (decimal m)
+      decimal-some m h = go (decLe 10 m)
+        where
+          go : Dec (10 ≤ m) → 1 ≤ length (decimal m)
+          go (yes k) = omega (arith, size-more m k h)
+          go (no k) = omega (arith, size-one m (omega arith))
+
+  pub spelling-end : (size : ℕ) → m < 10 → size ≡ length (decimal n) → Put at (decimal n) before (set area at (48 + m % 10)) (at + size)
+  spelling-end size h e =
+      let d : m % 10 ≡ m = omega arith in
+      record {
+        written =
+            over-byte at (48 + m % 10) area spelling-room
+            ∙ ap (λ x. over at x area) (ap (λ x. (48 + x) ∷ []) d ∙ sym (decimal-one m h))
+            ∙ s .left;
+        moved = ap (λ k. at + k) e;
+      }

@@ -1,0 +1,59 @@
+-- The rows of a session's text: the event's number, the answer, and the lines that were sent to.
+use Prim.Native.Nat.{ℕ, zero, suc, _+_, _/_, _%_}
+use mathlib.Core.Bool.{Bool, true, false, cond}
+use mathlib.Core.List.{List, [], _∷_, _++_}
+use lib.Dec.{ltb}
+
+abbrev pub space : ℕ
+space = 0x20
+
+abbrev pub comma : ℕ
+comma = 0x2C
+
+abbrev pub dash : ℕ
+dash = 0x2D
+
+abbrev pub newline : ℕ
+newline = 0x0A
+
+-- a number below ten in ASCII
+abbrev pub digit : ℕ → ℕ
+digit n = 48 + n
+
+-- n in at most k digits, with no leading zero
+abbrev pub digitsOf : ℕ → ℕ → List ℕ
+digitsOf zero n = []
+digitsOf (suc k) n = cond (ltb n 10) (digit n ∷ []) (digitsOf k (n / 10) ++ (digit (n % 10) ∷ []))
+
+-- a number below 100,000 in decimal
+unfoldable pub decimal : ℕ → List ℕ
+decimal n = digitsOf 5 n
+
+-- the numbers of the true flags, rising; the first flag is that of line k
+abbrev pub flagged : ℕ → List Bool → List ℕ
+flagged k [] = []
+flagged k (true ∷ flags) = k ∷ flagged (k + 1) flags
+flagged k (false ∷ flags) = flagged (k + 1) flags
+
+-- each line with a comma in front of it
+abbrev pub furtherLines : List ℕ → List ℕ
+furtherLines [] = []
+furtherLines (k ∷ ks) = comma ∷ digit k ∷ furtherLines ks
+
+-- lines with commas between them, and a dash where there is none
+abbrev pub lineList : List ℕ → List ℕ
+lineList [] = dash ∷ []
+lineList (k ∷ ks) = digit k ∷ furtherLines ks
+
+-- what the flag of line k adds to a list of lines, which has begun or not
+abbrev pub flagText : Bool → Bool → ℕ → List ℕ
+flagText started false k = []
+flagText false true k = digit k ∷ []
+flagText true true k = comma ∷ digit k ∷ []
+
+-- the last column
+unfoldable pub sentText : List Bool → List ℕ
+sentText to = lineList (flagged 0 to)
+
+unfoldable pub rowText : ℕ → ℕ → List Bool → List ℕ
+rowText i answer to = ((((decimal i ++ (space ∷ [])) ++ decimal answer) ++ (space ∷ [])) ++ sentText to) ++ (newline ∷ [])

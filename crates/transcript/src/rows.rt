@@ -1,0 +1,65 @@
+// The rows of the text.
+use crate::put::put_byte;
+use crate::put::put_number;
+ghost use mathlib.Core.Path.{_≡_};
+ghost use mathlib.Core.Bool.{_||_};
+ghost use Prim.Native.Nat.{_+_, _<_, _≤_};
+ghost use lib.ListN.{length};
+ghost use Rattle.transcript.specs.Rows.{flagText, sentText, rowText};
+ghost use Rattle.transcript.specs.Put.{Put};
+
+fn either(a: bool, b: bool) -> bool
+    ensures { λ r. ⌜ r ≡ a || b ⌝ }
+{
+    if a { true } else { b }
+}
+
+// Line k, if its flag is true, behind the lines that stand before it.
+fn put_flag(out: &mut [u8], at: usize, started: bool, flag: bool, k: u8) -> usize
+    requires { ⌜ (at + 2 ≤ length (now out)) × (k < 8) ⌝ }
+    ensures { λ r. ⌜ Put at (flagText started flag k) (now (out .entry)) (now (out .exit)) r ⌝ }
+{
+    if !flag {
+        return at;
+    }
+    if !started {
+        return put_byte(out, at, b'0' + k);
+    }
+    let next = put_byte(out, at, b',');
+    put_byte(out, next, b'0' + k)
+}
+
+// The lines that were sent to.
+fn put_sent(out: &mut [u8], at: usize, to: [bool; 8]) -> usize
+    requires { ⌜ at + 17 ≤ length (now out) ⌝ }
+    ensures text { λ r. ⌜ Put at (sentText to) (now (out .entry)) (now (out .exit)) r ⌝ }
+    ensures near { λ r. ⌜ r ≤ at + 17 ⌝ }
+{
+    let mut next = at;
+    let mut started = false;
+    let mut k: u8 = 0;
+    while k < 8 {
+        let flag = to[k as usize];
+        next = put_flag(out, next, started, flag, k);
+        started = either(started, flag);
+        k += 1;
+    }
+    if started {
+        return next;
+    }
+    put_byte(out, next, b'-')
+}
+
+// A row: the event's number, the answer, and the lines that were sent to.
+pub fn put_row(out: &mut [u8], at: usize, i: u16, answer: u8, to: [bool; 8]) -> usize
+    requires { ⌜ at + 30 ≤ length (now out) ⌝ }
+    ensures text { λ r. ⌜ Put at (rowText i answer to) (now (out .entry)) (now (out .exit)) r ⌝ }
+    ensures near { λ r. ⌜ r ≤ at + 30 ⌝ }
+{
+    let a = put_number(out, at, i);
+    let b = put_byte(out, a, b' ');
+    let c = put_number(out, b, answer as u16);
+    let d = put_byte(out, c, b' ');
+    let e = put_sent(out, d, to);
+    put_byte(out, e, b'\n')
+}

@@ -1,0 +1,84 @@
+// The whole text.
+use crate::Written;
+use crate::events::act;
+use crate::file::count;
+use crate::file::good_file;
+use crate::file::offset;
+use crate::put::put_text;
+use crate::rows::put_row;
+use protocol::Station;
+ghost use mathlib.Core.Path.{_≡_};
+ghost use mathlib.Core.Bool.{true};
+ghost use mathlib.Core.List.{_++_};
+ghost use Prim.Native.Nat.{_≤_};
+ghost use lib.ListN.{length};
+ghost use Rattle.transcript.specs.Files.{countFrom, goodFile};
+ghost use Rattle.transcript.specs.Put.{Put};
+ghost use Rattle.transcript.specs.Text.{RowsFit, rowsFrom, allRows, heading, textRoom, sessionText, writtenOf, areaOf};
+
+// A row for each of the n events, each acted on where the one before it left the state and the route area.
+fn put_rows(
+    mut s: Station,
+    file: &[u8],
+    n: usize,
+    area: &mut [u8],
+    route: &mut [u8],
+    out: &mut [u8],
+    at: usize,
+) -> usize
+    requires { ⌜ RowsFit (now file) n (length (now area)) (length (now out)) at ⌝ }
+    ensures { λ r. ⌜ Put at (rowsFrom (now (file .entry)) s (now (route .entry)) (countFrom 0 n)) (now (out .entry)) (now (out .exit)) r ⌝ }
+{
+    let mut next = at;
+    let mut i: usize = 0;
+    while i < n {
+        let from = offset(file, i);
+        let to = offset(file, i + 1);
+        let done = act(s, &file[from..to], area, route);
+        let lines = done.to;
+        next = put_row(out, next, i as u16, done.answer, lines);
+        s = done.state;
+        i += 1;
+    }
+    next
+}
+
+// The text of a good file.
+fn put_session(file: &[u8], out: &mut [u8]) -> usize
+    requires { ⌜ (goodFile (now file) ≡ true) × (textRoom ≤ length (now out)) ⌝ }
+    ensures { λ r. ⌜ Put 0 (heading ++ allRows (now (file .entry))) (now (out .entry)) (now (out .exit)) r ⌝ }
+{
+    let mut route = [0u8; 16384];
+    let mut area = [0u8; 4119];
+    let begun = station::changes::fresh(&route);
+    let state = begun.state;
+    let at = put_text(out, 0, b"event answer to\n");
+    let n = count(file);
+    put_rows(state, file, n, &mut area, &mut route, out, at)
+}
+
+// The text of a session, from the bytes of its event file. An area that is too short for some text is left as it is.
+pub fn session_text(file: &[u8], out: &mut [u8]) -> Written
+    ensures result { λ r. ⌜ r ≡ writtenOf (length (now (out .entry))) (sessionText (now (file .entry))) ⌝ }
+    ensures area { λ _. ⌜ now (out .exit) ≡ areaOf (sessionText (now (file .entry))) (now (out .entry)) ⌝ }
+    ensures inside { λ r. ⌜ r .written ≤ length (now (out .entry)) ⌝ }
+{
+    if out.len() < 98304 {
+        return Written {
+            fits: false,
+            written: 0,
+        };
+    }
+    if !good_file(file) {
+        let short = put_text(out, 0, b"bad file\n");
+        return Written {
+            fits: true,
+            written: short,
+        };
+    }
+    let written = put_session(file, out);
+    Written {
+        fits: true,
+        written,
+    }
+}
