@@ -85,7 +85,7 @@ fn line_of(event: &[u8]) -> u32
 }
 
 // The event is acted on; a message is written to the output area, which only it uses.
-pub fn act(s: Station, event: &[u8], area: &mut [u8], route: &mut [u8]) -> Answered
+pub(crate) fn act(s: Station, event: &[u8], area: &mut [u8], route: &mut [u8]) -> Answered
     requires { ⌜ (length (now area) ≡ outputSize) × (6 ≤ length (now event)) ⌝ }
     ensures result { λ r. ⌜ r ≡ answered (outcomeBy s (now (route .entry)) (now (event .entry))) ⌝ }
     ensures after { λ _. ⌜ now (route .exit) ≡ routeBy s (now (route .entry)) (now (event .entry)) ⌝ }

@@ -14,14 +14,14 @@ fn word_at(file: &[u8], at: usize) -> usize
 }
 
 // How many events the file says it has.
-pub fn count(file: &[u8]) -> usize
+pub(crate) fn count(file: &[u8]) -> usize
     ensures { λ r. ⌜ (r ≡ countOf (now (file .entry))) × (r < 4294967296) ⌝ }
 {
     word_at(file, 0)
 }
 
 // Where event i begins.
-pub fn offset(file: &[u8], i: usize) -> usize
+pub(crate) fn offset(file: &[u8], i: usize) -> usize
     requires { ⌜ 4 + 4 * i ≤ length (now file) ⌝ }
     ensures { λ r. ⌜ (r ≡ offsetOf (now (file .entry)) i) × (r < 4294967296) ⌝ }
 {
@@ -81,7 +81,7 @@ fn good_events(file: &[u8], n: usize) -> bool
 }
 
 // The whole file is good.
-pub fn good_file(file: &[u8]) -> bool
+pub(crate) fn good_file(file: &[u8]) -> bool
     ensures { λ r. ⌜ r ≡ goodFile (now (file .entry)) ⌝ }
 {
     if !good_offsets(file) {

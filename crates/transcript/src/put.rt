@@ -6,7 +6,7 @@ ghost use lib.ListN.{length};
 ghost use Rattle.transcript.specs.Rows.{decimal};
 ghost use Rattle.transcript.specs.Put.{Put};
 
-pub fn put_byte(out: &mut [u8], at: usize, b: u8) -> usize
+pub(crate) fn put_byte(out: &mut [u8], at: usize, b: u8) -> usize
     requires { ⌜ at < length (now out) ⌝ }
     ensures { λ r. ⌜ Put at (b ∷ []) (now (out .entry)) (now (out .exit)) r ⌝ }
 {
@@ -14,7 +14,7 @@ pub fn put_byte(out: &mut [u8], at: usize, b: u8) -> usize
     at + 1
 }
 
-pub fn put_text(out: &mut [u8], at: usize, text: &[u8]) -> usize
+pub(crate) fn put_text(out: &mut [u8], at: usize, text: &[u8]) -> usize
     requires { ⌜ at + length (now text) ≤ length (now out) ⌝ }
     ensures { λ r. ⌜ Put at (now (text .entry)) (now (out .entry)) (now (out .exit)) r ⌝ }
 {
@@ -53,7 +53,7 @@ fn last_digit(n: u16) -> u8
 }
 
 // A number in decimal, whose digits are written from the last to the first.
-pub fn put_number(out: &mut [u8], at: usize, n: u16) -> usize
+pub(crate) fn put_number(out: &mut [u8], at: usize, n: u16) -> usize
     requires { ⌜ at + 5 ≤ length (now out) ⌝ }
     ensures text { λ r. ⌜ Put at (decimal n) (now (out .entry)) (now (out .exit)) r ⌝ }
     ensures near { λ r. ⌜ r ≤ at + 5 ⌝ }

@@ -51,7 +51,7 @@ fn put_sent(out: &mut [u8], at: usize, to: [bool; 8]) -> usize
 }
 
 // A row: the event's number, the answer, and the lines that were sent to.
-pub fn put_row(out: &mut [u8], at: usize, i: u16, answer: u8, to: [bool; 8]) -> usize
+pub(crate) fn put_row(out: &mut [u8], at: usize, i: u16, answer: u8, to: [bool; 8]) -> usize
     requires { ⌜ at + 30 ≤ length (now out) ⌝ }
     ensures text { λ r. ⌜ Put at (rowText i answer to) (now (out .entry)) (now (out .exit)) r ⌝ }
     ensures near { λ r. ⌜ r ≤ at + 30 ⌝ }
