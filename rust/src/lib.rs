@@ -1,0 +1,2 @@
+//! The proved core of a Gnutella 0.6 station.
+pub mod raw;
