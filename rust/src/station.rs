@@ -107,13 +107,17 @@ pub struct Station {
 }
 
 impl Station {
-    /// A station with every line closed, and a route area of so many bytes: an eighth of it is the longest table that a neighbour may send, in entries.
+    /// A station with every line closed, and a route area of so many bytes: an eighth of them is the most entries that a neighbour's table may have.
     ///
-    /// The longest table there is has 65,536 entries, so `8 * 65_536` has room for any. A longer table is refused, and withholds nothing.
+    /// The longest table there is has 65,536 entries, so `8 * 65_536` has room for any. A table that has no room is refused, and withholds nothing.
     ///
     /// # Errors
     ///
     /// [`Refusal::BadArea`] below 32 bytes.
+    ///
+    /// # Panics
+    ///
+    /// Where there is no memory for so many bytes, as for any vector.
     ///
     /// ```
     /// use lunozhar::{Refusal, Station};
@@ -260,7 +264,7 @@ impl Station {
         Ok(Outcome { used: told.used, sent: Sent::new(&self.output, &told), local })
     }
 
-    /// Asks a query of this station's own, under a number that no query had yet: 16 bytes that are random enough. The message is for each open line whose
+    /// Asks a query of this station's own, under a number that no query had yet, such as 16 random bytes. The message is for each open line whose
     /// table does not withhold it; its hits come back as [`Local::Hit`] of later messages.
     ///
     /// # Errors
