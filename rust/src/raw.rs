@@ -5,6 +5,9 @@
 
 use core::mem::{offset_of, size_of};
 
+#[cfg(test)]
+mod header;
+
 /// Lines of a station.
 pub const LINES: usize = 8;
 /// Queries that a station remembers.
@@ -288,10 +291,10 @@ extern "C" {
     pub fn lunozhar_write_table(
         number: Number,
         had: bool,
-        old: *const u8,
+        old_entries: *const u8,
         old_len: usize,
         old_infinity: u8,
-        new: *const u8,
+        new_entries: *const u8,
         new_len: usize,
         infinity: u8,
         size: usize,
@@ -345,73 +348,4 @@ layout! {
     Pair 6 { address 0, port 4 }
     Pairs 200 { count 0, pairs 8 }
     Hosts 216 { answer 0, used 8, pairs 16 }
-}
-
-#[cfg(test)]
-mod tests {
-    use super::*;
-    use crate::Refusal;
-
-    const HEADER: &str = include_str!("../../include/lunozhar.h");
-
-    #[test]
-    fn the_header_asserts_the_same_layout() {
-        let mut asserted = Vec::new();
-        for line in HEADER.lines() {
-            if let Some(rest) = line.strip_prefix("LUNOZHAR_").and_then(|rest| rest.strip_suffix(");")) {
-                asserted.push(rest.replacen("(lunozhar_", " ", 1).replace(',', ""));
-            }
-        }
-        let mut listed = Vec::new();
-        for (name, size, fields) in LAYOUT {
-            let name = name.to_lowercase();
-            listed.push(format!("SIZE {name} {size}"));
-            listed.extend(fields.iter().map(|(field, at)| format!("AT {name} {field} {at}")));
-        }
-        assert_eq!(asserted, listed);
-    }
-
-    /// `NotInOrder` as `NOT_IN_ORDER`.
-    fn in_capitals(name: &str) -> String {
-        let mut capitals = String::new();
-        for letter in name.chars() {
-            if letter.is_uppercase() && !capitals.is_empty() {
-                capitals.push('_');
-            }
-            capitals.push(letter.to_ascii_uppercase());
-        }
-        capitals
-    }
-
-    #[test]
-    fn the_header_has_the_same_constants() {
-        let mut defined = Vec::new();
-        for line in HEADER.lines() {
-            let line = line.trim_start().trim_start_matches("#define ");
-            let Some((name, value)) = line.strip_prefix("LUNOZHAR_").and_then(|rest| rest.split_once(' ')) else { continue };
-            let digits = value.trim_start_matches("= ").split([',', ' ']).next().unwrap();
-            if let Ok(number) = digits.parse() {
-                defined.push((name.to_string(), number));
-            }
-        }
-        let areas = [
-            ("LINES", LINES),
-            ("MEMORY", MEMORY),
-            ("PONGS", PONGS),
-            ("PAIRS", PAIRS),
-            ("ANSWERS", ANSWERS),
-            ("OUTPUT", OUTPUT),
-            ("ROUTE", ROUTE),
-        ];
-        let mut listed: Vec<(String, usize)> = areas.map(|(name, value)| (name.to_string(), value)).to_vec();
-        listed.push(("DONE".to_string(), 0));
-        listed.extend(Refusal::ALL.map(|refusal| (in_capitals(&format!("{refusal:?}")), refusal.number() as usize)));
-        let marks =
-            [("NONE", MARK_NONE), ("WAITING", MARK_WAITING), ("RUNNING", MARK_RUNNING), ("SETTLED", MARK_SETTLED), ("BROKEN", MARK_BROKEN)];
-        listed.extend(marks.map(|(name, value)| (format!("MARK_{name}"), value as usize)));
-        listed.extend([("HERE", ASKER_HERE), ("GONE", ASKER_GONE)].map(|(name, value)| (format!("ASKER_{name}"), value as usize)));
-        let kinds = [("NONE", KIND_NONE), ("GREETING", KIND_GREETING), ("REPLY", KIND_REPLY)];
-        listed.extend(kinds.map(|(name, value)| (format!("KIND_{name}"), value as usize)));
-        assert_eq!(defined, listed);
-    }
 }
