@@ -1,4 +1,4 @@
-/* A station with two neighbours. Line 0 asks for "spruce 04417"; the query goes on by line 1; the hit comes back by line 1 and goes to line 0.
+/* A station with two neighbours. Line 0 asks for "mountain lake"; the query goes on by line 1; the hit comes back by line 1 and goes to line 0.
  * Then line 0 closes and is given to another neighbour: the same hit, coming late, is refused. samples/two-lines.out is what this prints.
  *
  *     rt staticlib lunozhar
@@ -46,7 +46,7 @@ static void arrive(uint32_t line, uint32_t clock, const uint8_t *message, size_t
 int main(void) {
     uint8_t query[64], hit[64];
     const uint8_t result[27] = {0}; /* the shortest payload of a hit */
-    size_t query_len = put_message(query, QUERY, 3, 1, "\0\0spruce 04417", 15); /* speed, text and its zero byte */
+    size_t query_len = put_message(query, QUERY, 3, 1, "\0\0mountain lake", 16); /* speed, text and its zero byte */
     size_t hit_len = put_message(hit, HIT, 4, 0, result, sizeof result);
 
     printf("made: %u\n", lunozhar_fresh(&station, sizeof route));

@@ -48,7 +48,7 @@ pub struct Group {
 /// use lunozhar::handshake::{self, Kind};
 /// use lunozhar::Refusal;
 ///
-/// let bytes = b"GNUTELLA/0.6 200 OK\r\nUser-Agent: Spruce/1.0\r\n\r\nmore";
+/// let bytes = b"GNUTELLA/0.6 200 OK\r\nUser-Agent: Station/1.0\r\n\r\nmore";
 /// let group = handshake::read_group(bytes)?;
 /// assert_eq!((group.kind, group.major, group.minor), (Kind::Reply { code: 200 }, 0, 6));
 /// assert_eq!(&bytes[group.used..], b"more");
@@ -71,8 +71,8 @@ pub fn read_group(bytes: &[u8]) -> Result<Group, Refused> {
 /// ```
 /// use lunozhar::handshake;
 ///
-/// let bytes = b"GNUTELLA CONNECT/0.6\r\nUser-Agent: Spruce/1.0\r\n\r\n";
-/// assert_eq!(handshake::field(bytes, "user-agent")?, b"Spruce/1.0");
+/// let bytes = b"GNUTELLA CONNECT/0.6\r\nUser-Agent: Station/1.0\r\n\r\n";
+/// assert_eq!(handshake::field(bytes, "user-agent")?, b"Station/1.0");
 /// # Ok::<(), lunozhar::Refused>(())
 /// ```
 pub fn field(bytes: &[u8], name: impl AsRef<[u8]>) -> Result<Vec<u8>, Refused> {

@@ -8,7 +8,7 @@ use crate::boundary;
 ///
 /// ```
 /// use lunozhar::keyword;
-/// assert_eq!(keyword::hash(b"Spruce"), keyword::hash(b"spruce"));
+/// assert_eq!(keyword::hash(b"Lake"), keyword::hash(b"lake"));
 /// assert_eq!(keyword::hash(b""), 0);
 /// ```
 pub fn hash(keyword: &[u8]) -> u32 {

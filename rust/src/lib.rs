@@ -14,18 +14,18 @@
 //! second.open(1)?;
 //!
 //! // The first asks. What it sends by its line 0 arrives at the second by that one's line 0.
-//! let asked = first.ask([7; 16], b"spruce 04417")?;
+//! let asked = first.ask([7; 16], b"mountain lake")?;
 //! assert!(asked.lines().eq([0]));
 //! let own = Own::new("192.0.2.2:6346".parse()?);
 //! let outcome = second.message(0, 1_000, &own, asked.bytes)?;
 //!
 //! // The second is to search its files, and to pass the query on by line 1.
-//! assert_eq!(outcome.local, Local::Query(b"spruce 04417"));
+//! assert_eq!(outcome.local, Local::Query(b"mountain lake"));
 //! assert!(outcome.sent.lines().eq([1]));
 //!
 //! // The same query once more is refused.
 //! let refused = second.message(0, 1_100, &own, asked.bytes).unwrap_err();
-//! assert_eq!(refused.to_string(), "refused with 9: the query's number is remembered (38 bytes used)");
+//! assert_eq!(refused.to_string(), "refused with 9: the query's number is remembered (39 bytes used)");
 //! # Ok::<(), Box<dyn std::error::Error>>(())
 //! ```
 //!

@@ -2,6 +2,15 @@
 //!
 //! Most users want [`crate::Station`] and the functions beside it. A slice is a pointer and a length here, and every function is `unsafe` to call:
 //! pointers are not null and point to as much as their length or type says, and what a call is lent to write overlaps nothing else of it.
+//!
+//! ```
+//! use lunozhar::raw;
+//!
+//! let keyword = b"ebckl";
+//! // SAFETY: the pointer goes with the length of its slice.
+//! let place = unsafe { raw::lunozhar_place(keyword.as_ptr(), keyword.len(), 13) };
+//! assert_eq!(place, 3179);
+//! ```
 
 use core::mem::{offset_of, size_of};
 

@@ -61,7 +61,7 @@ impl<'s> Sent<'s> {
     /// let mut station = lunozhar::Station::new(1024)?;
     /// station.open(2)?;
     /// station.open(5)?;
-    /// let sent = station.ask([1; 16], b"spruce")?;
+    /// let sent = station.ask([1; 16], b"lake")?;
     /// for line in sent.lines() {
     ///     println!("{} bytes for line {line}", sent.bytes.len());
     /// }
@@ -239,7 +239,7 @@ impl Station {
     ///
     /// let mut asker = Station::new(1024)?;
     /// asker.open(0)?;
-    /// let query = asker.ask([7; 16], b"spruce")?.bytes;
+    /// let query = asker.ask([7; 16], b"lake")?.bytes;
     ///
     /// let mut station = Station::new(1024)?;
     /// station.open(0)?;
@@ -277,10 +277,10 @@ impl Station {
     ///
     /// let mut station = Station::new(1024)?;
     /// station.open(1)?;
-    /// let sent = station.ask([7; 16], b"spruce 04417")?;
+    /// let sent = station.ask([7; 16], b"mountain lake")?;
     /// assert!(sent.lines().eq([1]));
-    /// assert_eq!(sent.bytes.len(), 23 + 2 + 12 + 1);
-    /// assert_eq!(station.ask([7; 16], b"larch"), Err(Refusal::Repeated));
+    /// assert_eq!(sent.bytes.len(), 23 + 2 + 13 + 1);
+    /// assert_eq!(station.ask([7; 16], b"river"), Err(Refusal::Repeated));
     /// # Ok::<(), Refusal>(())
     /// ```
     pub fn ask(&mut self, number: [u8; 16], text: &[u8]) -> Result<Sent<'_>, Refusal> {
@@ -289,7 +289,8 @@ impl Station {
         Ok(Sent::new(&self.output, &told))
     }
 
-    /// How many messages had each answer, refused ones included; openings, closings and own queries are not counted.
+    /// How many messages had each answer. Each call of [`message`](Station::message) counts as one, also where it was refused for want of bytes;
+    /// openings, closings and own queries are not counted.
     ///
     /// ```
     /// use lunozhar::{Own, Refusal, Station};

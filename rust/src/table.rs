@@ -39,9 +39,9 @@ pub struct Table<'a> {
 /// use lunozhar::table::{self, Table};
 /// use lunozhar::{keyword, Own, Station};
 ///
-/// // A neighbour that has "spruce" next to it, and nothing else.
+/// // A neighbour that has "lake" next to it, and nothing else.
 /// let mut entries = vec![8; 1024];
-/// entries[keyword::place(b"spruce", 10) as usize] = 1;
+/// entries[keyword::place(b"lake", 10) as usize] = 1;
 /// let updates = table::write([3; 16], None, Table { entries: &entries, infinity: 8 }, table::MOST_DATA)?;
 ///
 /// let mut station = Station::new(8 * 1024)?;
@@ -52,8 +52,8 @@ pub struct Table<'a> {
 ///     let used = station.message(0, 0, &own, rest)?.used;
 ///     rest = &rest[used..];
 /// }
-/// assert!(station.ask([4; 16], b"Spruce")?.lines().eq([0]));
-/// assert!(station.ask([5; 16], b"larch")?.lines().eq([]));
+/// assert!(station.ask([4; 16], b"Lake")?.lines().eq([0]));
+/// assert!(station.ask([5; 16], b"river")?.lines().eq([]));
 /// # Ok::<(), lunozhar::Refusal>(())
 /// ```
 pub fn write(number: [u8; 16], old: Option<Table<'_>>, new: Table<'_>, data_size: usize) -> Result<Vec<u8>, Refusal> {

@@ -6,7 +6,7 @@ use lunozhar::{Local, Outcome, Refusal, Station};
 #[test]
 fn a_query_is_searched_and_goes_to_every_other_line() {
     let mut station = station(&[0, 2, 7]);
-    let bytes = [query(7, "spruce 04417"), vec![1, 2, 3]].concat();
+    let bytes = [query(7, "mountain lake"), vec![1, 2, 3]].concat();
     let Outcome { used, sent, local } = station.message(2, 0, &own(), &bytes).unwrap();
     assert_eq!(used, bytes.len() - 3);
     assert!(sent.lines().eq([0, 7]));
@@ -14,7 +14,7 @@ fn a_query_is_searched_and_goes_to_every_other_line() {
     assert_eq!(sent.bytes, message(7, QUERY, 2, 2, &bytes[23..used]));
     // The text is a part of the bytes that came: it stays when the station goes on.
     station.close(2).unwrap();
-    assert_eq!(local, Local::Query(b"spruce 04417"));
+    assert_eq!(local, Local::Query(b"mountain lake"));
 }
 
 #[test]
@@ -54,7 +54,7 @@ fn a_ping_gets_the_own_pong_and_a_stored_one() {
 #[test]
 fn a_clone_goes_its_own_way() {
     let mut first = station(&[0, 1]);
-    first.message(0, 0, &own(), &query(7, "larch")).unwrap();
+    first.message(0, 0, &own(), &query(7, "river")).unwrap();
     let mut second = first.clone();
     second.close(0).unwrap();
     assert!(first.message(1, 0, &own(), &hit(7)).is_ok());
@@ -68,6 +68,6 @@ fn a_station_may_go_to_another_thread() {
     fn goes<T: Send + Sync + Clone + 'static>(_: &T) {}
     let mut station: Station = station(&[0]);
     goes(&station);
-    let joined = std::thread::spawn(move || station.message(0, 0, &own(), &query(7, "larch")).map(|outcome| outcome.used));
+    let joined = std::thread::spawn(move || station.message(0, 0, &own(), &query(7, "river")).map(|outcome| outcome.used));
     assert_eq!(joined.join().unwrap(), Ok(31));
 }

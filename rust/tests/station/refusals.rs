@@ -8,11 +8,11 @@ use lunozhar::{handshake, raw, Refusal, Refused, Station};
 /// query 8 is an own one, and the table of line 1 has four entries of 8.
 fn busy_station() -> Station {
     let mut station = station(&[0, 1, 2]);
-    station.message(0, 0, &own(), &query(7, "larch")).unwrap();
+    station.message(0, 0, &own(), &query(7, "river")).unwrap();
     station.message(0, 0, &own(), &message(1, PING, 2, 0, b"")).unwrap();
-    station.message(2, 0, &own(), &query(9, "spruce")).unwrap();
+    station.message(2, 0, &own(), &query(9, "lake")).unwrap();
     station.close(2).unwrap();
-    station.ask([8; 16], b"pine").unwrap();
+    station.ask([8; 16], b"hill").unwrap();
     station.message(1, 0, &own(), &message(1, UPDATE, 1, 0, &[0, 4, 0, 0, 0, 8])).unwrap();
     station
 }
@@ -32,8 +32,8 @@ fn refused_messages() -> Vec<(u32, Vec<u8>, Refusal)> {
         (0, message(1, QUERY, 3, 1, b"\0\0eb"), Refusal::BadPayload),
         (0, message(1, 0x40, 3, 1, &[0; 26]), Refusal::UnknownType),
         (0, message(1, QUERY, 0, 1, b"\0\0eb\0"), Refusal::BadTtlOrHops),
-        (1, query(7, "larch"), Refusal::Repeated),
-        (1, query(8, "pine"), Refusal::Repeated),
+        (1, query(7, "river"), Refusal::Repeated),
+        (1, query(8, "hill"), Refusal::Repeated),
         (1, hit(6), Refusal::NotFound),
         (1, hit(9), Refusal::AskerClosed),
         (1, message(7, HIT, 5, 255, &[0; 27]), Refusal::HopsFull),
