@@ -1,5 +1,6 @@
 //! The crate as a program uses it.
 
+mod any_bytes;
 mod handshakes;
 mod late_hit;
 mod messages;
