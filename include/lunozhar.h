@@ -192,7 +192,8 @@ typedef struct lunozhar_hosts {
 } lunozhar_hosts;
 
 /* Makes the station: every line closed, nothing remembered, room for tables as a route area of route_len bytes gives it. The area itself is
- * lent to lunozhar_message and lunozhar_ask, always the same one; its bytes may be anything. What the station held before does not count.
+ * lent to lunozhar_message and lunozhar_ask, always the same one; its bytes may be anything. What the station held before does not count, but it
+ * holds something: memory that is new is set to zero first, as a static station is.
  * Answers 0, or 2 for route_len below LUNOZHAR_ROUTE: the station is made all the same, with room 0. */
 uint8_t lunozhar_fresh(lunozhar_station *station, size_t route_len);
 
