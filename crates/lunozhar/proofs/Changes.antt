@@ -17,7 +17,7 @@ use prog.Wp.{Heap, Calls, Loops, WpFn, Tables}
 use ghost.Atoms.{Atoms, sem}
 use contract.Monad.{fact}
 use types.Kit.{Given, ‵, raw, some, later, _⊛_, _$_, _∵_, !, qed, by, move, keep, drop, use1, split, join, rewrite, fsplit, fsplit3, fjoin, fjoin3, feqI, suffices, frame, done}
-use types.Run.{look, look-raw, store-raw, init, forget, stop, hop, fld, from, load, of-opd, and-then, no-more, assigns, land, returns, enter, alloc1, alloc0, params1, pass1, pass0, free1, free0}
+use types.Run.{look, look-raw, store-raw, init, stop, hop, fld, from, load, of-opd, and-then, no-more, assigns, land, returns, enter, alloc1, alloc0, params1, pass1, pass0, free0}
 use types.Part.{whole, sub, look-in}
 use types.SemTy.{Body}
 use sound.WpLaws.{FmC, fmOf, WpFn-mono}
@@ -43,7 +43,7 @@ use Rattle.protocol.proofs.Station as station
 use Rattle.protocol.proofs.Station.Laws as station-laws
 use Rattle.protocol.proofs.Changed as changed
 use Rattle.protocol.proofs.Changed.Laws as changed-laws
-use Rattle.tally.proofs.Lent.{lent, told}
+use Rattle.tally.proofs.Lent.{lent, told, gone}
 
 abbrev value : Ty → Local
 value τ = local τ valueLocal
@@ -222,21 +222,11 @@ module _ (w : Width) (change : Change) where
           closes ! tt station.the-row (new .state) (words (new .state)) b o $
           -- the locals go
           returns ! (look ! 11 refl) $
-          forget ! 3 refl $
-          forget ! 5 refl $
-          forget ! 7 refl $
-          forget ! 9 refl $
-          forget ! 11 refl $
-          move ! (11 ∷ 12 ∷ []) $
-          free1 ! $
-          move ! (9 ∷ 10 ∷ []) $
-          free1 ! $
-          move ! (7 ∷ 8 ∷ []) $
-          free1 ! $
-          move ! (5 ∷ 6 ∷ []) $
-          free1 ! $
-          move ! (3 ∷ 4 ∷ []) $
-          free1 ! $
+          gone ! 11 refl refl $
+          gone ! 9 refl refl $
+          gone ! 7 refl refl $
+          gone ! 5 refl refl $
+          gone ! 3 refl refl $
           free0 ! $
           keep ! (0 ∷ 1 ∷ 2 ∷ []) $
           by ! (leaves (number .1) (answer-fits new v is)))))))))))

@@ -16,7 +16,7 @@ use ghost.Atoms.{Atoms, sem}
 use contract.Monad.{Fun, fact}
 use contract.Running.{givenOf, tables, tablesOf}
 use types.Kit.{Given, ‵, raw, some, later, _⊛_, _$_, _∵_, !, qed, by, move, keep, drop, use1, split, join, fsplit, fsplit3, fjoin, fjoin3, feqI, suffices, frame, done}
-use types.Run.{look, look-raw, store-raw, init, forget, stop, hop, from, load, unit-lit, of-opd, and-then, no-more, assigns, land, returns, enter, alloc1, alloc0, params1, pass1, pass0, free1, free0}
+use types.Run.{look, look-raw, store-raw, init, stop, hop, from, load, unit-lit, of-opd, and-then, no-more, assigns, land, returns, enter, alloc1, alloc0, params1, pass1, pass0, free0}
 use types.SemTy.{Body}
 use sound.WpLaws.{FmC, fmOf, WpFn-mono}
 use denote.RattleType.{owns}
@@ -38,7 +38,7 @@ use denote.Triple.Walked.{says, Stays, stay-ref, stay-none, walkOf, AllGo, goes-
 use denote.Exit.{yes}
 use Rattle.tally.specs.declared.Tally.{Tally}
 use Rattle.tally.specs.Counts.{counted}
-use Rattle.tally.proofs.Lent.{lent, told}
+use Rattle.tally.proofs.Lent.{lent, told, gone}
 use Rattle.tally.proofs.Tally as tally
 use Rattle.tally.proofs.Tally.Laws as tally-laws
 use Rattle.tally.proofs.counted as callee
@@ -169,21 +169,11 @@ module _ {M : Type 1} (𝓤 : URA M) (H : Heap 𝓤) (A : Atoms 𝓤) (W : Given
         closes ! tt tally.the-row new (v ∷ []) b o $
         -- the locals go
         returns ! (look ! 11 refl) $
-        forget ! 3 refl $
-        forget ! 5 refl $
-        forget ! 7 refl $
-        forget ! 9 refl $
-        forget ! 11 refl $
-        move ! (11 ∷ 12 ∷ []) $
-        free1 ! $
-        move ! (9 ∷ 10 ∷ []) $
-        free1 ! $
-        move ! (7 ∷ 8 ∷ []) $
-        free1 ! $
-        move ! (5 ∷ 6 ∷ []) $
-        free1 ! $
-        move ! (3 ∷ 4 ∷ []) $
-        free1 ! $
+        gone ! 11 refl refl $
+        gone ! 9 refl refl $
+        gone ! 7 refl refl $
+        gone ! 5 refl refl $
+        gone ! 3 refl refl $
         free0 ! $
         keep ! (0 ∷ 1 ∷ 2 ∷ []) $
         by ! (leaves (byte .1)))))))))))
