@@ -70,15 +70,28 @@ use Rattle.lunozhar.proofs.calls.lunozhar_message.Code as code
 
 -- at exit the function still has the reference to the station, and has passed on all else
 abbrev stays : Stays (caller.ended .signature .params) (caller.ended .kept)
-stays =
-    (stay-ref (0 ∷ []) tt (plain (λ _. station.the-row)),
-    (passed-on (plain (λ _. u32)) yes,
-    (passed-on (plain (λ _. u32)) yes,
-    (passed-on (plain (λ _. own-type.the-row)) yes,
-    (passed-on (shrSliceOf (1 ∷ []) tt (plain (λ _. u8))) yes,
-    (passed-on (mutSliceOf (2 ∷ []) tt (plain (λ _. u8))) yes,
-    (passed-on (mutSliceOf (3 ∷ []) tt (plain (λ _. u8))) yes,
-    tt)))))))
+stays = (
+  stay-ref (0 ∷ []) tt (plain (λ _. station.the-row)),
+  (
+    passed-on (plain (λ _. u32)) yes,
+    (
+      passed-on (plain (λ _. u32)) yes,
+      (
+        passed-on (plain (λ _. own-type.the-row)) yes,
+        (
+          passed-on (shrSliceOf (1 ∷ []) tt (plain (λ _. u8))) yes,
+          (
+            passed-on (mutSliceOf (2 ∷ []) tt (plain (λ _. u8))) yes,
+            (
+              passed-on (mutSliceOf (3 ∷ []) tt (plain (λ _. u8))) yes,
+              tt,
+            ),
+          ),
+        ),
+      ),
+    ),
+  ),
+)
 
 -- a state, and what is told, as the machine has them: one value
 abbrev words : Station → List Val
@@ -282,15 +295,28 @@ module _ {M : Type 1} (𝓤 : URA M) (H : Heap 𝓤) (A : Atoms 𝓤) (W : Given
   walks C Λ fm known =
       walked 𝓤 H A caller.ended stays (caller.clauses 𝓤 H A at-mem run) (WpFn 𝓤 H C Λ code.function)
       (λ κs. (ptr-vals, (uint-vals w32, (uint-vals w32, (vals own-type.the-type own-laws.the-laws, (slice-vals, (slice-vals, (slice-vals, tt))))))))
-      (λ κs.
-      (mut-tells (named 0) (κs .0) station.the-row,
-      (uint-tells w32,
-      (uint-tells w32,
-      (tells own-type.the-type own-laws.the-laws,
-      (shr-slice-tells (named 1) (κs .1 .0) u8,
-      (mut-slice-tells (named 2) (κs .1 .1 .0) u8,
-      (mut-slice-tells (named 3) (κs .1 .1 .1 .0) u8,
-      tt))))))))
+      (λ κs. (
+        mut-tells (named 0) (κs .0) station.the-row,
+        (
+          uint-tells w32,
+          (
+            uint-tells w32,
+            (
+              tells own-type.the-type own-laws.the-laws,
+              (
+                shr-slice-tells (named 1) (κs .1 .0) u8,
+                (
+                  mut-slice-tells (named 2) (κs .1 .1 .0) u8,
+                  (
+                    mut-slice-tells (named 3) (κs .1 .1 .1 .0) u8,
+                    tt,
+                  ),
+                ),
+              ),
+            ),
+          ),
+        ),
+      ))
       (λ κs qs bounds a _ are.
       via 𝓤 _ (fst∗ 𝓤 _ (emp 𝓤))
       (walk (κs .0) (κs .1 .0) (κs .1 .1 .0) (κs .1 .1 .1 .0) (qs .0) (qs .1 .0) (qs .1 .1 .0) (qs .1 .1 .1 .0) (a .0 .ptr .0) (a .0 .ptr .1) (a .0 .name) (a .0 .now)
@@ -298,15 +324,28 @@ module _ {M : Type 1} (𝓤 : URA M) (H : Heap 𝓤) (A : Atoms 𝓤) (W : Given
       (are .1 .0 .1) (are .1 .1 .0 .1) (are .1 .1 .1 .0) (are .1 .1 .1 .1 .0 .0 .1) (are .1 .1 .1 .1 .1 .0 .0 .1) (are .1 .1 .1 .1 .1 .1 .0 .0 .1)))
 
   goes : AllGo 𝓤 H A W 4 (caller.signature .params) (caller.ended .kept) stays
-  goes =
-      (goes-ref 𝓤 H A W 4 0 tt (plain (λ _. station.the-row)),
-      (passed-on-goes 𝓤 H A W 4 (plain (λ _. u32)) yes,
-      (passed-on-goes 𝓤 H A W 4 (plain (λ _. u32)) yes,
-      (passed-on-goes 𝓤 H A W 4 (plain (λ _. own-type.the-row)) yes,
-      (passed-on-goes 𝓤 H A W 4 (shrSliceOf (1 ∷ []) tt (plain (λ _. u8))) yes,
-      (passed-on-goes 𝓤 H A W 4 (mutSliceOf (2 ∷ []) tt (plain (λ _. u8))) yes,
-      (passed-on-goes 𝓤 H A W 4 (mutSliceOf (3 ∷ []) tt (plain (λ _. u8))) yes,
-      tt)))))))
+  goes = (
+    goes-ref 𝓤 H A W 4 0 tt (plain (λ _. station.the-row)),
+    (
+      passed-on-goes 𝓤 H A W 4 (plain (λ _. u32)) yes,
+      (
+        passed-on-goes 𝓤 H A W 4 (plain (λ _. u32)) yes,
+        (
+          passed-on-goes 𝓤 H A W 4 (plain (λ _. own-type.the-row)) yes,
+          (
+            passed-on-goes 𝓤 H A W 4 (shrSliceOf (1 ∷ []) tt (plain (λ _. u8))) yes,
+            (
+              passed-on-goes 𝓤 H A W 4 (mutSliceOf (2 ∷ []) tt (plain (λ _. u8))) yes,
+              (
+                passed-on-goes 𝓤 H A W 4 (mutSliceOf (3 ∷ []) tt (plain (λ _. u8))) yes,
+                tt,
+              ),
+            ),
+          ),
+        ),
+      ),
+    ),
+  )
 
   meets : (𝓣 : Tables 𝓤 H) → Triple 𝓤 (𝓣 .C #callee) Handles → Meets 𝓤 H A caller.signature (WpFn 𝓤 H (𝓣 .C) (𝓣 .Λ) code.function) (caller.spec 𝓤 H A at-mem run)
   meets 𝓣 known =
