@@ -16,26 +16,26 @@ use base.Fml.{GName, Lft, Share, ftrue, fat, flft, fobs, fbor}
 use prog.Wp.{Heap, Calls, Loops, WpFn, Tables}
 use ghost.Atoms.{Atoms, sem}
 use contract.Monad.{fact}
-use types.Kit.{Given, ‵, raw, some, later, _⊛_, _$_, _∵_, !, qed, by, move, keep, drop, use1, split, join, rewrite, fsplit, fsplit3, fjoin, fjoin3, feqI, suffices, frame, done}
+use types.Kit.{Given, ‵, raw, some, later, _⊛_, _$_, _∵_, !, qed, by, move, keep, drop, use1, split, join, rewrite, fsplit3, fjoin, fjoin3, feqI, suffices, frame, done}
 use types.Run.{look, look-raw, store-raw, init, stop, hop, fld, from, load, of-opd, and-then, no-more, assigns, land, returns, enter, alloc1, alloc0, params1, pass1, pass0, free0}
 use types.Part.{whole, sub, look-in}
 use types.SemTy.{Body}
 use sound.WpLaws.{FmC, fmOf, WpFn-mono}
 use denote.RattleType.{owns}
-use denote.Laws.{Is, shows}
+use denote.Laws.{Is}
 use denote.Memory.{mem, pointee}
 use denote.Plain.{UInt, uint-vals, uint-tells, uint-makes, uint-lawful}
 use denote.Builtin.{u8}
 use denote.Ref.{RefT, now, MutRef, ptr-vals, mut-tells}
 use denote.Signature.{plain, mutRefTo}
-use denote.Steps.{only, closes, owned, peeks, nothing}
+use denote.Steps.{only, closes, owned, nothing}
 use denote.Struct.Laws.{vals, tells, owed, lawful, makes}
 use denote.Triple.Statement.{Contract, Triple}
 use denote.Triple.Call.{calls-at}
 use denote.Triple.Clauses.{Ended, Clauses, closing, ensured, lasts}
 use denote.Triple.Entry.{onEntry}
 use denote.Triple.Spec.{Meets, tripleOf}
-use denote.Triple.Walked.{says, Stays, stay-ref, stay-none, walkOf, AllGo, goes-none, goes-ref, Walks, ends-at, walked, walk-meets}
+use denote.Triple.Walked.{says, Stays, stay-ref, walkOf, AllGo, goes-ref, Walks, ends-at, walked, walk-meets}
 use denote.Exit.{yes}
 use Rattle.protocol.specs.declared.Station.{Station}
 use Rattle.protocol.specs.declared.Changed.{Changed}
@@ -43,7 +43,7 @@ use Rattle.protocol.proofs.Station as station
 use Rattle.protocol.proofs.Station.Laws as station-laws
 use Rattle.protocol.proofs.Changed as changed
 use Rattle.protocol.proofs.Changed.Laws as changed-laws
-use Rattle.tally.proofs.Lent.{lent, told, gone}
+use Rattle.tally.proofs.Lent.{lent, told, gone, passed-on, passed-on-goes}
 
 abbrev value : Ty → Local
 value τ = local τ valueLocal
@@ -93,7 +93,7 @@ Lends w change 𝓤 κs a =
 
 -- at exit the function still has the reference, and nothing of the number
 abbrev stays : (w : Width) → Stays (lending w .signature .params) (lending w .kept)
-stays w = (stay-ref (0 ∷ []) tt (plain (λ _. station.the-row)), (stay-none (λ _. UInt w) yes, tt))
+stays w = (stay-ref (0 ∷ []) tt (plain (λ _. station.the-row)), (passed-on (plain (λ _. UInt w)) yes, tt))
 
 -- a state as the machine has it: one value
 abbrev words : Station → List Val
@@ -134,9 +134,9 @@ module _ (w : Width) (change : Change) where
     new = change old n
 
     -- the end: the reference is closed at the new state
-    leaves : n < 2 ^ bits w → new .answer < 2 ^ 8
+    leaves : new .answer < 2 ^ 8
         → ent 𝓤 (sep 𝓤 (A .obs γ (station.the-row .coded .code (new .state))) (sep 𝓤 (A .bor κ (Body (mem station.the-row) b o γ)) (A .lft κ q))) (Exit (vint w8 (new .answer)))
-    leaves fits byte =
+    leaves byte =
         qed W (‵ (fobs γ (station.the-row .coded .code (new .state))) ∷ ‵ (fbor κ (Body (mem station.the-row) b o γ)) ∷ ‵ (flft κ q) ∷ []) ∵
         suffices ! _
         (ends-at 𝓤 H A (lending w) (stays w) (Lends w change 𝓤) W (((κ, tt), (q, tt), tt, values, machine), tt) (vint w8 (new .answer)) (new .answer) (new .state, (tt, tt)) (tt, (tt, tt))) $
@@ -148,7 +148,7 @@ module _ (w : Width) (change : Change) where
         feqI ! (List Val) (vptr b o ∷ []) (vptr b o ∷ []) refl $
         fjoin3 ! $
         nothing ! $
-        owned ! (UInt w) (Is (UInt w)) (uint-makes 𝓤 H A W w) n _ (refl, fits) $
+        nothing ! $
         fjoin ! $
         move ! (1 ∷ 0 ∷ []) $
         fjoin ! $
@@ -173,28 +173,22 @@ module _ (w : Width) (change : Change) where
         frame ! $
         done !
 
-    module _ (#callee : Name) (C : Calls 𝓤 H) (Λ : Loops 𝓤 H) (fm : FmC 𝓤 H (W .laws) C) (known : Triple 𝓤 (C #callee) (Callee 𝓤 H A)) where
+    module _ (#callee : Name) (C : Calls 𝓤 H) (Λ : Loops 𝓤 H) (fm : FmC 𝓤 H (W .laws) C) (known : Triple 𝓤 (C #callee) (Callee 𝓤 H A)) (fits : n < 2 ^ bits w) where
       walk : ent 𝓤 (onEntry 𝓤 H A (lending w .signature) (κ, tt) (q, tt) values machine) (WpFn 𝓤 H C Λ (changing w #callee) (vptr b o ∷ vint w n ∷ []) Exit)
       walk =
-          qed W ((‵ (flft κ q) ⊛ ‵ ftrue) ∷ ‵ (owns (MutRef (named 0) κ station.the-row ∷ UInt w ∷ []) values machine) ∷ []) ∵
-          -- what the parameters own: the reference, and that the number fits
+          qed W ((‵ (flft κ q) ⊛ ‵ ftrue) ∷ (‵ (MutRef (named 0) κ station.the-row .own (values .0) (vptr b o ∷ [])) ⊛ ‵ (owns (UInt w ∷ []) (values .1) (machine .1))) ∷ []) ∵
           split ! $
           move ! (2 ∷ []) $
-          fsplit ! $
-          move ! (1 ∷ []) $
-          fsplit ! $
-          peeks ! (UInt w) (Is (UInt w)) (shows 𝓤 H A (UInt w)) n (vint w n ∷ []) (λ number.
-          move ! (2 ∷ []) $
+          split ! $
           fsplit3 ! $
-          drop ! $
-          move ! (0 ∷ 1 ∷ 4 ∷ []) $
+          keep ! (1 ∷ 2 ∷ 4 ∷ []) $
           -- the locals: result, reference, number, old, new
           enter ! C Λ (changing w #callee) (vptr b o ∷ vint w n ∷ []) _ $
           alloc1 ! (λ _. alloc1 ! (λ _. alloc1 ! (λ _. alloc1 ! (λ _. alloc1 ! (λ new-at.
           alloc0 ! $
           params1 ! $
           pass1 ! (init ! 6 refl (tt, tt)) $
-          pass1 ! (init ! 4 refl (uint-lawful 𝓤 H A W w .typed n _ number .0)) $
+          pass1 ! (init ! 4 refl (uint-lawful 𝓤 H A W w .typed n _ (refl, fits) .0)) $
           pass0 ! $
           move ! (10 ∷ 11 ∷ 12 ∷ []) $
           -- let old = *station;
@@ -203,7 +197,7 @@ module _ (w : Width) (change : Change) where
           (init ! 7 refl (lawful station.the-type station-laws.the-laws 𝓤 H A W .typed old _ was .0)) $
           -- let new = callee(old, number);
           move ! (1 ∷ []) $
-          use1 W (raw (Callee 𝓤 H A .pre passed)) (asks (number .1)) $
+          use1 W (raw (Callee 𝓤 H A .pre passed)) (asks fits) $
           calls-at ! fm (Callee 𝓤 H A) known passed
           (and-then ! (load ! (from ! (stop !)) (look ! 7 refl)) (and-then ! (load ! (from ! (stop !)) (look ! 9 refl)) (no-more !))) (λ v.
           use1 W (later (some (λ (x : Changed). (‵ ftrue ⊛ ‵ (changed.the-row .own x (v ∷ []))) ⊛ raw (Ensured 𝓤 H A old n x)))) (id⊢ 𝓤 _) $
@@ -229,7 +223,7 @@ module _ (w : Width) (change : Change) where
           gone ! 3 refl refl $
           free0 ! $
           keep ! (0 ∷ 1 ∷ 2 ∷ []) $
-          by ! (leaves (number .1) (answer-fits new v is)))))))))))
+          by ! (leaves (answer-fits new v is))))))))))
 
   -- the walk, raised to the contract
   module _ (#callee : Name) {M : Type 1} (𝓤 : URA M) (H : Heap 𝓤) (A : Atoms 𝓤) (W : Given 𝓤 H A) where
@@ -239,11 +233,11 @@ module _ (w : Width) (change : Change) where
         walked 𝓤 H A (lending w) (stays w) (Lends w change 𝓤) (WpFn 𝓤 H C Λ (changing w #callee))
         (λ κs. (ptr-vals, (uint-vals w, tt)))
         (λ κs. (mut-tells (named 0) (κs .0) station.the-row, (uint-tells w, tt)))
-        (λ κs qs bounds a _ _.
-        via 𝓤 _ (fst∗ 𝓤 _ (emp 𝓤)) (walk 𝓤 H A W (κs .0) (qs .0) (a .0 .ptr .0) (a .0 .ptr .1) (a .0 .name) (a .0 .now) (a .1 .0) #callee C Λ fm known))
+        (λ κs qs bounds a _ are.
+        via 𝓤 _ (fst∗ 𝓤 _ (emp 𝓤)) (walk 𝓤 H A W (κs .0) (qs .0) (a .0 .ptr .0) (a .0 .ptr .1) (a .0 .name) (a .0 .now) (a .1 .0) #callee C Λ fm known (are .1 .0 .1)))
 
     goes : AllGo 𝓤 H A W 1 (lending w .signature .params) (lending w .kept) (stays w)
-    goes = (goes-ref 𝓤 H A W 1 0 tt (plain (λ _. station.the-row)), (goes-none 𝓤 H A W 1 (λ _. UInt w) yes (λ κs x f. refl), tt))
+    goes = (goes-ref 𝓤 H A W 1 0 tt (plain (λ _. station.the-row)), (passed-on-goes 𝓤 H A W 1 (plain (λ _. UInt w)) yes, tt))
 
     pub meets : (𝓣 : Tables 𝓤 H) → Triple 𝓤 (𝓣 .C #callee) (Callee 𝓤 H A)
         → Meets 𝓤 H A (lending w .signature) (WpFn 𝓤 H (𝓣 .C) (𝓣 .Λ) (changing w #callee)) (closing 𝓤 H A (lending w) (Lends w change 𝓤))

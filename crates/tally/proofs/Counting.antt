@@ -16,29 +16,29 @@ use prog.Routine.{Routine}
 use prog.Wp.{Heap, Calls, Loops, WpFn, Tables}
 use ghost.Atoms.{Atoms, sem}
 use contract.Monad.{Fun, fact}
-use types.Kit.{Given, ‵, raw, some, later, _⊛_, _$_, _∵_, !, qed, by, move, keep, drop, use1, split, join, fsplit, fsplit3, fjoin, fjoin3, feqI, suffices, frame, done}
+use types.Kit.{Given, ‵, raw, some, later, _⊛_, _$_, _∵_, !, qed, by, move, keep, use1, split, join, fsplit3, fjoin, fjoin3, feqI, suffices, frame, done}
 use types.Run.{look, look-raw, store-raw, init, stop, hop, from, load, unit-lit, of-opd, and-then, no-more, assigns, land, returns, enter, alloc1, alloc0, params1, pass1, pass0, free0}
 use types.SemTy.{Body}
 use sound.WpLaws.{FmC, fmOf, WpFn-mono}
 use denote.RattleType.{owns}
-use denote.Laws.{Is, shows}
+use denote.Laws.{Is}
 use denote.Memory.{mem, pointee}
 use denote.Plain.{uint-vals, uint-tells, uint-makes}
 use denote.Builtin.{u8}
 use denote.Ref.{RefT, MutRef, ptr-vals, mut-tells}
 use denote.Signature.{plain}
-use denote.Steps.{closes, owned, peeks, nothing}
+use denote.Steps.{closes, owned, nothing}
 use denote.Struct.Laws.{vals, lawful}
 use denote.Triple.Statement.{Contract, Triple}
 use denote.Triple.Call.{calls-at}
 use denote.Triple.Clauses.{ensured, lasts}
 use denote.Triple.Entry.{onEntry}
 use denote.Triple.Spec.{Meets, tripleOf}
-use denote.Triple.Walked.{says, Stays, stay-ref, stay-none, walkOf, AllGo, goes-none, goes-ref, Walks, ends-at, walked, walk-meets}
+use denote.Triple.Walked.{says, Stays, stay-ref, walkOf, AllGo, goes-ref, Walks, ends-at, walked, walk-meets}
 use denote.Exit.{yes}
 use Rattle.tally.specs.declared.Tally.{Tally}
 use Rattle.tally.specs.Counts.{counted}
-use Rattle.tally.proofs.Lent.{lent, told, gone}
+use Rattle.tally.proofs.Lent.{lent, told, gone, passed-on, passed-on-goes}
 use Rattle.tally.proofs.Tally as tally
 use Rattle.tally.proofs.Tally.Laws as tally-laws
 use Rattle.tally.proofs.counted as callee
@@ -63,7 +63,7 @@ counting #counted =
 
 -- at exit the function still has the reference, and nothing of the answer
 abbrev stays : Stays (count.ended .signature .params) (count.ended .kept)
-stays = (stay-ref (0 ∷ []) tt (plain (λ _. tally.the-row)), (stay-none (λ _. u8) yes, tt))
+stays = (stay-ref (0 ∷ []) tt (plain (λ _. tally.the-row)), (passed-on (plain (λ _. u8)) yes, tt))
 
 -- a tally as the machine has it: one value
 abbrev words : Tally → List Val
@@ -97,9 +97,8 @@ module _ {M : Type 1} (𝓤 : URA M) (H : Heap 𝓤) (A : Atoms 𝓤) (W : Given
   new = counted old n
 
   -- the end: the reference is closed at the new tally
-  leaves : n < 2 ^ 8
-      → ent 𝓤 (sep 𝓤 (A .obs γ (tally.the-row .coded .code new)) (sep 𝓤 (A .bor κ (Body (mem tally.the-row) b o γ)) (A .lft κ q))) (Exit vunit)
-  leaves fits =
+  leaves : ent 𝓤 (sep 𝓤 (A .obs γ (tally.the-row .coded .code new)) (sep 𝓤 (A .bor κ (Body (mem tally.the-row) b o γ)) (A .lft κ q))) (Exit vunit)
+  leaves =
       qed W (‵ (fobs γ (tally.the-row .coded .code new)) ∷ ‵ (fbor κ (Body (mem tally.the-row) b o γ)) ∷ ‵ (flft κ q) ∷ []) ∵
       suffices ! _
       (ends-at 𝓤 H A count.ended stays (count.clauses 𝓤 H A at-mem run) W (((κ, tt), (q, tt), tt, values, machine), tt) vunit tt (new, (tt, tt)) (tt, (tt, tt))) $
@@ -111,7 +110,7 @@ module _ {M : Type 1} (𝓤 : URA M) (H : Heap 𝓤) (A : Atoms 𝓤) (W : Given
       feqI ! (List Val) (vptr b o ∷ []) (vptr b o ∷ []) refl $
       fjoin3 ! $
       nothing ! $
-      owned ! u8 (Is u8) (uint-makes 𝓤 H A W w8) n _ (refl, fits) $
+      nothing ! $
       fjoin ! $
       move ! (1 ∷ 0 ∷ []) $
       fjoin ! $
@@ -136,28 +135,22 @@ module _ {M : Type 1} (𝓤 : URA M) (H : Heap 𝓤) (A : Atoms 𝓤) (W : Given
       frame ! $
       done !
 
-  module _ (#counted : Name) (C : Calls 𝓤 H) (Λ : Loops 𝓤 H) (fm : FmC 𝓤 H (W .laws) C) (known : Triple 𝓤 (C #counted) (Counts 𝓤 H A at-mem run)) where
+  module _ (#counted : Name) (C : Calls 𝓤 H) (Λ : Loops 𝓤 H) (fm : FmC 𝓤 H (W .laws) C) (known : Triple 𝓤 (C #counted) (Counts 𝓤 H A at-mem run)) (fits : n < 2 ^ 8) where
     walk : ent 𝓤 (onEntry 𝓤 H A count.signature (κ, tt) (q, tt) values machine) (WpFn 𝓤 H C Λ (counting #counted) (vptr b o ∷ vint w8 n ∷ []) Exit)
     walk =
-        qed W ((‵ (flft κ q) ⊛ ‵ ftrue) ∷ ‵ (owns (MutRef (named 0) κ tally.the-row ∷ u8 ∷ []) values machine) ∷ []) ∵
-        -- what the parameters own: the reference, and that the answer is a byte
+        qed W ((‵ (flft κ q) ⊛ ‵ ftrue) ∷ (‵ (MutRef (named 0) κ tally.the-row .own (values .0) (vptr b o ∷ [])) ⊛ ‵ (owns (u8 ∷ []) (values .1) (machine .1))) ∷ []) ∵
         split ! $
         move ! (2 ∷ []) $
-        fsplit ! $
-        move ! (1 ∷ []) $
-        fsplit ! $
-        peeks ! u8 (Is u8) (shows 𝓤 H A u8) n (vint w8 n ∷ []) (λ byte.
-        move ! (2 ∷ []) $
+        split ! $
         fsplit3 ! $
-        drop ! $
-        move ! (0 ∷ 1 ∷ 4 ∷ []) $
+        keep ! (1 ∷ 2 ∷ 4 ∷ []) $
         -- the locals: result, reference, answer, old, new
         enter ! C Λ (counting #counted) (vptr b o ∷ vint w8 n ∷ []) _ $
         alloc1 ! (λ _. alloc1 ! (λ _. alloc1 ! (λ _. alloc1 ! (λ _. alloc1 ! (λ _.
         alloc0 ! $
         params1 ! $
         pass1 ! (init ! 6 refl (tt, tt)) $
-        pass1 ! (init ! 4 refl (tt, record { fits = byte .1 })) $
+        pass1 ! (init ! 4 refl (tt, record { fits = fits })) $
         pass0 ! $
         move ! (10 ∷ 11 ∷ 12 ∷ []) $
         -- let old = *t;
@@ -166,7 +159,7 @@ module _ {M : Type 1} (𝓤 : URA M) (H : Heap 𝓤) (A : Atoms 𝓤) (W : Given
         (init ! 7 refl (lawful tally.the-type tally-laws.the-laws 𝓤 H A W .typed old _ was .0)) $
         -- let new = counted(old, answer);
         move ! (1 ∷ []) $
-        use1 W (raw (Counts 𝓤 H A at-mem run .pre passed)) (asks (byte .1)) $
+        use1 W (raw (Counts 𝓤 H A at-mem run .pre passed)) (asks fits) $
         calls-at ! fm (Counts 𝓤 H A at-mem run) known passed
         (and-then ! (load ! (from ! (stop !)) (look ! 7 refl)) (and-then ! (load ! (from ! (stop !)) (look ! 9 refl)) (no-more !))) (λ v.
         use1 W (later (some (λ (x : Tally). (‵ ftrue ⊛ ‵ (tally.the-row .own x (v ∷ []))) ⊛ raw (Ensured 𝓤 H A at-mem run old n x)))) (id⊢ 𝓤 _) $
@@ -187,7 +180,7 @@ module _ {M : Type 1} (𝓤 : URA M) (H : Heap 𝓤) (A : Atoms 𝓤) (W : Given
         gone ! 3 refl refl $
         free0 ! $
         keep ! (0 ∷ 1 ∷ 2 ∷ []) $
-        by ! (leaves (byte .1)))))))))))
+        by ! leaves))))))))
 
 -- the walk, raised to the contract
 module _ (#counted : Name) {M : Type 1} (𝓤 : URA M) (H : Heap 𝓤) (A : Atoms 𝓤) (W : Given 𝓤 H A) (at-mem : Memory → SProp 𝓤) (run : Routine → Fun 𝓤) where
@@ -198,12 +191,12 @@ module _ (#counted : Name) {M : Type 1} (𝓤 : URA M) (H : Heap 𝓤) (A : Atom
         walked 𝓤 H A count.ended stays (count.clauses 𝓤 H A at-mem run) (WpFn 𝓤 H C Λ (counting #counted))
         (λ κs. (ptr-vals, (uint-vals w8, tt)))
         (λ κs. (mut-tells (named 0) (κs .0) tally.the-row, (uint-tells w8, tt)))
-        (λ κs qs bounds a _ _.
+        (λ κs qs bounds a _ are.
         via 𝓤 _ (fst∗ 𝓤 _ (emp 𝓤))
-        (walk 𝓤 H A W at-mem run (κs .0) (qs .0) (a .0 .ptr .0) (a .0 .ptr .1) (a .0 .name) (a .0 .now) (a .1 .0) #counted C Λ fm known))
+        (walk 𝓤 H A W at-mem run (κs .0) (qs .0) (a .0 .ptr .0) (a .0 .ptr .1) (a .0 .name) (a .0 .now) (a .1 .0) #counted C Λ fm known (are .1 .0 .1)))
 
   goes : AllGo 𝓤 H A W 1 (count.signature .params) (count.ended .kept) stays
-  goes = (goes-ref 𝓤 H A W 1 0 tt (plain (λ _. tally.the-row)), (goes-none 𝓤 H A W 1 (λ _. u8) yes (λ κs x f. refl), tt))
+  goes = (goes-ref 𝓤 H A W 1 0 tt (plain (λ _. tally.the-row)), (passed-on-goes 𝓤 H A W 1 (plain (λ _. u8)) yes, tt))
 
   pub meets : (𝓣 : Tables 𝓤 H) → Triple 𝓤 (𝓣 .C #counted) (Counts 𝓤 H A at-mem run)
       → Meets 𝓤 H A count.signature (WpFn 𝓤 H (𝓣 .C) (𝓣 .Λ) (counting #counted)) (count.spec 𝓤 H A at-mem run)

@@ -1,7 +1,8 @@
--- Steps for a walk of code to which a struct is lent by `&mut`: two over any declared struct T with its laws L, and one for the end of any walk.
+-- Steps for a walk of code to which a struct is lent, in a function that calls another with what it is lent. T is any declared struct, L its laws.
 --     lent    the reference is opened: the struct's machine value lies in memory, and is of the struct's type
 --     told    a callee that takes plain data has returned a struct of which it ensures that it is x: x is owned, and is of the struct's type
 --     gone    a local is freed: entry n of the context is its cell, and the one behind it the right to free it
+--     passed-on, passed-on-goes    of a parameter that was passed on to a callee, the function has at exit what its contract is to say of it; and that is enough
 -- Assumes nothing.
 use Prim.Native.Nat.{ℕ}
 use mathlib.Core.Path.{_≡_, refl, subst}
@@ -13,7 +14,7 @@ use mir.Val.{Val}
 use base.Logic.{SProp, ent, sep, via, monoL, monoR}
 use base.Fml.{GName, Lft, Share, ftrue, fat, froom, fdies, flft, fobs, fauth, fbor, fobor}
 use prog.Wp.{Heap, Env}
-use ghost.Atoms.{Atoms}
+use ghost.Atoms.{Atoms, sem}
 use contract.Monad.{fact}
 use types.Kit.{Goal, frees, Soaks, Seq, Step, step, Given, Item, ‵, raw, some, later, _⊛_, mean, ⋆, push, pull, nth, del, _$_, move, use1, split, drop, pick, await, rewrite}
 use types.Run.{free1}
@@ -24,6 +25,9 @@ use denote.Steps.{opens, peeks, heard}
 use denote.Struct.Declared.{Declared, row}
 use denote.Struct.Laws.{Laws, vals, tells}
 use denote.Struct.Steps.{spelt}
+use denote.Exit.{Kept, left}
+use denote.Signature.{Slot}
+use denote.Triple.Walked.{Stay, Goes}
 
 module _ {M : Type 1} {𝓤 : URA M} {H : Heap 𝓤} {A : Atoms 𝓤} {K : Type 0} {W : Given 𝓤 H A} {Γ : List (Item 𝓤)} {G : Goal 𝓤 H} where
   pub lent : K → Soaks G → (T : Declared) (L : Laws T) {κ : Lft} {q : Share} {γ : GName} (x : T .D) (b o : ℕ)
@@ -78,3 +82,9 @@ module _ {M : Type 1} {𝓤 : URA M} {H : Heap 𝓤} {A : Atoms 𝓤} {K : Type 
     where
       rest : List (Item 𝓤)
       rest = del 𝓤 H A n Γ
+
+abbrev pub passed-on : {n : ℕ} (s : Slot n) (k : Kept) → Stay s k
+passed-on s k = record { fit = λ κs x f. Unit {0}; has = λ κs x f vs. left (s .row κs .exit k) x f }
+
+pub passed-on-goes : {M : Type 1} (𝓤 : URA M) (H : Heap 𝓤) (A : Atoms 𝓤) (W : Given 𝓤 H A) (n : ℕ) (s : Slot n) (k : Kept) → Goes 𝓤 H A W n s k (passed-on s k)
+passed-on-goes 𝓤 H A W n s k κs x f vs fits = W .laws .⇛-intro (sem 𝓤 H A (left (s .row κs .exit k) x f))

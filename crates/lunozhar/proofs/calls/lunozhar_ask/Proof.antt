@@ -55,14 +55,14 @@ use Rattle.station.proofs.asking.ask as callee
 use Rattle.station.proofs.asking.ask.Symbol as callee-symbol
 use Rattle.station.proofs.asking.ask.Symbol.{name as #callee}
 use Rattle.station.proofs.asking.ask.Met as callee-met
-use Rattle.tally.proofs.Lent.{lent, gone}
+use Rattle.tally.proofs.Lent.{lent, gone, passed-on, passed-on-goes}
 use Rattle.lunozhar.specs.declared.Number.{Number}
 use Rattle.lunozhar.specs.Told.{told}
 use Rattle.lunozhar.proofs.Number as number-type
 use Rattle.lunozhar.proofs.Number.Laws as number-laws
 use Rattle.lunozhar.proofs.Told as told-type
 use Rattle.lunozhar.proofs.Told.Laws as told-laws
-use Rattle.lunozhar.proofs.Handing.{state-is, told-is, passed-on, passed-on-goes, saying, both}
+use Rattle.lunozhar.proofs.Handing.{state-is, told-is, saying, both}
 use Rattle.lunozhar.proofs.calls.lunozhar_ask.Key.{name as #caller}
 use Rattle.lunozhar.proofs.calls.lunozhar_ask as caller
 use Rattle.lunozhar.proofs.calls.lunozhar_ask.Statement as stated

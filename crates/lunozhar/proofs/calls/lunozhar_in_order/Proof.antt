@@ -39,8 +39,7 @@ use Rattle.protocol.specs.declared.Station.{Station}
 use Rattle.protocol.specs.Order.{inOrder}
 use Rattle.protocol.proofs.Station as station
 use Rattle.protocol.proofs.Station.Laws as station-laws
-use Rattle.tally.proofs.Lent.{gone}
-use Rattle.lunozhar.proofs.Handing.{passed-on, passed-on-goes}
+use Rattle.tally.proofs.Lent.{gone, passed-on, passed-on-goes}
 use Rattle.lunozhar.proofs.calls.is_in_order as callee
 use Rattle.lunozhar.proofs.calls.is_in_order.Symbol as callee-symbol
 use Rattle.lunozhar.proofs.calls.is_in_order.Symbol.{name as #callee}

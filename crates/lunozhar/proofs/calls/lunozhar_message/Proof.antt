@@ -57,12 +57,12 @@ use Rattle.station.proofs.calls.message as callee
 use Rattle.station.proofs.calls.message.Symbol as callee-symbol
 use Rattle.station.proofs.calls.message.Symbol.{name as #callee}
 use Rattle.station.proofs.calls.message.Met as callee-met
-use Rattle.tally.proofs.Lent.{lent, gone}
+use Rattle.tally.proofs.Lent.{lent, gone, passed-on, passed-on-goes}
 use Rattle.lunozhar.specs.declared.Told.{Told}
 use Rattle.lunozhar.specs.Told.{told}
 use Rattle.lunozhar.proofs.Told as told-type
 use Rattle.lunozhar.proofs.Told.Laws as told-laws
-use Rattle.lunozhar.proofs.Handing.{state-is, told-is, passed-on, passed-on-goes, saying, both}
+use Rattle.lunozhar.proofs.Handing.{state-is, told-is, saying, both}
 use Rattle.lunozhar.proofs.calls.lunozhar_message.Key.{name as #caller}
 use Rattle.lunozhar.proofs.calls.lunozhar_message as caller
 use Rattle.lunozhar.proofs.calls.lunozhar_message.Statement as stated
