@@ -1,5 +1,5 @@
--- One law for `fresh`, `open` and `close`: the lent station is read, a callee is called with it and a number, the state that the callee returns is stored in
--- the old one's place, and its answer is returned. It is over the callee's name, the number's width, and what both contracts say, `change`.
+-- One law for `fresh`, `open` and `close`: the lent station is read, a callee is called with it and a number, the state that the callee returns
+-- is stored in the old one's place, and its answer is returned. It is over the callee's name, the number's width, and what both contracts say.
 --     changing       the MIR of such a function
 --     Takes, Lends   the contracts of the callee and of the function
 --     meets          the function meets its contract, if the callee does

@@ -13,7 +13,7 @@ use protocol::Own;
 use protocol::Station;
 use tally::Tally;
 
-// The fresh state, whatever the old one is.
+// The fresh state, whatever the old one is: `fresh` in the shape of the other two changes.
 fn renewed(_old: Station, route_len: usize) -> Changed
     ensures { λ r. ⌜ r ≡ fresh «route_len» ⌝ }
 {

@@ -1,11 +1,10 @@
-// The static library for C and Rust: include/lunozhar.h declares these functions. A caller holds the station in place and lends it; what is lent to one
-// call must not overlap.
+// The static library for C and Rust: include/lunozhar.h declares these functions. A caller holds the station in place and lends it; what is
+// lent to one call must not overlap.
 pub mod calls;
 pub mod handshakes;
 pub mod routing;
 
-// What a message or an own query came to: its answer, the bytes it used of the message and wrote to the output area, the lines to send those to, whether a
-// query is offered to the local search (with its text's place and length in the message), and whether a hit is delivered here.
+// What a message or an own query came to: a `Handled` but for the state, which is stored in place.
 #[repr(C)]
 pub struct Told {
     pub answer: u8,

@@ -1,5 +1,5 @@
--- One law for every function that brings a lent tally up: the tally is read, `counted` is called with it, and the tally that this returns is stored in the
--- old one's place. The borrow checker does not cover a struct behind a reference, so the code is walked by hand.
+-- One law for every function that brings a lent tally up: the tally is read, `counted` is called with it, and the tally that this returns is
+-- stored in the old one's place. The borrow checker does not cover a struct behind a reference, so the code is walked by hand.
 --     counting    the MIR of such a function, over the name by which it calls `counted`
 --     meets       it meets the contract of `tally::count`
 -- Assumes nothing.

@@ -2,7 +2,7 @@
 --     lent    the reference is opened: the struct's machine value lies in memory, and is of the struct's type
 --     told    a callee that takes plain data has returned a struct of which it ensures that it is x: x is owned, and is of the struct's type
 --     gone    a local is freed: entry n of the context is its cell, and the one behind it the right to free it
---     passed-on, passed-on-goes    of a parameter that was passed on to a callee, the function has at exit what its contract is to say of it; and that is enough
+--     passed-on, passed-on-goes    of a parameter that went on to the callee, the function has at exit what its contract is to say of it: enough
 -- Assumes nothing.
 use Prim.Native.Nat.{ℕ}
 use mathlib.Core.Path.{_≡_, refl, subst}

@@ -1,5 +1,5 @@
--- `lunozhar_in_order` meets its contract. The borrow checker does not cover a struct behind a reference, so the code is walked by hand: the lent station is
--- read, and `is_in_order` is called with it.
+-- `lunozhar_in_order` meets its contract. The borrow checker does not cover a struct behind a reference, so the code is walked by hand: the lent
+-- station is read, and `is_in_order` is called with it.
 -- Assumes nothing.
 use Prim.Native.Nat.{ℕ}
 use mathlib.Core.Path.{_≡_, refl}
