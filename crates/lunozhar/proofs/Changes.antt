@@ -43,7 +43,7 @@ use Rattle.protocol.proofs.Station as station
 use Rattle.protocol.proofs.Station.Laws as station-laws
 use Rattle.protocol.proofs.Changed as changed
 use Rattle.protocol.proofs.Changed.Laws as changed-laws
-use Rattle.tally.proofs.Lent.{lent, told, gone, passed-on, passed-on-goes}
+use Rattle.tally.proofs.Lent.{lent, told, gone, passed-on, passed-on-go, others}
 
 abbrev value : Ty → Local
 value τ = local τ valueLocal
@@ -93,7 +93,7 @@ Lends w change 𝓤 κs a =
 
 -- at exit the function still has the reference, and nothing of the number
 abbrev stays : (w : Width) → Stays (lending w .signature .params) (lending w .kept)
-stays w = (stay-ref (0 ∷ []) tt (plain (λ _. station.the-row)), (passed-on (plain (λ _. UInt w)) yes, tt))
+stays w = (stay-ref (0 ∷ []) tt (plain (λ _. station.the-row)), passed-on (others (lending w .signature .params)) (lending w .kept .1))
 
 -- a state as the machine has it: one value
 abbrev words : Station → List Val
@@ -237,7 +237,7 @@ module _ (w : Width) (change : Change) where
         via 𝓤 _ (fst∗ 𝓤 _ (emp 𝓤)) (walk 𝓤 H A W (κs .0) (qs .0) (a .0 .ptr .0) (a .0 .ptr .1) (a .0 .name) (a .0 .now) (a .1 .0) #callee C Λ fm known (are .1 .0 .1)))
 
     goes : AllGo 𝓤 H A W 1 (lending w .signature .params) (lending w .kept) (stays w)
-    goes = (goes-ref 𝓤 H A W 1 0 tt (plain (λ _. station.the-row)), (passed-on-goes 𝓤 H A W 1 (plain (λ _. UInt w)) yes, tt))
+    goes = (goes-ref 𝓤 H A W 1 0 tt (plain (λ _. station.the-row)), passed-on-go 𝓤 H A W 1 (others (lending w .signature .params)) (lending w .kept .1))
 
     pub meets : (𝓣 : Tables 𝓤 H) → Triple 𝓤 (𝓣 .C #callee) (Callee 𝓤 H A)
         → Meets 𝓤 H A (lending w .signature) (WpFn 𝓤 H (𝓣 .C) (𝓣 .Λ) (changing w #callee)) (closing 𝓤 H A (lending w) (Lends w change 𝓤))

@@ -38,7 +38,7 @@ use denote.Triple.Walked.{says, Stays, stay-ref, walkOf, AllGo, goes-ref, Walks,
 use denote.Exit.{yes}
 use Rattle.tally.specs.declared.Tally.{Tally}
 use Rattle.tally.specs.Counts.{counted}
-use Rattle.tally.proofs.Lent.{lent, told, gone, passed-on, passed-on-goes}
+use Rattle.tally.proofs.Lent.{lent, told, gone, passed-on, passed-on-go, others}
 use Rattle.tally.proofs.Tally as tally
 use Rattle.tally.proofs.Tally.Laws as tally-laws
 use Rattle.tally.proofs.counted as callee
@@ -63,7 +63,7 @@ counting #counted =
 
 -- at exit the function still has the reference, and nothing of the answer
 abbrev stays : Stays (count.ended .signature .params) (count.ended .kept)
-stays = (stay-ref (0 ∷ []) tt (plain (λ _. tally.the-row)), (passed-on (plain (λ _. u8)) yes, tt))
+stays = (stay-ref (0 ∷ []) tt (plain (λ _. tally.the-row)), passed-on (others (count.signature .params)) (count.ended .kept .1))
 
 -- a tally as the machine has it: one value
 abbrev words : Tally → List Val
@@ -196,7 +196,7 @@ module _ (#counted : Name) {M : Type 1} (𝓤 : URA M) (H : Heap 𝓤) (A : Atom
         (walk 𝓤 H A W at-mem run (κs .0) (qs .0) (a .0 .ptr .0) (a .0 .ptr .1) (a .0 .name) (a .0 .now) (a .1 .0) #counted C Λ fm known (are .1 .0 .1)))
 
   goes : AllGo 𝓤 H A W 1 (count.signature .params) (count.ended .kept) stays
-  goes = (goes-ref 𝓤 H A W 1 0 tt (plain (λ _. tally.the-row)), (passed-on-goes 𝓤 H A W 1 (plain (λ _. u8)) yes, tt))
+  goes = (goes-ref 𝓤 H A W 1 0 tt (plain (λ _. tally.the-row)), passed-on-go 𝓤 H A W 1 (others (count.signature .params)) (count.ended .kept .1))
 
   pub meets : (𝓣 : Tables 𝓤 H) → Triple 𝓤 (𝓣 .C #counted) (Counts 𝓤 H A at-mem run)
       → Meets 𝓤 H A count.signature (WpFn 𝓤 H (𝓣 .C) (𝓣 .Λ) (counting #counted)) (count.spec 𝓤 H A at-mem run)

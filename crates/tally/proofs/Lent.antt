@@ -2,7 +2,8 @@
 --     lent    the reference is opened: the struct's machine value lies in memory, and is of the struct's type
 --     told    a callee that takes plain data has returned a struct of which it ensures that it is x: x is owned, and is of the struct's type
 --     gone    a local is freed: entry n of the context is its cell, and the one behind it the right to free it
---     passed-on, passed-on-goes    of a parameter that went on to the callee, the function has at exit what its contract is to say of it: enough
+--     passed-on, passed-on-go    of parameters that went on to the callee, the function has at exit what its contract is to say of them: enough
+--     others                     the parameters after the first
 -- Assumes nothing.
 use Prim.Native.Nat.{ℕ}
 use mathlib.Core.Path.{_≡_, refl, subst}
@@ -27,7 +28,8 @@ use denote.Struct.Laws.{Laws, vals, tells}
 use denote.Struct.Steps.{spelt}
 use denote.Exit.{Kept, left}
 use denote.Signature.{Slot}
-use denote.Triple.Walked.{Stay, Goes}
+use denote.Triple.End.{Kepts}
+use denote.Triple.Walked.{Stay, Stays, AllGo}
 
 module _ {M : Type 1} {𝓤 : URA M} {H : Heap 𝓤} {A : Atoms 𝓤} {K : Type 0} {W : Given 𝓤 H A} {Γ : List (Item 𝓤)} {G : Goal 𝓤 H} where
   pub lent : K → Soaks G → (T : Declared) (L : Laws T) {κ : Lft} {q : Share} {γ : GName} (x : T .D) (b o : ℕ)
@@ -83,8 +85,17 @@ module _ {M : Type 1} {𝓤 : URA M} {H : Heap 𝓤} {A : Atoms 𝓤} {K : Type 
       rest : List (Item 𝓤)
       rest = del 𝓤 H A n Γ
 
-abbrev pub passed-on : {n : ℕ} (s : Slot n) (k : Kept) → Stay s k
-passed-on s k = record { fit = λ κs x f. Unit {0}; has = λ κs x f vs. left (s .row κs .exit k) x f }
+abbrev one-passed-on : {n : ℕ} (s : Slot n) (k : Kept) → Stay s k
+one-passed-on s k = record { fit = λ κs x f. Unit {0}; has = λ κs x f vs. left (s .row κs .exit k) x f }
 
-pub passed-on-goes : {M : Type 1} (𝓤 : URA M) (H : Heap 𝓤) (A : Atoms 𝓤) (W : Given 𝓤 H A) (n : ℕ) (s : Slot n) (k : Kept) → Goes 𝓤 H A W n s k (passed-on s k)
-passed-on-goes 𝓤 H A W n s k κs x f vs fits = W .laws .⇛-intro (sem 𝓤 H A (left (s .row κs .exit k) x f))
+abbrev pub passed-on : {n : ℕ} (ss : List (Slot n)) (ks : Kepts ss) → Stays ss ks
+passed-on [] ks = tt
+passed-on (s ∷ ss) ks = (one-passed-on s (ks .0), passed-on ss (ks .1))
+
+pub passed-on-go : {M : Type 1} (𝓤 : URA M) (H : Heap 𝓤) (A : Atoms 𝓤) (W : Given 𝓤 H A) (n : ℕ) (ss : List (Slot n)) (ks : Kepts ss) → AllGo 𝓤 H A W n ss ks (passed-on ss ks)
+passed-on-go 𝓤 H A W n [] ks = tt
+passed-on-go 𝓤 H A W n (s ∷ ss) ks = ((λ κs x f vs fits. W .laws .⇛-intro (sem 𝓤 H A (left (s .row κs .exit (ks .0)) x f))), passed-on-go 𝓤 H A W n ss (ks .1))
+
+abbrev pub others : {n : ℕ} → List (Slot n) → List (Slot n)
+others [] = []
+others (s ∷ ss) = ss

@@ -31,7 +31,7 @@ use denote.Builtin.{u8}
 use denote.Array.{Array, arrayVal, array-makes}
 use denote.Ref.{RefT, ptr, now, MutRef, ptr-vals, mut-tells}
 use denote.Slice.{sliceVal, Room, MutSlice, ShrSlice, slice-vals, mut-slice-tells, shr-slice-tells}
-use denote.Signature.{plain, mutSliceOf, shrSliceOf}
+use denote.Signature.{plain}
 use denote.Steps.{only, closes, owned, peeks, heard}
 use denote.Struct.Laws.{val, vals, tells, owed, lawful, makes}
 use denote.Triple.Statement.{Contract, Triple}
@@ -41,7 +41,6 @@ use denote.Triple.Entry.{alive, onEntry}
 use denote.Triple.Spec.{Meets, tripleOf}
 use denote.Triple.Table.{entered, cited}
 use denote.Triple.Walked.{Stays, stay-ref, walkOf, AllGo, goes-ref, Walks, ends-at, walked, walk-meets}
-use denote.Exit.{yes}
 use Rattle.laws.specs.Parts.{over}
 use Rattle.protocol.specs.declared.Station.{Station}
 use Rattle.protocol.specs.declared.Handled.{Handled}
@@ -54,7 +53,7 @@ use Rattle.station.proofs.asking.ask as callee
 use Rattle.station.proofs.asking.ask.Symbol as callee-symbol
 use Rattle.station.proofs.asking.ask.Symbol.{name as #callee}
 use Rattle.station.proofs.asking.ask.Met as callee-met
-use Rattle.tally.proofs.Lent.{lent, gone, passed-on, passed-on-goes}
+use Rattle.tally.proofs.Lent.{lent, gone, passed-on, passed-on-go, others}
 use Rattle.lunozhar.specs.declared.Number.{Number}
 use Rattle.lunozhar.specs.Told.{told}
 use Rattle.lunozhar.proofs.Number as number-type
@@ -69,22 +68,7 @@ use Rattle.lunozhar.proofs.calls.lunozhar_ask.Code as code
 
 -- at exit the function still has the reference to the station, and has passed on all else
 abbrev stays : Stays (caller.ended .signature .params) (caller.ended .kept)
-stays = (
-  stay-ref (0 ∷ []) tt (plain (λ _. station.the-row)),
-  (
-    passed-on (plain (λ _. number-type.the-row)) yes,
-    (
-      passed-on (shrSliceOf (1 ∷ []) tt (plain (λ _. u8))) yes,
-      (
-        passed-on (mutSliceOf (2 ∷ []) tt (plain (λ _. u8))) yes,
-        (
-          passed-on (shrSliceOf (3 ∷ []) tt (plain (λ _. u8))) yes,
-          tt,
-        ),
-      ),
-    ),
-  ),
-)
+stays = (stay-ref (0 ∷ []) tt (plain (λ _. station.the-row)), passed-on (others (caller.signature .params)) (caller.ended .kept .1))
 
 -- a state, and what is told, as the machine has them: one value
 abbrev words : Station → List Val
@@ -313,22 +297,7 @@ module _ {M : Type 1} (𝓤 : URA M) (H : Heap 𝓤) (A : Atoms 𝓤) (W : Given
       (a .1 .0) (a .1 .1 .0) (a .1 .1 .1 .0) (a .1 .1 .1 .1 .0) (are .1 .0) C Λ fm known (are .1 .1 .0 .0 .1) (are .1 .1 .1 .0 .0 .1) (are .1 .1 .1 .1 .0 .0 .1)))
 
   goes : AllGo 𝓤 H A W 4 (caller.signature .params) (caller.ended .kept) stays
-  goes = (
-    goes-ref 𝓤 H A W 4 0 tt (plain (λ _. station.the-row)),
-    (
-      passed-on-goes 𝓤 H A W 4 (plain (λ _. number-type.the-row)) yes,
-      (
-        passed-on-goes 𝓤 H A W 4 (shrSliceOf (1 ∷ []) tt (plain (λ _. u8))) yes,
-        (
-          passed-on-goes 𝓤 H A W 4 (mutSliceOf (2 ∷ []) tt (plain (λ _. u8))) yes,
-          (
-            passed-on-goes 𝓤 H A W 4 (shrSliceOf (3 ∷ []) tt (plain (λ _. u8))) yes,
-            tt,
-          ),
-        ),
-      ),
-    ),
-  )
+  goes = (goes-ref 𝓤 H A W 4 0 tt (plain (λ _. station.the-row)), passed-on-go 𝓤 H A W 4 (others (caller.signature .params)) (caller.ended .kept .1))
 
   meets : (𝓣 : Tables 𝓤 H) → Triple 𝓤 (𝓣 .C #callee) Handles → Meets 𝓤 H A caller.signature (WpFn 𝓤 H (𝓣 .C) (𝓣 .Λ) code.function) (caller.spec 𝓤 H A at-mem run)
   meets 𝓣 known =

@@ -23,7 +23,6 @@ use denote.Laws.{Is, shows}
 use denote.Plain.{bool-lawful}
 use denote.Builtin.{bool}
 use denote.Ref.{RefT, ShrRef, ptr-vals, shr-tells}
-use denote.Signature.{plain, shrRefTo}
 use denote.Steps.{looks, shuts, owned, peeks, heard, nothing}
 use denote.Struct.Laws.{vals, tells, lawful, makes, copy}
 use denote.Struct.Steps.{spelt}
@@ -33,13 +32,12 @@ use denote.Triple.Clauses.{ensured, lasts}
 use denote.Triple.Entry.{onEntry}
 use denote.Triple.Spec.{Meets, tripleOf}
 use denote.Triple.Table.{entered, cited}
-use denote.Triple.Walked.{says, Stays, walkOf, AllGo, Walks, ends-at, walked, walk-meets}
-use denote.Exit.{yes}
+use denote.Triple.Walked.{says, Stays, walkOf, Walks, ends-at, walked, walk-meets}
 use Rattle.protocol.specs.declared.Station.{Station}
 use Rattle.protocol.specs.Order.{inOrder}
 use Rattle.protocol.proofs.Station as station
 use Rattle.protocol.proofs.Station.Laws as station-laws
-use Rattle.tally.proofs.Lent.{gone, passed-on, passed-on-goes}
+use Rattle.tally.proofs.Lent.{gone, passed-on, passed-on-go}
 use Rattle.lunozhar.proofs.calls.is_in_order as callee
 use Rattle.lunozhar.proofs.calls.is_in_order.Symbol as callee-symbol
 use Rattle.lunozhar.proofs.calls.is_in_order.Symbol.{name as #callee}
@@ -51,7 +49,7 @@ use Rattle.lunozhar.proofs.calls.lunozhar_in_order.Code as code
 
 -- at exit nothing is to be said of the reference
 abbrev stays : Stays (caller.ended .signature .params) (caller.ended .kept)
-stays = (passed-on (shrRefTo (0 ∷ []) tt (plain (λ _. station.the-row))) yes, tt)
+stays = passed-on (caller.signature .params) (caller.ended .kept)
 
 -- a state as the machine has it: one value
 abbrev words : Station → List Val
@@ -166,12 +164,9 @@ module _ {M : Type 1} (𝓤 : URA M) (H : Heap 𝓤) (A : Atoms 𝓤) (W : Given
       (λ κs qs bounds a _ _.
       via 𝓤 _ (fst∗ 𝓤 _ (emp 𝓤)) (walk (κs .0) (qs .0) (a .0 .ptr .0) (a .0 .ptr .1) (a .0 .name) (a .0 .now) C Λ fm known))
 
-  goes : AllGo 𝓤 H A W 1 (caller.signature .params) (caller.ended .kept) stays
-  goes = (passed-on-goes 𝓤 H A W 1 (shrRefTo (0 ∷ []) tt (plain (λ _. station.the-row))) yes, tt)
-
   meets : (𝓣 : Tables 𝓤 H) → Triple 𝓤 (𝓣 .C #callee) Tells → Meets 𝓤 H A caller.signature (WpFn 𝓤 H (𝓣 .C) (𝓣 .Λ) code.function) (caller.spec 𝓤 H A at-mem run)
   meets 𝓣 known =
-      walk-meets 𝓤 H A caller.ended stays W goes (caller.clauses 𝓤 H A at-mem run)
+      walk-meets 𝓤 H A caller.ended stays W (passed-on-go 𝓤 H A W 1 (caller.signature .params) (caller.ended .kept)) (caller.clauses 𝓤 H A at-mem run)
       (WpFn 𝓤 H (𝓣 .C) (𝓣 .Λ) code.function)
       (WpFn-mono 𝓤 H (W .laws) 𝓣 code.function)
       (walks (𝓣 .C) (𝓣 .Λ) (fmOf 𝓤 H (W .laws) 𝓣) known)

@@ -30,7 +30,7 @@ use denote.Plain.{uint-vals, uint-tells}
 use denote.Builtin.{u8, u32}
 use denote.Ref.{RefT, ptr, now, MutRef, ptr-vals, mut-tells}
 use denote.Slice.{sliceVal, Room, MutSlice, ShrSlice, slice-vals, mut-slice-tells, shr-slice-tells}
-use denote.Signature.{plain, mutSliceOf, shrSliceOf}
+use denote.Signature.{plain}
 use denote.Steps.{only, closes, owned, peeks, heard}
 use denote.Struct.Laws.{val, vals, tells, lawful, makes}
 use denote.Triple.Statement.{Contract, Triple}
@@ -40,7 +40,6 @@ use denote.Triple.Entry.{alive, onEntry}
 use denote.Triple.Spec.{Meets, tripleOf}
 use denote.Triple.Table.{entered, cited}
 use denote.Triple.Walked.{Stays, stay-ref, walkOf, AllGo, goes-ref, Walks, ends-at, walked, walk-meets}
-use denote.Exit.{yes}
 use Rattle.laws.specs.Parts.{over}
 use Rattle.protocol.specs.declared.Station.{Station}
 use Rattle.protocol.specs.declared.Own.{Own}
@@ -56,7 +55,7 @@ use Rattle.station.proofs.calls.message as callee
 use Rattle.station.proofs.calls.message.Symbol as callee-symbol
 use Rattle.station.proofs.calls.message.Symbol.{name as #callee}
 use Rattle.station.proofs.calls.message.Met as callee-met
-use Rattle.tally.proofs.Lent.{lent, gone, passed-on, passed-on-goes}
+use Rattle.tally.proofs.Lent.{lent, gone, passed-on, passed-on-go, others}
 use Rattle.lunozhar.specs.Told.{told}
 use Rattle.lunozhar.proofs.Told as told-type
 use Rattle.lunozhar.proofs.Told.Laws as told-laws
@@ -68,28 +67,7 @@ use Rattle.lunozhar.proofs.calls.lunozhar_message.Code as code
 
 -- at exit the function still has the reference to the station, and has passed on all else
 abbrev stays : Stays (caller.ended .signature .params) (caller.ended .kept)
-stays = (
-  stay-ref (0 ∷ []) tt (plain (λ _. station.the-row)),
-  (
-    passed-on (plain (λ _. u32)) yes,
-    (
-      passed-on (plain (λ _. u32)) yes,
-      (
-        passed-on (plain (λ _. own-type.the-row)) yes,
-        (
-          passed-on (shrSliceOf (1 ∷ []) tt (plain (λ _. u8))) yes,
-          (
-            passed-on (mutSliceOf (2 ∷ []) tt (plain (λ _. u8))) yes,
-            (
-              passed-on (mutSliceOf (3 ∷ []) tt (plain (λ _. u8))) yes,
-              tt,
-            ),
-          ),
-        ),
-      ),
-    ),
-  ),
-)
+stays = (stay-ref (0 ∷ []) tt (plain (λ _. station.the-row)), passed-on (others (caller.signature .params)) (caller.ended .kept .1))
 
 -- a state, and what is told, as the machine has them: one value
 abbrev words : Station → List Val
@@ -105,34 +83,34 @@ module _ {M : Type 1} (𝓤 : URA M) (H : Heap 𝓤) (A : Atoms 𝓤) (W : Given
 
   -- a call with the state `old` behind the pointer b, o, and the other arguments
   module _ (κ κm κo κr : Lft) (q qm qo qr : Share) (b o : ℕ) (γ : GName) (old : Station) (line clock : ℕ) (own : Own) (m out route : RefT (List ℕ)) where
-    abbrev others : ℕ × (ℕ × (Own × (RefT (List ℕ) × (RefT (List ℕ) × (RefT (List ℕ) × Unit {0})))))
-    others = (line, (clock, (own, (m, (out, (route, tt))))))
+    abbrev rest : ℕ × (ℕ × (Own × (RefT (List ℕ) × (RefT (List ℕ) × (RefT (List ℕ) × Unit {0})))))
+    rest = (line, (clock, (own, (m, (out, (route, tt))))))
 
     abbrev values : RefT Station × (ℕ × (ℕ × (Own × (RefT (List ℕ) × (RefT (List ℕ) × (RefT (List ℕ) × Unit {0}))))))
-    values = (record { ptr = (b, o); name = γ; now = old }, others)
+    values = (record { ptr = (b, o); name = γ; now = old }, rest)
 
-    abbrev other-words : List Val × (List Val × (List Val × (List Val × (List Val × (List Val × Unit {0})))))
-    other-words = (vint w32 line ∷ [], (vint w32 clock ∷ [], (vals own-type.the-type own-laws.the-laws own, (slice-vals m, (slice-vals out, (slice-vals route, tt))))))
+    abbrev rest-words : List Val × (List Val × (List Val × (List Val × (List Val × (List Val × Unit {0})))))
+    rest-words = (vint w32 line ∷ [], (vint w32 clock ∷ [], (vals own-type.the-type own-laws.the-laws own, (slice-vals m, (slice-vals out, (slice-vals route, tt))))))
 
     abbrev Exit : Val → SProp 𝓤
-    Exit = walkOf 𝓤 H A caller.ended stays (caller.clauses 𝓤 H A at-mem run) .post (((κ, (κm, (κo, (κr, tt)))), (q, (qm, (qo, (qr, tt)))), tt, values, (vptr b o ∷ [], other-words)), tt)
+    Exit = walkOf 𝓤 H A caller.ended stays (caller.clauses 𝓤 H A at-mem run) .post (((κ, (κm, (κo, (κr, tt)))), (q, (qm, (qo, (qr, tt)))), tt, values, (vptr b o ∷ [], rest-words)), tt)
 
     -- the callee's tokens, which are the caller's but for the station's
     abbrev Alive : SProp 𝓤
     Alive = alive 𝓤 H A callee.signature (κm, (κo, (κr, tt))) (qm, (qo, (qr, tt)))
 
     abbrev passed : Handles .Ghost
-    passed = (((κm, (κo, (κr, tt))), (qm, (qo, (qr, tt))), tt, (old, others), (words old, other-words)), tt)
+    passed = (((κm, (κo, (κr, tt))), (qm, (qo, (qr, tt))), tt, (old, rest), (words old, rest-words)), tt)
 
     abbrev Ensured : Handled → SProp 𝓤
-    Ensured new = ensured 𝓤 H A callee.ended (callee.clauses 𝓤 H A at-mem run) (κm, (κo, (κr, tt))) (old, others) tt new
+    Ensured new = ensured 𝓤 H A callee.ended (callee.clauses 𝓤 H A at-mem run) (κm, (κo, (κr, tt))) (old, rest) tt new
 
     abbrev Ends : Type 0
-    Ends = Lasts callee.ended (κm, (κo, (κr, tt))) (old, others)
+    Ends = Lasts callee.ended (κm, (κo, (κr, tt))) (old, rest)
 
     -- what the parameters own beside the reference to the station
     abbrev Others : Fml
-    Others = owns (u32 ∷ u32 ∷ own-type.the-row ∷ ShrSlice (named 1) κm u8 ∷ MutSlice (named 2) κo u8 ∷ MutSlice (named 3) κr u8 ∷ []) others other-words
+    Others = owns (u32 ∷ u32 ∷ own-type.the-row ∷ ShrSlice (named 1) κm u8 ∷ MutSlice (named 2) κo u8 ∷ MutSlice (named 3) κr u8 ∷ []) rest rest-words
 
     -- what the callee ensures of its result and of the two areas
     abbrev Result : Handled → Type 0
@@ -146,13 +124,13 @@ module _ {M : Type 1} (𝓤 : URA M) (H : Heap 𝓤) (A : Atoms 𝓤) (W : Given
 
     -- the end: the reference is closed at the new state
     leaves : (new : Handled) (ends : Ends) → Is told-type.the-row (told new) (told-word new ∷ []) → Result new → Output (ends .1 .1 .1 .1 .1 .0) → Area (ends .1 .1 .1 .1 .1 .1 .0)
-        → ent 𝓤 (⋆ 𝓤 H A (‵ (fobs γ (station.the-row .coded .code (new .state))) ∷ ‵ (fbor κ (Body (mem station.the-row) b o γ)) ∷ ‵ (flft κ q) ∷ raw Alive ∷ ‵ (lasts callee.ended (κm, (κo, (κr, tt))) (old, others) ends) ∷ []))
+        → ent 𝓤 (⋆ 𝓤 H A (‵ (fobs γ (station.the-row .coded .code (new .state))) ∷ ‵ (fbor κ (Body (mem station.the-row) b o γ)) ∷ ‵ (flft κ q) ∷ raw Alive ∷ ‵ (lasts callee.ended (κm, (κo, (κr, tt))) (old, rest) ends) ∷ []))
         (Exit (told-word new))
     leaves new ends is result output area =
-        qed W (‵ (fobs γ (station.the-row .coded .code (new .state))) ∷ ‵ (fbor κ (Body (mem station.the-row) b o γ)) ∷ ‵ (flft κ q) ∷ raw Alive ∷ ‵ (lasts callee.ended (κm, (κo, (κr, tt))) (old, others) ends) ∷ []) ∵
+        qed W (‵ (fobs γ (station.the-row .coded .code (new .state))) ∷ ‵ (fbor κ (Body (mem station.the-row) b o γ)) ∷ ‵ (flft κ q) ∷ raw Alive ∷ ‵ (lasts callee.ended (κm, (κo, (κr, tt))) (old, rest) ends) ∷ []) ∵
         suffices ! _
         (ends-at 𝓤 H A caller.ended stays (caller.clauses 𝓤 H A at-mem run) W
-        (((κ, (κm, (κo, (κr, tt)))), (q, (qm, (qo, (qr, tt)))), tt, values, (vptr b o ∷ [], other-words)), tt) (told-word new) (told new) (new .state, ends .1)
+        (((κ, (κm, (κo, (κr, tt)))), (q, (qm, (qo, (qr, tt)))), tt, values, (vptr b o ∷ [], rest-words)), tt) (told-word new) (told new) (new .state, ends .1)
         (tt, (tt, (tt, (tt, (tt, (tt, (tt, tt)))))))) $
         saying !
         (both 𝓤 (factI 𝓤 _ (emp 𝓤) (ap told result))
@@ -186,7 +164,7 @@ module _ {M : Type 1} (𝓤 : URA M) (H : Heap 𝓤) (A : Atoms 𝓤) (W : Given
     module _ (C : Calls 𝓤 H) (Λ : Loops 𝓤 H) (fm : FmC 𝓤 H (W .laws) C) (known : Triple 𝓤 (C #callee) Handles)
         (line-fits : line < 2 ^ 32) (clock-fits : clock < 2 ^ 32) (own-is : Is own-type.the-row own (vals own-type.the-type own-laws.the-laws own))
         (m-room : Room u8 (length (now m))) (out-room : Room u8 (length (now out))) (route-room : Room u8 (length (now route))) where
-      walk : ent 𝓤 (onEntry 𝓤 H A caller.signature (κ, (κm, (κo, (κr, tt)))) (q, (qm, (qo, (qr, tt)))) values (vptr b o ∷ [], other-words))
+      walk : ent 𝓤 (onEntry 𝓤 H A caller.signature (κ, (κm, (κo, (κr, tt)))) (q, (qm, (qo, (qr, tt)))) values (vptr b o ∷ [], rest-words))
           (WpFn 𝓤 H C Λ code.function (vptr b o ∷ vint w32 line ∷ vint w32 clock ∷ val own-type.the-type own-laws.the-laws own ∷ sliceVal (ptr m) (length (now m)) ∷ sliceVal (ptr out) (length (now out)) ∷ sliceVal (ptr route) (length (now route)) ∷ []) Exit)
       walk =
           qed W ((‵ (flft κ q) ⊛ raw Alive) ∷ (‵ (MutRef (named 0) κ station.the-row .own (values .0) (vptr b o ∷ [])) ⊛ ‵ Others) ∷ []) ∵
@@ -232,7 +210,7 @@ module _ {M : Type 1} (𝓤 : URA M) (H : Heap 𝓤) (A : Atoms 𝓤) (W : Given
           pick ! (λ new.
           split ! $
           move ! (1 ∷ []) $
-          use1 W (some (λ (ends : Ends). ‵ (lasts callee.ended (κm, (κo, (κr, tt))) (old, others) ends) ⊛ (raw (fact 𝓤 (Result new)) ⊛ raw (fact 𝓤 (Output (ends .1 .1 .1 .1 .1 .0))) ⊛ raw (fact 𝓤 (Area (ends .1 .1 .1 .1 .1 .1 .0)))))) (id⊢ 𝓤 _) $
+          use1 W (some (λ (ends : Ends). ‵ (lasts callee.ended (κm, (κo, (κr, tt))) (old, rest) ends) ⊛ (raw (fact 𝓤 (Result new)) ⊛ raw (fact 𝓤 (Output (ends .1 .1 .1 .1 .1 .0))) ⊛ raw (fact 𝓤 (Area (ends .1 .1 .1 .1 .1 .1 .0)))))) (id⊢ 𝓤 _) $
           pick ! (λ ends.
           split ! $
           move ! (1 ∷ []) $
@@ -322,28 +300,7 @@ module _ {M : Type 1} (𝓤 : URA M) (H : Heap 𝓤) (A : Atoms 𝓤) (W : Given
       (are .1 .0 .1) (are .1 .1 .0 .1) (are .1 .1 .1 .0) (are .1 .1 .1 .1 .0 .0 .1) (are .1 .1 .1 .1 .1 .0 .0 .1) (are .1 .1 .1 .1 .1 .1 .0 .0 .1)))
 
   goes : AllGo 𝓤 H A W 4 (caller.signature .params) (caller.ended .kept) stays
-  goes = (
-    goes-ref 𝓤 H A W 4 0 tt (plain (λ _. station.the-row)),
-    (
-      passed-on-goes 𝓤 H A W 4 (plain (λ _. u32)) yes,
-      (
-        passed-on-goes 𝓤 H A W 4 (plain (λ _. u32)) yes,
-        (
-          passed-on-goes 𝓤 H A W 4 (plain (λ _. own-type.the-row)) yes,
-          (
-            passed-on-goes 𝓤 H A W 4 (shrSliceOf (1 ∷ []) tt (plain (λ _. u8))) yes,
-            (
-              passed-on-goes 𝓤 H A W 4 (mutSliceOf (2 ∷ []) tt (plain (λ _. u8))) yes,
-              (
-                passed-on-goes 𝓤 H A W 4 (mutSliceOf (3 ∷ []) tt (plain (λ _. u8))) yes,
-                tt,
-              ),
-            ),
-          ),
-        ),
-      ),
-    ),
-  )
+  goes = (goes-ref 𝓤 H A W 4 0 tt (plain (λ _. station.the-row)), passed-on-go 𝓤 H A W 4 (others (caller.signature .params)) (caller.ended .kept .1))
 
   meets : (𝓣 : Tables 𝓤 H) → Triple 𝓤 (𝓣 .C #callee) Handles → Meets 𝓤 H A caller.signature (WpFn 𝓤 H (𝓣 .C) (𝓣 .Λ) code.function) (caller.spec 𝓤 H A at-mem run)
   meets 𝓣 known =
