@@ -1,5 +1,6 @@
 pub mod TestLaws
 pub mod NumberLaws
+pub mod UnpackLaws
 pub mod FieldLaws
 pub mod TurnLaws
 pub mod UpdateLaws

@@ -7,11 +7,13 @@ use mathlib.Core.List.{List, [], _∷_, _++_}
 use native.Mathlib.Omega.{arith}
 use native.Mathlib.Numerals.{add-one}
 use lib.Dec.{eqb, leb, ltb}
-use lib.ListN.{length, getD, take, drop, set, length-set, take-append-drop, drop-of-length-le}
-use lib.Seq.{drop-cons, take-suc-set, drop-set-lt, append-snoc}
-use borrow.Author.Tests.{eqb-true, ne-eqb, lt-ltb, le-ltb, le-leb, ltb-true, leb-true}
+use lib.ListN.{length, getD, take, drop, set, length-set, take-append-drop, drop-of-length-le, length-drop}
+use lib.Seq.{length-take-le, drop-drop, drop-cons, take-suc-set, drop-set-lt, append-snoc}
+use borrow.Author.Tests.{eqb-true, ne-eqb, lt-ltb, le-ltb, le-leb, ltb-true, ltb-false, leb-true}
 use Rattle.tables.specs.Patch.{goodBits, numbers, numberCount, half, gain, loss, fits, sumOf, allFit, added}
-use Rattle.tables.proofs.TestLaws.{either, both-true}
+use Rattle.laws.proofs.Chunks.{and-both}
+use Rattle.tables.proofs.TestLaws.{either, both-true, same-test}
+use Rattle.tables.proofs.PatchFacts.{SumWithin, fits-exactly, small-number, large-number, addedAt, addedAt-length, added-twice, fit-twice, allFit-append}
 
 -- what is known of a width: its whole range is twice its half, which is at most 128
 pub record Width (bits : ℕ) : Type 0 where
@@ -168,6 +170,93 @@ module _ (bits j : ℕ) (vs old es : List ℕ) (a : Adding bits vs old es j) whe
       sym (take-append-drop j es)
       ∙ ap (λ l. take j es ++ added bits l (drop j es)) (sym (drop-of-length-le vs h))
       ∙ a .left
+
+-- an entry and an 8-bit number whose sum modulo 256 is s: the number fits where s is in range and the sum did not go round
+module _ (infinity v e s : ℕ) (small : infinity < 256) (entry : e < 256) (sum : s ≡ (e + v) % 256) where
+  pub fits-adding : v < 128 → ((leb 1 s && leb s infinity) && leb e s) ≡ fits 8 infinity v e
+  fits-adding low =
+      let g = small-number 8 v low in
+      same-test ((leb 1 s && leb s infinity) && leb e s) (fits 8 infinity v e)
+      (λ h.
+        let t = both-true (leb 1 s && leb s infinity) (leb e s) h in
+        let u = both-true (leb 1 s) (leb s infinity) (t .0) in
+        fits-exactly 8 infinity v e .1 (record {
+          low = omega (arith, leb-true 1 s (u .0), leb-true e s (t .1));
+          high = omega (arith, leb-true s infinity (u .1), leb-true e s (t .1));
+        }))
+      (λ h.
+        let f = fits-exactly 8 infinity v e .0 h in
+        and-both (and-both (le-leb 1 s (omega arith)) (le-leb s infinity (omega arith))) (le-leb e s (omega arith)))
+
+  pub fits-taking : 128 ≤ v → v < 256 → ((leb 1 s && leb s infinity) && ltb s e) ≡ fits 8 infinity v e
+  fits-taking high byte =
+      let g = large-number 8 v high in
+      same-test ((leb 1 s && leb s infinity) && ltb s e) (fits 8 infinity v e)
+      (λ h.
+        let t = both-true (leb 1 s && leb s infinity) (ltb s e) h in
+        let u = both-true (leb 1 s) (leb s infinity) (t .0) in
+        fits-exactly 8 infinity v e .1 (record {
+          low = omega (arith, leb-true 1 s (u .0), ltb-true s e (t .1));
+          high = omega (arith, leb-true s infinity (u .1), ltb-true s e (t .1));
+        }))
+      (λ h.
+        let f = fits-exactly 8 infinity v e .0 h in
+        and-both (and-both (le-leb 1 s (omega arith)) (le-leb s infinity (omega arith))) (lt-ltb s e (omega arith)))
+
+-- .. and is then the entry with the number added
+pub sum-wraps : (infinity v e : ℕ) → infinity < 256 → v < 256 → fits 8 infinity v e ≡ true → (e + v) % 256 ≡ sumOf 8 v e
+sum-wraps infinity v e small byte h = by (ltb v 128) refl
+  where
+    f : SumWithin 8 infinity v e
+    f = fits-exactly 8 infinity v e .0 h
+
+    by : (t : Bool) → ltb v 128 ≡ t → (e + v) % 256 ≡ sumOf 8 v e
+    by true q = let g = small-number 8 v (ltb-true v 128 q) in omega (arith, f .low, f .high)
+    by false q = let g = large-number 8 v (ltb-false v 128 q) in omega (arith, f .low, f .high)
+
+-- the test of all numbers from place j on: the next k, then those behind them
+pub fit-cut : (bits infinity j k : ℕ) (vs es : List ℕ) → j + k ≤ length vs
+    → allFit bits infinity (drop j vs) (drop j es)
+    ≡ (allFit bits infinity (take k (drop j vs)) (drop j es) && allFit bits infinity (drop (j + k) vs) (drop (j + k) es))
+fit-cut bits infinity j k vs es h =
+    let ws = take k (drop j vs) in
+    let size : length ws ≡ k = length-take-le k (drop j vs) (simp length-drop (omega arith)) in
+    ap (λ l. allFit bits infinity l (drop j es)) (sym (take-append-drop k (drop j vs)))
+    ∙ allFit-append bits infinity ws (drop k (drop j vs)) (drop j es)
+    ∙ rw (size, drop-drop k j vs, drop-drop k j es)
+
+pub testing-on : (bits infinity j k : ℕ) (vs es : List ℕ) (good fit : Bool) → j + k ≤ length vs
+    → fit ≡ allFit bits infinity (take k (drop j vs)) (drop j es)
+    → (good && allFit bits infinity (drop j vs) (drop j es)) ≡ ((good && fit) && allFit bits infinity (drop (j + k) vs) (drop (j + k) es))
+testing-on bits infinity j k vs es good fit h e =
+    ap (λ t. good && t) (fit-cut bits infinity j k vs es h)
+    ∙ sym (and-assoc good (allFit bits infinity (take k (drop j vs)) (drop j es)) (allFit bits infinity (drop (j + k) vs) (drop (j + k) es)))
+    ∙ rw e refl
+
+-- k numbers from place j on added at once
+pub adding-on : (bits j k : ℕ) (vs old es : List ℕ) → Adding bits vs old es j → j + k ≤ length vs
+    → Adding bits vs old (addedAt bits j (take k (drop j vs)) es) (j + k)
+adding-on bits j k vs old es a h =
+    let ws = take k (drop j vs) in
+    let size : length ws ≡ k = length-take-le k (drop j vs) (simp length-drop (omega arith)) in
+    let within : j + length ws ≤ length es = rw size (omega (arith, a .long)) in
+    let rest : ws ++ drop (j + k) vs ≡ drop j vs = rw (← drop-drop k j vs) (take-append-drop k (drop j vs)) in
+    let long : length (addedAt bits j ws es) ≡ length es = addedAt-length bits j ws es within in
+    record {
+      within = h;
+      long = rw long (a .long);
+      same = long ∙ a .same;
+      fit =
+          rw size at
+          (both-true
+          (allFit bits 255 ws (drop j es))
+          (allFit bits 255 (drop (j + k) vs) (drop (j + length ws) (addedAt bits j ws es)))
+          (fit-twice bits j ws es within 255 (drop (j + k) vs) ∙ ap (λ l. allFit bits 255 l (drop j es)) rest ∙ a .fit)
+          .1);
+      left =
+          rw size at
+          (added-twice bits j ws es within (drop (j + k) vs) ∙ ap (λ l. take j es ++ added bits l (drop j es)) rest ∙ a .left);
+    }
 
 -- a test of all numbers with those before place j tested, once the one at j is tested too
 pub testing-more : (bits infinity j : ℕ) (vs es : List ℕ) (good fit : Bool) → j < length vs → j < length es
