@@ -1,4 +1,5 @@
 pub mod TestLaws
+pub mod PatchFacts
 pub mod NumberLaws
 pub mod UnpackLaws
 pub mod FieldLaws
@@ -10,4 +11,3 @@ pub mod OrderLaws
 pub mod KeepLaws
 pub mod BoundLaws
 pub mod Vectors
-pub mod PatchFacts

@@ -1,5 +1,5 @@
 -- Laws of the numbers of a PATCH, over the bits of a number.
-use Prim.Native.Nat.{ℕ, zero, suc, _+_, _-_, _*_, _/_, _%_, _^_, _≤_, _<_}
+use Prim.Native.Nat.{ℕ, suc, _+_, _*_, _/_, _%_, _≤_, _<_}
 use mathlib.Core.Path.{_≡_, refl, sym, ap, _∙_}
 use mathlib.Core.Logic.{⊎-elim}
 use mathlib.Core.Bool.{Bool, true, false, cond, _&&_, false≢true, and-assoc, and-true}
@@ -9,73 +9,16 @@ use native.Mathlib.Numerals.{add-one}
 use lib.Dec.{eqb, leb, ltb}
 use lib.ListN.{length, getD, take, drop, set, length-set, take-append-drop, drop-of-length-le, length-drop}
 use lib.Seq.{length-take-le, drop-drop, drop-cons, take-suc-set, drop-set-lt, append-snoc}
-use borrow.Author.Tests.{eqb-true, ne-eqb, lt-ltb, le-ltb, le-leb, ltb-true, ltb-false, leb-true}
-use Rattle.tables.specs.Patch.{goodBits, numbers, numberCount, half, gain, loss, fits, sumOf, allFit, added}
+use borrow.Author.Tests.{eqb-true, ne-eqb, lt-ltb, le-leb, ltb-true, ltb-false, leb-true}
+use Rattle.tables.specs.Patch.{goodBits, numbers, numberCount, gain, loss, fits, sumOf, allFit, added}
 use Rattle.laws.proofs.Chunks.{and-both}
 use Rattle.tables.proofs.TestLaws.{either, both-true, same-test}
 use Rattle.tables.proofs.PatchFacts.{SumWithin, fits-exactly, small-number, large-number, addedAt, addedAt-length, added-twice, fit-twice, allFit-append}
-
--- what is known of a width: its whole range is twice its half, which is at most 128
-pub record Width (bits : ℕ) : Type 0 where
-  pub whole : 2 ^ bits ≡ half bits + half bits
-  pub small : half bits ≤ 128
-
--- what holds at 4 and at 8 bits holds at every width
-pub at-widths : (P : ℕ → Type 0) → P 4 → P 8 → (bits : ℕ) → goodBits bits ≡ true → P bits
-at-widths P four eight bits g =
-    ⊎-elim
-    (λ e. rw (eqb-true bits 4 e) four)
-    (λ e. rw (eqb-true bits 8 e) eight)
-    (either (eqb bits 4) (eqb bits 8) g)
-
-pub width : (bits : ℕ) → goodBits bits ≡ true → Width bits
-width = at-widths Width (record { whole = refl; small = omega arith }) (record { whole = refl; small = omega arith })
-
-pub gain-low : (bits v : ℕ) → v < half bits → gain bits v ≡ v
-gain-low bits v h = rw (lt-ltb v (half bits) h)
-
-pub loss-low : (bits v : ℕ) → v < half bits → loss bits v ≡ 0
-loss-low bits v h = rw (lt-ltb v (half bits) h)
-
-pub gain-high : (bits v : ℕ) → half bits ≤ v → gain bits v ≡ 0
-gain-high bits v h = rw (le-ltb v (half bits) h)
-
-pub loss-high : (bits v : ℕ) → half bits ≤ v → loss bits v ≡ 2 ^ bits - v
-loss-high bits v h = rw (le-ltb v (half bits) h)
-
--- what a number that fits says of the sum
-pub record Fitting (bits infinity v e : ℕ) : Type 0 where
-  pub low : loss bits v < e + gain bits v
-  pub high : e + gain bits v ≤ infinity + loss bits v
-
-pub fitting : (bits infinity v e : ℕ) → fits bits infinity v e ≡ true → Fitting bits infinity v e
-fitting bits infinity v e h =
-    let t = both-true (ltb (loss bits v) (e + gain bits v)) (leb (e + gain bits v) (infinity + loss bits v)) h in
-    record {
-      low = ltb-true (loss bits v) (e + gain bits v) (t .0);
-      high = leb-true (e + gain bits v) (infinity + loss bits v) (t .1);
-    }
 
 -- a width that is not 4 is 8
 pub eight : (bits : ℕ) → goodBits bits ≡ true → (bits ≡ 4 → ⊥) → bits ≡ 8
 eight bits g n =
     ⊎-elim (λ e. absurd (n (eqb-true bits 4 e))) (λ e. eqb-true bits 8 e) (either (eqb bits 4) (eqb bits 8) g)
-
-pub half-eight : (bits : ℕ) → goodBits bits ≡ true → (bits ≡ 4 → ⊥) → half bits ≡ 128
-half-eight bits g n = ap half (eight bits g n)
-
--- the numbers at places 2k and 2k + 1 of 4-bit data are the halves of byte k
-pub high-at : (bytes : List ℕ) (k : ℕ) → getD (numbers 4 bytes) (k * 2) 0 ≡ getD bytes k 0 / 16
-unfolding numbers
-high-at [] k = refl
-high-at (b ∷ bs) zero = refl
-high-at (b ∷ bs) (suc k) = let e : suc k * 2 ≡ suc (suc (k * 2)) = omega arith in rw e (high-at bs k)
-
-pub low-at : (bytes : List ℕ) (k : ℕ) → getD (numbers 4 bytes) (suc (k * 2)) 0 ≡ getD bytes k 0 % 16
-unfolding numbers
-low-at [] k = refl
-low-at (b ∷ bs) zero = refl
-low-at (b ∷ bs) (suc k) = let e : suc k * 2 ≡ suc (suc (k * 2)) = omega arith in rw e (low-at bs k)
 
 -- data that is not of 4 bits is its own numbers
 pub numbers-whole : (bits : ℕ) (bytes : List ℕ) → (bits ≡ 4 → ⊥) → numbers bits bytes ≡ bytes
@@ -178,30 +121,30 @@ module _ (infinity v e s : ℕ) (small : infinity < 256) (entry : e < 256) (sum 
       let g = small-number 8 v low in
       same-test ((leb 1 s && leb s infinity) && leb e s) (fits 8 infinity v e)
       (λ h.
-        let t = both-true (leb 1 s && leb s infinity) (leb e s) h in
-        let u = both-true (leb 1 s) (leb s infinity) (t .0) in
-        fits-exactly 8 infinity v e .1 (record {
-          low = omega (arith, leb-true 1 s (u .0), leb-true e s (t .1));
-          high = omega (arith, leb-true s infinity (u .1), leb-true e s (t .1));
-        }))
+      let t = both-true (leb 1 s && leb s infinity) (leb e s) h in
+      let u = both-true (leb 1 s) (leb s infinity) (t .0) in
+      fits-exactly 8 infinity v e .1 (record {
+        low = omega (arith, leb-true 1 s (u .0), leb-true e s (t .1));
+        high = omega (arith, leb-true s infinity (u .1), leb-true e s (t .1));
+      }))
       (λ h.
-        let f = fits-exactly 8 infinity v e .0 h in
-        and-both (and-both (le-leb 1 s (omega arith)) (le-leb s infinity (omega arith))) (le-leb e s (omega arith)))
+      let f = fits-exactly 8 infinity v e .0 h in
+      and-both (and-both (le-leb 1 s (omega arith)) (le-leb s infinity (omega arith))) (le-leb e s (omega arith)))
 
   pub fits-taking : 128 ≤ v → v < 256 → ((leb 1 s && leb s infinity) && ltb s e) ≡ fits 8 infinity v e
   fits-taking high byte =
       let g = large-number 8 v high in
       same-test ((leb 1 s && leb s infinity) && ltb s e) (fits 8 infinity v e)
       (λ h.
-        let t = both-true (leb 1 s && leb s infinity) (ltb s e) h in
-        let u = both-true (leb 1 s) (leb s infinity) (t .0) in
-        fits-exactly 8 infinity v e .1 (record {
-          low = omega (arith, leb-true 1 s (u .0), ltb-true s e (t .1));
-          high = omega (arith, leb-true s infinity (u .1), ltb-true s e (t .1));
-        }))
+      let t = both-true (leb 1 s && leb s infinity) (ltb s e) h in
+      let u = both-true (leb 1 s) (leb s infinity) (t .0) in
+      fits-exactly 8 infinity v e .1 (record {
+        low = omega (arith, leb-true 1 s (u .0), ltb-true s e (t .1));
+        high = omega (arith, leb-true s infinity (u .1), ltb-true s e (t .1));
+      }))
       (λ h.
-        let f = fits-exactly 8 infinity v e .0 h in
-        and-both (and-both (le-leb 1 s (omega arith)) (le-leb s infinity (omega arith))) (lt-ltb s e (omega arith)))
+      let f = fits-exactly 8 infinity v e .0 h in
+      and-both (and-both (le-leb 1 s (omega arith)) (le-leb s infinity (omega arith))) (lt-ltb s e (omega arith)))
 
 -- .. and is then the entry with the number added
 pub sum-wraps : (infinity v e : ℕ) → infinity < 256 → v < 256 → fits 8 infinity v e ≡ true → (e + v) % 256 ≡ sumOf 8 v e
@@ -271,19 +214,6 @@ pub testing-end : (bits infinity j : ℕ) (vs es : List ℕ) (good : Bool) → l
 unfolding allFit
 testing-end bits infinity j vs es good h = rw (drop-of-length-le vs h) (and-true good)
 
-pub added-length : (bits : ℕ) (vs es : List ℕ) → length (added bits vs es) ≡ length es
-unfolding added
-added-length bits [] es = refl
-added-length bits (v ∷ vs) [] = refl
-added-length bits (v ∷ vs) (e ∷ es) = ap suc (added-length bits vs es)
-
--- entries past the numbers stay
-pub added-behind : (bits : ℕ) (vs es : List ℕ) → drop (length vs) (added bits vs es) ≡ drop (length vs) es
-unfolding added
-added-behind bits [] es = refl
-added-behind bits (v ∷ vs) [] = refl
-added-behind bits (v ∷ vs) (e ∷ es) = added-behind bits vs es
-
 -- numbers that fit below an Infinity fit below a larger one
 pub fit-wider : (bits low high : ℕ) (vs es : List ℕ) → low ≤ high → allFit bits low vs es ≡ true → allFit bits high vs es ≡ true
 unfolding allFit
@@ -291,7 +221,7 @@ fit-wider bits low high [] es h a = refl
 fit-wider bits low high (v ∷ vs) [] h a = a
 fit-wider bits low high (v ∷ vs) (e ∷ es) h a =
     let t = both-true (fits bits low v e) (allFit bits low vs es) a in
-    let f = fitting bits low v e (t .0) in
+    let f = fits-exactly bits low v e .0 (t .0) in
     rw (
       lt-ltb (loss bits v) (e + gain bits v) (f .low),
       le-leb (e + gain bits v) (high + loss bits v) (omega arith),

@@ -8,7 +8,7 @@ use native.Mathlib.Numerals.{add-one}
 use lib.Dec.{ltb}
 use lib.ListN.{length, getD, take, drop, set, length-set, length-drop, drop-of-length-le}
 use lib.Seq.{take-nil, drop-nil, take-length, take-suc, take-suc-set}
-use borrow.Author.Tests.{lt-ltb, le-ltb, ltb-true, ltb-false}
+use borrow.Author.Tests.{lt-ltb, le-ltb, ltb-true}
 use Rattle.tables.specs.Patch.{numbers, gain, loss, fits, sumOf, allFit, added}
 use Rattle.tables.specs.Unpacking.{widened, unpacked}
 use borrow.Rule.Slice.PartMut.{putMid}

@@ -98,6 +98,7 @@ fn unpack(bytes: &[u8], numbers: &mut [u8])
     }
 }
 
+// Each number of a block of 4-bit data, added to the entry at its place, gives one in 1..infinity.
 fn block_fits(bytes: &[u8], entries: &[u8], infinity: u8) -> bool
     requires { ⌜ length (now bytes) ≤ 128 ⌝ }
     requires { ⌜ length (now bytes) * 2 ≤ length (now entries) ⌝ }
@@ -109,6 +110,7 @@ fn block_fits(bytes: &[u8], entries: &[u8], infinity: u8) -> bool
     bytes_fit(&numbers[..n], entries, infinity)
 }
 
+// Adds each number of a block of 4-bit data to the entry at its place.
 fn add_block(bytes: &[u8], entries: &mut [u8])
     requires { ⌜ length (now bytes) ≤ 128 ⌝ }
     requires { ⌜ allFit 4 255 (numbers 4 (now bytes)) (now entries) ≡ true ⌝ }
@@ -131,6 +133,7 @@ fn block_end(at: usize, n: usize) -> usize
     at + BLOCK
 }
 
+// Each number of 4-bit data fits, block after block.
 fn nibbles_fit(bytes: &[u8], entries: &[u8], infinity: u8) -> bool
     requires { ⌜ length (now bytes) * 2 ≤ length (now entries) ⌝ }
     ensures { λ r. ⌜ r ≡ allFit 4 infinity (numbers 4 (now (bytes .entry))) (now (entries .entry)) ⌝ }
@@ -147,6 +150,7 @@ fn nibbles_fit(bytes: &[u8], entries: &[u8], infinity: u8) -> bool
     good
 }
 
+// Adds each number of 4-bit data, block after block.
 fn add_nibbles(bytes: &[u8], entries: &mut [u8])
     requires { ⌜ allFit 4 255 (numbers 4 (now bytes)) (now entries) ≡ true ⌝ }
     ensures { λ _. ⌜ now (entries .exit) ≡ added 4 (numbers 4 (now (bytes .entry))) (now (entries .entry)) ⌝ }

@@ -6,32 +6,22 @@ use Rattle.tables.proofs.UnpackLaws.{fit-widened, added-widened}
 use borrow.Author.Needs.{needs}
 use Rattle.tables.proofs.numbers.add_block.Statement.{statement}
 use Rattle.tables.proofs.numbers.add_block.Tie as tie
-use Rattle.tables.proofs.numbers.add_block.Reads as reads
-use Rattle.tables.proofs.numbers.add_block.Lts as lts
-use Rattle.tables.proofs.numbers.add_bytes.Reads as add-bytes-reads
-use Rattle.tables.proofs.numbers.unpack.Reads as unpack-reads
 
--- src/numbers.rt:118:13
 mul-n : tie.Need-mul-n
 mul-n c = search needs
 
--- src/numbers.rt:119:19
 slice-aggregate-unpack : tie.Need-slice-aggregate-unpack
 slice-aggregate-unpack c = search needs
 
--- src/numbers.rt:119:5
 unpack-requires : tie.Need-unpack-requires
 unpack-requires c κs = omega arith
 
--- src/numbers.rt:120:15
 array-share-prefix-numbers : tie.Need-array-share-prefix-numbers
 array-share-prefix-numbers c = omega (arith, c .before .unpack .kept .1 .0)
 
--- src/numbers.rt:120:15
 slice-aggregate-add-bytes : tie.Need-slice-aggregate-add-bytes
 slice-aggregate-add-bytes c = sym (length-take-le _ _ (omega (arith, c .before .before .unpack .kept .1 .0)))
 
--- src/numbers.rt:120:5
 add-bytes-requires : tie.Need-add-bytes-requires
 add-bytes-requires c κs =
     let x = c .before .before .before .before .before .before .before .args in
@@ -39,11 +29,9 @@ add-bytes-requires c κs =
     ∙ fit-widened 255 (numbers 4 (x .bytes .now)) (x .entries .now)
     ∙ c .before .before .before .before .before .before .before .pre .1
 
--- src/numbers.rt:112:1
 same-length : tie.Need-same-length
 same-length c = search needs
 
--- src/numbers.rt:112:1
 returns : tie.Need-returns
 returns c =
     let x = c .before .before .before .before .before .before .before .before .before .before .args in

@@ -6,9 +6,6 @@ use Rattle.tables.proofs.NumberLaws.{Adding, adding-first, adding-fits,
 use borrow.Author.Needs.{needs}
 use Rattle.tables.proofs.numbers.add_bytes.Statement.{statement}
 use Rattle.tables.proofs.numbers.add_bytes.Tie as tie
-use Rattle.tables.proofs.numbers.add_bytes.Reads as reads
-use Rattle.tables.proofs.numbers.add_bytes.Lts as lts
-use Rattle.tables.proofs.numbers.sum_of.Reads as sum-of-reads
 
 abbrev Inv-loop : tie.InvT-loop
 Inv-loop numbers entries₀ j₀ entries j =
@@ -17,35 +14,27 @@ Inv-loop numbers entries₀ j₀ entries j =
 abbrev μ-loop : tie.MeasureT-loop
 μ-loop numbers entries₀ j₀ entries j = length numbers - j
 
--- src/numbers.rt:70:5
 loop-holds : tie.Need-loop-holds Inv-loop μ-loop
 loop-holds c = adding-first _ _ _ (c .before .before .pre)
 
--- src/numbers.rt:71:29
 shared-slice-read-sum-of : tie.Need-shared-slice-read-sum-of Inv-loop μ-loop
 shared-slice-read-sum-of c = search needs
 
--- src/numbers.rt:71:41
 slice-read-sum-of : tie.Need-slice-read-sum-of Inv-loop μ-loop
 slice-read-sum-of c = search needs
 
--- src/numbers.rt:71:22
 sum-of-requires : tie.Need-sum-of-requires Inv-loop μ-loop
 sum-of-requires c κs = search needs
 
--- src/numbers.rt:71:9
 slice-write-entries : tie.Need-slice-write-entries Inv-loop μ-loop
 slice-write-entries c = search needs
 
--- src/numbers.rt:72:9
 add-j : tie.Need-add-j Inv-loop μ-loop
 add-j c = search needs
 
--- src/numbers.rt:70:5
 loop-less : tie.Need-loop-less Inv-loop μ-loop
 loop-less c = search needs
 
--- src/numbers.rt:70:5
 loop-again : tie.Need-loop-again Inv-loop μ-loop
 loop-again c =
     let x = c .before .before .before .before .before .before .before .args in
@@ -55,11 +44,9 @@ loop-again c =
     adding-more 8 (l .j) ns (x .entries .now) (l .entries) (l .inv) (c .sum-of .result) (omega arith)
     (c .sum-of .ensures ∙ sum-wraps 255 (getD ns (l .j) 0) (getD (l .entries) (l .j) 0) (omega arith) (omega (arith, c .before .before .shared-slice-known2 .given (l .j))) fits)
 
--- src/numbers.rt:65:1
 same-length : tie.Need-same-length Inv-loop μ-loop
 same-length c = c .before .loop .inv .same
 
--- src/numbers.rt:65:1
 returns : tie.Need-returns Inv-loop μ-loop
 returns c =
     let x = c .before .before .before .before .args in

@@ -7,10 +7,6 @@ use Rattle.tables.proofs.UnpackLaws.{block-fits, block-added}
 use borrow.Author.Needs.{needs}
 use Rattle.tables.proofs.numbers.add_nibbles.Statement.{statement}
 use Rattle.tables.proofs.numbers.add_nibbles.Tie as tie
-use Rattle.tables.proofs.numbers.add_nibbles.Reads as reads
-use Rattle.tables.proofs.numbers.add_nibbles.Lts as lts
-use Rattle.tables.proofs.numbers.add_block.Reads as add-block-reads
-use Rattle.tables.proofs.numbers.block_end.Reads as block-end-reads
 
 abbrev Inv-loop : tie.InvT-loop
 Inv-loop bytes entries₀ at₀ entries at = Adding 4 (numbers 4 bytes) entries₀ entries (at * 2)
@@ -18,43 +14,33 @@ Inv-loop bytes entries₀ at₀ entries at = Adding 4 (numbers 4 bytes) entries�
 abbrev μ-loop : tie.MeasureT-loop
 μ-loop bytes entries₀ at₀ entries at = length bytes - at
 
--- src/numbers.rt:155:5
 loop-holds : tie.Need-loop-holds Inv-loop μ-loop
 loop-holds c = adding-first _ _ _ (c .before .before .pre)
 
--- src/numbers.rt:156:13
 block-end-requires : tie.Need-block-end-requires Inv-loop μ-loop
 block-end-requires c κs = search needs
 
--- src/numbers.rt:157:21
 mul-first : tie.Need-mul-first Inv-loop μ-loop
 mul-first c = search needs
 
--- src/numbers.rt:158:19
 sub-add-block : tie.Need-sub-add-block Inv-loop μ-loop
 sub-add-block c = search needs
 
--- src/numbers.rt:158:19
 part-add-block-start : tie.Need-part-add-block-start Inv-loop μ-loop
 part-add-block-start c = search needs
 
--- src/numbers.rt:158:19
 part-add-block-end : tie.Need-part-add-block-end Inv-loop μ-loop
 part-add-block-end c = search needs
 
--- src/numbers.rt:158:36
 sub-add-block-2 : tie.Need-sub-add-block-2 Inv-loop μ-loop
 sub-add-block-2 c = search needs
 
--- src/numbers.rt:158:36
 part-add-block-start-2 : tie.Need-part-add-block-start-2 Inv-loop μ-loop
 part-add-block-start-2 c = search needs
 
--- src/numbers.rt:158:36
 part-add-block-end-2 : tie.Need-part-add-block-end-2 Inv-loop μ-loop
 part-add-block-end-2 c = search needs
 
--- src/numbers.rt:158:9
 add-block-requires : tie.Need-add-block-requires Inv-loop μ-loop
 add-block-requires c κs =
     let x = c .before .before .before .before .before .before .before .args in
@@ -63,22 +49,18 @@ add-block-requires c κs =
       block-fits (l .at) (c .before .before .block-end .result) (x .bytes .now) (l .entries) (omega arith) (omega arith) (x .entries .now) (l .inv),
     )
 
--- src/numbers.rt:155:5
 loop-less : tie.Need-loop-less Inv-loop μ-loop
 loop-less c = search needs
 
--- src/numbers.rt:155:5
 loop-again : tie.Need-loop-again Inv-loop μ-loop
 loop-again c =
     let x = c .before .before .before .before .before .before .before .before .before .before .args in
     let l = c .before .before .before .before .before .before .before .loop in
     block-added (l .at) (c .before .before .before .before .before .block-end .result) (x .bytes .now) (l .entries) (omega arith) (omega arith) (x .entries .now) (l .inv) (c .before .before .add-block .last .1 .0) (c .before .before .add-block .ensures)
 
--- src/numbers.rt:150:1
 same-length : tie.Need-same-length Inv-loop μ-loop
 same-length c = c .before .loop .inv .same
 
--- src/numbers.rt:150:1
 returns : tie.Need-returns Inv-loop μ-loop
 returns c =
     let x = c .before .before .before .before .args in

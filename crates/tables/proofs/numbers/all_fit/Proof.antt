@@ -5,27 +5,19 @@ use borrow.Author.Tests.{eq-eqb, ne-eqb}
 use Rattle.tables.proofs.NumberLaws.{eight, numbers-whole}
 use Rattle.tables.proofs.numbers.all_fit.Statement.{statement}
 use Rattle.tables.proofs.numbers.all_fit.Tie as tie
-use Rattle.tables.proofs.numbers.all_fit.Reads as reads
-use Rattle.tables.proofs.numbers.all_fit.Lts as lts
-use Rattle.tables.proofs.numbers.bytes_fit.Reads as bytes-fit-reads
-use Rattle.tables.proofs.numbers.nibbles_fit.Reads as nibbles-fit-reads
 
--- src/numbers.rt:170:9
 nibbles-fit-requires : tie.Need-nibbles-fit-requires
 nibbles-fit-requires c κs = rw (eq-eqb _ _ (c .if1 .taken)) at (c .before .before .before .pre .1)
 
--- src/numbers.rt:170:9
 returns : tie.Need-returns
 returns c = rw (c .before .if1 .taken) (c .nibbles-fit .ensures)
 
--- src/numbers.rt:172:5
 bytes-fit-requires : tie.Need-bytes-fit-requires
 bytes-fit-requires c κs =
     let x = c .before .before .before .args in
     let h : length (x .bytes .now) * 1 ≤ length (x .entries .now) = rw (ne-eqb _ _ (c .if1 .left)) at (c .before .before .before .pre .1) in
     omega arith
 
--- src/numbers.rt:164:1
 returns-2 : tie.Need-returns-2
 returns-2 c =
     let x = c .before .before .before .before .args in

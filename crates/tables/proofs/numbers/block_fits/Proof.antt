@@ -7,36 +7,25 @@ use Rattle.tables.proofs.UnpackLaws.{fit-widened}
 use borrow.Author.Needs.{needs}
 use Rattle.tables.proofs.numbers.block_fits.Statement.{statement}
 use Rattle.tables.proofs.numbers.block_fits.Tie as tie
-use Rattle.tables.proofs.numbers.block_fits.Reads as reads
-use Rattle.tables.proofs.numbers.block_fits.Lts as lts
-use Rattle.tables.proofs.numbers.bytes_fit.Reads as bytes-fit-reads
-use Rattle.tables.proofs.numbers.unpack.Reads as unpack-reads
 
--- src/numbers.rt:107:13
 mul-n : tie.Need-mul-n
 mul-n c = search needs
 
--- src/numbers.rt:108:19
 slice-aggregate-unpack : tie.Need-slice-aggregate-unpack
 slice-aggregate-unpack c = search needs
 
--- src/numbers.rt:108:5
 unpack-requires : tie.Need-unpack-requires
 unpack-requires c κs = omega arith
 
--- src/numbers.rt:109:15
 array-share-prefix-numbers : tie.Need-array-share-prefix-numbers
 array-share-prefix-numbers c = omega (arith, c .before .unpack .kept .1 .0)
 
--- src/numbers.rt:109:15
 slice-aggregate-bytes-fit : tie.Need-slice-aggregate-bytes-fit
 slice-aggregate-bytes-fit c = sym (length-take-le _ _ (omega (arith, c .before .before .unpack .kept .1 .0)))
 
--- src/numbers.rt:109:5
 bytes-fit-requires : tie.Need-bytes-fit-requires
 bytes-fit-requires c κs = simp length-take (omega arith)
 
--- src/numbers.rt:101:1
 returns : tie.Need-returns
 returns c =
     let x = c .before .before .before .before .before .before .before .args in

@@ -8,9 +8,6 @@ use Rattle.tables.proofs.NumberLaws.{testing-more, testing-end}
 use borrow.Author.Needs.{needs}
 use Rattle.tables.proofs.numbers.bytes_fit.Statement.{statement}
 use Rattle.tables.proofs.numbers.bytes_fit.Tie as tie
-use Rattle.tables.proofs.numbers.bytes_fit.Reads as reads
-use Rattle.tables.proofs.numbers.bytes_fit.Lts as lts
-use Rattle.tables.proofs.numbers.number_fits.Reads as number-fits-reads
 
 abbrev Inv-loop : tie.InvT-loop
 Inv-loop numbers entries infinity good₀ j₀ good j =
@@ -19,41 +16,33 @@ Inv-loop numbers entries infinity good₀ j₀ good j =
 abbrev μ-loop : tie.MeasureT-loop
 μ-loop numbers entries infinity good₀ j₀ good j = length numbers - j
 
--- src/numbers.rt:56:5
 loop-holds : tie.Need-loop-holds Inv-loop μ-loop
 loop-holds c = (omega arith, refl)
 
--- src/numbers.rt:57:41
 shared-slice-read-number-fits : tie.Need-shared-slice-read-number-fits Inv-loop μ-loop
 shared-slice-read-number-fits c = search needs
 
--- src/numbers.rt:57:53
 shared-slice-read-number-fits-2 : tie.Need-shared-slice-read-number-fits-2 Inv-loop μ-loop
 shared-slice-read-number-fits-2 c = search needs
 
--- src/numbers.rt:57:13
 number-fits-requires : tie.Need-number-fits-requires Inv-loop μ-loop
 number-fits-requires c κs = search needs
 
--- src/numbers.rt:59:9
 add-j : tie.Need-add-j Inv-loop μ-loop
 add-j c = search needs
 
--- src/numbers.rt:56:5
 loop-less : tie.Need-loop-less Inv-loop μ-loop
 loop-less c = search needs
 
--- src/numbers.rt:56:5
 loop-again : tie.Need-loop-again Inv-loop μ-loop
 loop-again c =
     let x = c .before .before .before .before .before .before .before .args in
     let l = c .before .before .before .before .loop in (
       omega arith,
       l .inv .1
-      ∙ testing-more 8 (x .infinity) (l .j) (x .numbers .now) (x .entries .now) (l .good) (c .number-fits .result) (omega arith) (omega arith) (c .number-fits .ensures),
+          ∙ testing-more 8 (x .infinity) (l .j) (x .numbers .now) (x .entries .now) (l .good) (c .number-fits .result) (omega arith) (omega arith) (c .number-fits .ensures),
     )
 
--- src/numbers.rt:50:1
 returns : tie.Need-returns Inv-loop μ-loop
 returns c =
     let x = c .before .before .before .before .args in

@@ -9,10 +9,6 @@ use Rattle.tables.proofs.UnpackLaws.{block-tested}
 use borrow.Author.Needs.{needs}
 use Rattle.tables.proofs.numbers.nibbles_fit.Statement.{statement}
 use Rattle.tables.proofs.numbers.nibbles_fit.Tie as tie
-use Rattle.tables.proofs.numbers.nibbles_fit.Reads as reads
-use Rattle.tables.proofs.numbers.nibbles_fit.Lts as lts
-use Rattle.tables.proofs.numbers.block_end.Reads as block-end-reads
-use Rattle.tables.proofs.numbers.block_fits.Reads as block-fits-reads
 
 abbrev Inv-loop : tie.InvT-loop
 Inv-loop bytes entries infinity good₀ at₀ good at =
@@ -22,61 +18,48 @@ Inv-loop bytes entries infinity good₀ at₀ good at =
 abbrev μ-loop : tie.MeasureT-loop
 μ-loop bytes entries infinity good₀ at₀ good at = length bytes - at
 
--- src/numbers.rt:140:5
 loop-holds : tie.Need-loop-holds Inv-loop μ-loop
 loop-holds c = (omega arith, refl)
 
--- src/numbers.rt:141:13
 block-end-requires : tie.Need-block-end-requires Inv-loop μ-loop
 block-end-requires c κs = search needs
 
--- src/numbers.rt:142:21
 mul-first : tie.Need-mul-first Inv-loop μ-loop
 mul-first c = search needs
 
--- src/numbers.rt:143:30
 sub-block-fits : tie.Need-sub-block-fits Inv-loop μ-loop
 sub-block-fits c = search needs
 
--- src/numbers.rt:143:30
 part-block-fits-start : tie.Need-part-block-fits-start Inv-loop μ-loop
 part-block-fits-start c = search needs
 
--- src/numbers.rt:143:30
 part-block-fits-end : tie.Need-part-block-fits-end Inv-loop μ-loop
 part-block-fits-end c = search needs
 
--- src/numbers.rt:143:47
 sub-block-fits-2 : tie.Need-sub-block-fits-2 Inv-loop μ-loop
 sub-block-fits-2 c = search needs
 
--- src/numbers.rt:143:47
 part-block-fits-start-2 : tie.Need-part-block-fits-start-2 Inv-loop μ-loop
 part-block-fits-start-2 c = search needs
 
--- src/numbers.rt:143:47
 part-block-fits-end-2 : tie.Need-part-block-fits-end-2 Inv-loop μ-loop
 part-block-fits-end-2 c = search needs
 
--- src/numbers.rt:143:13
 block-fits-requires : tie.Need-block-fits-requires Inv-loop μ-loop
 block-fits-requires c κs = (simp (length-take, length-drop) (omega arith), simp (length-take, length-drop) (omega arith))
 
--- src/numbers.rt:140:5
 loop-less : tie.Need-loop-less Inv-loop μ-loop
 loop-less c = search needs
 
--- src/numbers.rt:140:5
 loop-again : tie.Need-loop-again Inv-loop μ-loop
 loop-again c =
     let x = c .before .before .before .before .before .before .before .before .args in
     let l = c .before .before .before .before .before .loop in (
       omega arith,
       l .inv .1
-      ∙ block-tested (l .at) (c .before .before .before .block-end .result) (x .bytes .now) (x .entries .now) (omega arith) (omega arith) (x .infinity) (l .good) (c .block-fits .result) (c .block-fits .ensures),
+          ∙ block-tested (l .at) (c .before .before .before .block-end .result) (x .bytes .now) (x .entries .now) (omega arith) (omega arith) (x .infinity) (l .good) (c .block-fits .result) (c .block-fits .ensures),
     )
 
--- src/numbers.rt:134:1
 returns : tie.Need-returns Inv-loop μ-loop
 returns c =
     let x = c .before .before .before .before .args in

@@ -5,9 +5,6 @@ use Rattle.tables.proofs.UnpackLaws.{Unpacking, unpacking-first, unpack
 use borrow.Author.Needs.{needs}
 use Rattle.tables.proofs.numbers.unpack.Statement.{statement}
 use Rattle.tables.proofs.numbers.unpack.Tie as tie
-use Rattle.tables.proofs.numbers.unpack.Reads as reads
-use Rattle.tables.proofs.numbers.unpack.Lts as lts
-use Rattle.tables.proofs.numbers.as_byte.Reads as as-byte-reads
 
 abbrev Inv-loop : tie.InvT-loop
 Inv-loop bytes numbers₀ i₀ numbers i = Unpacking bytes numbers₀ numbers i
@@ -15,51 +12,39 @@ Inv-loop bytes numbers₀ i₀ numbers i = Unpacking bytes numbers₀ numbers i
 abbrev μ-loop : tie.MeasureT-loop
 μ-loop bytes numbers₀ i₀ numbers i = length bytes - i
 
--- src/numbers.rt:93:5
 loop-holds : tie.Need-loop-holds Inv-loop μ-loop
 loop-holds c = unpacking-first _ _
 
--- src/numbers.rt:94:17
 shared-slice-read-b : tie.Need-shared-slice-read-b Inv-loop μ-loop
 shared-slice-read-b c = search needs
 
--- src/numbers.rt:95:26
 as-byte-requires : tie.Need-as-byte-requires Inv-loop μ-loop
 as-byte-requires c κs = omega (arith, c .shared-slice-known2 .given (c .before .before .loop .i))
 
--- src/numbers.rt:95:17
 mul-numbers : tie.Need-mul-numbers Inv-loop μ-loop
 mul-numbers c = search needs
 
--- src/numbers.rt:95:9
 slice-write-numbers : tie.Need-slice-write-numbers Inv-loop μ-loop
 slice-write-numbers c = search needs
 
--- src/numbers.rt:96:30
 as-byte-requires-2 : tie.Need-as-byte-requires-2 Inv-loop μ-loop
 as-byte-requires-2 c κs = search needs
 
--- src/numbers.rt:96:17
 mul-numbers-2 : tie.Need-mul-numbers-2 Inv-loop μ-loop
 mul-numbers-2 c = search needs
 
--- src/numbers.rt:96:17
 add-numbers : tie.Need-add-numbers Inv-loop μ-loop
 add-numbers c = search needs
 
--- src/numbers.rt:96:9
 slice-write-numbers-2 : tie.Need-slice-write-numbers-2 Inv-loop μ-loop
 slice-write-numbers-2 c = simp length-set (omega arith)
 
--- src/numbers.rt:97:9
 add-i : tie.Need-add-i Inv-loop μ-loop
 add-i c = search needs
 
--- src/numbers.rt:93:5
 loop-less : tie.Need-loop-less Inv-loop μ-loop
 loop-less c = search needs
 
--- src/numbers.rt:93:5
 loop-again : tie.Need-loop-again Inv-loop μ-loop
 loop-again c =
     let x = c .before .before .before .before .before .before .before .args in
@@ -67,11 +52,9 @@ loop-again c =
     unpacking-more (x .bytes .now) (x .numbers .now) (l .numbers) (l .i) (l .inv) (c .before .as-byte .result) (c .as-byte2 .result)
     (omega arith) (omega arith) (c .before .as-byte .ensures) (c .as-byte2 .ensures)
 
--- src/numbers.rt:88:1
 same-length : tie.Need-same-length Inv-loop μ-loop
 same-length c = c .before .loop .inv .same
 
--- src/numbers.rt:88:1
 returns : tie.Need-returns Inv-loop μ-loop
 returns c =
     let x = c .before .before .before .before .args in
