@@ -32,7 +32,17 @@ offset-requires-2 : tie.Need-offset-requires-2
 offset-requires-2 c κs = search needs
 
 returns-5 : tie.Need-returns-5
-returns-5 c = last-decides (c .before .before .before .before .before .before .before .before .args .file .now) (c .before .before .before .before .before .before .if1 .left) (c .before .before .before .before .before .if2 .left) (c .before .before .before .before .count .result) (c .before .before .before .before .count .ensures .0) (c .before .before .before .if3 .left) (c .before .before .offset .result) (c .before .before .offset .ensures .0) (c .before .if4 .left) (c .offset2 .result) (c .offset2 .ensures .0)
+returns-5 c =
+    let at-if4 = c .before in
+    let at-offset = at-if4 .before in
+    let at-if3 = at-offset .before in
+    let at-count = at-if3 .before in
+    let at-if2 = at-count .before in
+    let at-if1 = at-if2 .before in
+    let start = at-if1 .before .before in
+    last-decides (start .args .file .now) (at-if1 .if1 .left) (at-if2 .if2 .left) (at-count .count .result) (at-count .count .ensures .0)
+    (at-if3 .if3 .left) (at-offset .offset .result) (at-offset .offset .ensures .0) (at-if4 .if4 .left) (c .offset2 .result)
+    (c .offset2 .ensures .0)
 
 pub good-offsets-spec : {M : Type 1} → statement M
 good-offsets-spec =
