@@ -4,8 +4,8 @@ use mathlib.Core.Path.{_≡_}
 use native.Mathlib.Omega.{arith}
 use lib.ListN.{length, length-set}
 use borrow.Author.Needs.{needs}
-use Rattle.vectors.proofs.print.put.Statement.{statement}
-use Rattle.vectors.proofs.print.put.Tie as tie
+use Rattle.vectors.proofs.bytes.put.Statement.{statement}
+use Rattle.vectors.proofs.bytes.put.Tie as tie
 
 abbrev Inv-loop : tie.InvT-loop
 Inv-loop area₀ at text i₀ area i = (length area ≡ length area₀) × (i ≤ length text)

@@ -1,8 +1,8 @@
-use Rattle.tryhosts.proofs.Digits.{size-one, size-two, size-three, size-four, size-five}
+use Rattle.digits.proofs.Sizes.{size-one, size-two, size-three, size-four, size-five}
 use mathlib.Core.Path.{sym}
 use borrow.Author.Needs.{needs}
-use Rattle.tryhosts.proofs.write.digits.Statement.{statement}
-use Rattle.tryhosts.proofs.write.digits.Tie as tie
+use Rattle.digits.proofs.size.Statement.{statement}
+use Rattle.digits.proofs.size.Tie as tie
 
 returns : tie.Need-returns
 returns c = (sym (size-one (c .before .args .n) (search needs)), search needs)
@@ -19,5 +19,5 @@ returns-4 c = (sym (size-four (c .before .before .before .before .args .n) (sear
 returns-5 : tie.Need-returns-5
 returns-5 c = (sym (size-five (c .before .before .before .before .args .n) (search needs) (search needs)), search needs)
 
-pub digits-spec : {M : Type 1} → statement M
-digits-spec = tie.close (tie.spec returns returns-2 returns-3 returns-4 returns-5)
+pub size-spec : {M : Type 1} → statement M
+size-spec = tie.close (tie.spec returns returns-2 returns-3 returns-4 returns-5)

@@ -8,7 +8,7 @@ use lib.Dec.{ltb}
 use lib.ListN.{length, length-append}
 use borrow.Author.Tests.{lt-ltb, le-ltb}
 use Rattle.laws.proofs.Decimal.{tenth-below}
-use Rattle.transcript.specs.Rows.{digitsOf, decimal}
+use Rattle.digits.specs.Decimal.{digitsOf, decimal}
 
 -- more digits than n has are not used
 digits-enough : (k n : ℕ) → n < 10 ^ suc k → digitsOf (suc (suc k)) n ≡ digitsOf (suc k) n
