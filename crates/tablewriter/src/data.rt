@@ -7,7 +7,7 @@ ghost use Prim.Native.Nat.{_+_, _-_, _*_, _%_, _≤_, _<_};
 ghost use lib.ListN.{length, getD, take, drop};
 ghost use Rattle.laws.specs.Parts.{over};
 ghost use Rattle.tablewriter.specs.Writer.{allNear};
-ghost use Rattle.tablewriter.specs.Steps.{Sound, rawIn, pairIn, baseBy, dataBy, dataLength};
+ghost use Rattle.tablewriter.specs.Steps.{Sound, rawIn, pairOf, pairIn, baseBy, dataBy, dataLength};
 
 // How many bytes of data n entries take.
 pub(crate) fn data_length(small: bool, n: usize) -> usize
@@ -35,7 +35,7 @@ fn difference(e: u8, b: u8) -> u8
 // Entries i and i + 1 as one number, the first in its low byte: they are read at once.
 fn pair_at(entries: &[u8], i: usize) -> u16
     requires { ⌜ i + 1 < length (now entries) ⌝ }
-    ensures { λ r. ⌜ r ≡ getD (now (entries .entry)) i 0 + 256 * getD (now (entries .entry)) (i + 1) 0 ⌝ }
+    ensures { λ r. ⌜ r ≡ pairOf (now (entries .entry)) i ⌝ }
 {
     wide(entries[i]) + 256 * wide(entries[i + 1])
 }
@@ -43,7 +43,7 @@ fn pair_at(entries: &[u8], i: usize) -> u16
 // What the differences of entries i and i + 1 are taken from, as one number.
 fn base_pair<'a>(plan: Plan, old: &'a [u8], new: &'a [u8], i: usize) -> u16
     requires { ⌜ (length (baseBy plan (now old) (now new)) ≡ length (now new)) × (i + 1 < length (now new)) ⌝ }
-    ensures { λ r. ⌜ (r ≡ getD (baseBy plan (now (old .entry)) (now (new .entry))) i 0 + 256 * getD (baseBy plan (now (old .entry)) (now (new .entry))) (i + 1) 0) × (getD (baseBy plan (now (old .entry)) (now (new .entry))) i 0 < 256) ⌝ }
+    ensures { λ r. ⌜ (r ≡ pairOf (baseBy plan (now (old .entry)) (now (new .entry))) i) × (getD (baseBy plan (now (old .entry)) (now (new .entry))) i 0 < 256) ⌝ }
 {
     if plan.had {
         return pair_at(old, i);

@@ -1,4 +1,3 @@
-use mathlib.Core.Path.{_∙_}
 use Rattle.tablewriter.proofs.DataLaws.{raw-eight}
 use borrow.Author.Needs.{needs}
 use Rattle.tablewriter.proofs.data.difference.Statement.{statement}
