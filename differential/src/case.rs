@@ -43,18 +43,20 @@ impl Start {
         let mut text = format!("start route={} room={room} count={count} next={next}\n", self.route.text());
         for (at, line) in lines.iter().enumerate().filter(|(_, line)| **line != ZERO_LINE) {
             let Line { live, pinged, pingtime, pongcount, pongnext, .. } = line;
-            let _ = writeln!(text, "line {at} {live} {pinged} {pingtime} {pongcount} {pongnext}");
+            let _ = writeln!(text, "line {at} open={live} pinged={pinged} time={pingtime} pongs={pongcount} next={pongnext}");
             for (place, pong) in line.pongs.iter().enumerate().filter(|(_, pong)| **pong != ZERO_PONG) {
-                let _ = writeln!(text, "pong {at} {place} {} {} {}", pong.bytes.text(), pong.hops, pong.clock);
+                let _ = writeln!(text, "pong {at} {place} bytes={} hops={} clock={}", pong.bytes.text(), pong.hops, pong.clock);
             }
             if line.table != ZERO_TABLE {
                 let Table { mark, length, infinity, place, size, bits, at: entry } = line.table;
-                let _ = writeln!(text, "table {at} {mark} {length} {infinity} {place} {size} {bits} {entry}");
+                let run = format!("place={place} size={size} bits={bits} at={entry}");
+                let _ = writeln!(text, "table {at} mark={mark} length={length} infinity={infinity} {run}");
             }
         }
         for place in 0..asker.len() {
             if (lo[place], hi[place], asker[place]) != (0, 0, 0) {
-                let _ = writeln!(text, "query {place} {} {}", number_of(lo[place], hi[place]).text(), asker[place]);
+                let number = number_of(lo[place], hi[place]).text();
+                let _ = writeln!(text, "query {place} number={number} asker={}", asker[place]);
             }
         }
         for (answer, count) in self.tally.counts.iter().enumerate().filter(|(_, count)| **count != 0) {
@@ -65,8 +67,7 @@ impl Start {
 
     /// Reads the first line of a start.
     fn read(line: &str) -> Option<Start> {
-        let values: Vec<&str> = line.split(' ').map(|word| word.split_once('=').map_or(word, |(_, value)| value)).collect();
-        match values[..] {
+        match values(line)[..] {
             ["start", route, room, count, next] => {
                 let mut start = Start::zero(Field::read(route)?);
                 start.station.room = Field::read(room)?;
@@ -80,9 +81,8 @@ impl Start {
 
     /// Reads a further line of a start; nothing if it is none.
     fn read_more(&mut self, line: &str) -> Option<()> {
-        let words: Vec<&str> = line.split(' ').collect();
         let station = &mut *self.station;
-        match words[..] {
+        match values(line)[..] {
             ["line", at, live, pinged, pingtime, pongcount, pongnext] => {
                 let line = station.lines.get_mut(usize::read(at)?)?;
                 line.live = Field::read(live)?;
@@ -131,6 +131,11 @@ impl Start {
     }
 }
 
+/// The words of a line, of `name=value` the value.
+fn values(line: &str) -> Vec<&str> {
+    line.split(' ').map(|word| word.split_once('=').map_or(word, |(_, value)| value)).collect()
+}
+
 /// Simplifies the part of a whole that `get` gives.
 fn part<W: Clone, P: Clone>(
     whole: &mut W,
@@ -155,6 +160,11 @@ fn plain_array<T: Copy + PartialEq + std::fmt::Debug, const N: usize>(
 
 fn simplify_line(line: &mut Line, still: &mut dyn FnMut(&Line) -> bool) {
     part(line, |line| &mut line.pongs, |pongs, still| plain_array(pongs, &ZERO_PONG, still), still);
+    for place in 0..line.pongs.len() {
+        part(line, |line| &mut line.pongs[place].bytes, |bytes, still| bytes.simplify(still), still);
+        part(line, |line| &mut line.pongs[place].clock, |clock, still| clock.simplify(still), still);
+        part(line, |line| &mut line.pongs[place].hops, |hops, still| hops.simplify(still), still);
+    }
     part(line, |line| &mut line.pongcount, |count, still| count.simplify(still), still);
     part(line, |line| &mut line.pongnext, |next, still| next.simplify(still), still);
     part(line, |line| &mut line.pinged, |pinged, still| pinged.simplify(still), still);

@@ -17,6 +17,8 @@ const NO_LINES: [u32; 8] = [8, 9, 10, 15, 16, 255, 0x8000_0000, u32::MAX];
 pub struct Maker {
     random: Random,
     clock: u32,
+    /// Whether the start is damaged; then few calls will do.
+    damaged: bool,
 }
 
 impl Maker {
@@ -25,21 +27,33 @@ impl Maker {
         let mut random = Random::of_case(seed, case);
         let late = u32::MAX - random.below(20_000) as u32;
         let clock = random.number() as u32;
-        Maker { clock: random.pick(&[0, 1_000_000, late, clock]), random }
+        let clock = random.pick(&[0, 1_000_000, late, clock]);
+        Maker { clock, damaged: random.one_in(2), random }
     }
 
     /// How many calls the case has.
     pub fn length(&mut self) -> usize {
-        let most = self.random.pick(&[4, 10, 40, 80]);
+        let most = if self.damaged { 3 } else { self.random.pick(&[4, 10, 40, 80]) };
         1 + self.random.below(most)
     }
 
+    /// A state; one in two is put out of order, or nearly so.
     pub fn start(&mut self) -> Start {
-        start::start(&mut self.random, self.clock)
+        let mut start = start::start(&mut self.random, self.clock);
+        if self.damaged {
+            start::damage(&mut self.random, &mut start.station);
+            if self.random.one_in(4) {
+                start::damage(&mut self.random, &mut start.station);
+            }
+        }
+        start
     }
 
     /// A call for this state and route area.
     pub fn call(&mut self, station: &Station, route: &[u8]) -> Call {
+        if self.damaged && self.random.one_in(2) {
+            return Call::InOrder {};
+        }
         match self.random.below(200) {
             0 => Call::Fresh { route: start::route(&mut self.random) },
             1..=12 => Call::Open { line: self.line(station, false) },
@@ -51,8 +65,16 @@ impl Maker {
             44 => tables::round_trip(&mut self.random),
             45..=67 => groups::call(&mut self.random),
             68..=71 => Call::Hash { keyword: self.keyword() },
-            72..=75 => Call::Place { keyword: self.keyword(), bits: self.random.below(41) as u32 },
+            72..=75 => Call::Place { keyword: self.keyword(), bits: self.bits() },
             _ => self.message(station, route),
+        }
+    }
+
+    fn bits(&mut self) -> u32 {
+        if self.random.one_in(20) {
+            self.random.pick(&[64, 255, 256, u32::MAX])
+        } else {
+            self.random.below(41) as u32
         }
     }
 
@@ -167,6 +189,6 @@ mod tests {
         let orders: Vec<bool> =
             (0..400).map(|case| crate::convert::station_from_raw(&Maker::of_case(6, case).start().station).unwrap().in_order()).collect();
         let good = orders.iter().filter(|&&order| order).count();
-        assert!((250..380).contains(&good), "{good} of 400");
+        assert!((200..350).contains(&good), "{good} of 400");
     }
 }

@@ -26,7 +26,7 @@ pub fn lengths(room: usize) -> &'static [u32] {
     &LENGTHS[..fit]
 }
 
-/// A start; one in six is not in order.
+/// A start, in order.
 pub fn start(random: &mut Random, clock: u32) -> Start {
     let route = route(random);
     let mut start = Start { station: Box::new(ZERO), tally: tally(random), route };
@@ -36,11 +36,6 @@ pub fn start(random: &mut Random, clock: u32) -> Start {
         *line = some_line(random, station.room, clock);
     }
     memory(random, station);
-    if random.one_in(6) {
-        for _ in 0..1 + random.below(2) {
-            damage(random, station);
-        }
-    }
     start
 }
 
@@ -61,9 +56,12 @@ fn tally(random: &mut Random) -> Tally {
     Tally { counts }
 }
 
-/// A line in order. Places that are not kept, and what a closed line has besides, are anything.
+/// A line in order. Places that are not kept, and what a closed line may have besides, are anything.
 fn some_line(random: &mut Random, room: usize, clock: u32) -> Line {
     let live = !random.one_in(3);
+    if random.one_in(8) {
+        return Line { live, ..ZERO.lines[0] };
+    }
     let (pongcount, pongnext) = (if live { random.pick(&[0, 1, 3, 9, 10]) } else { 0 }, random.below(10));
     let mut pongs = [Pong { bytes: [0; 14], hops: 0, clock: 0 }; 10];
     for (place, pong) in pongs.iter_mut().enumerate() {
@@ -158,7 +156,7 @@ fn memory(random: &mut Random, station: &mut Station) {
 }
 
 /// Puts one thing out of order, or just inside of what is in order.
-fn damage(random: &mut Random, station: &mut Station) {
+pub fn damage(random: &mut Random, station: &mut Station) {
     let age = random.below(station.count.clamp(1, 512));
     let place = place_of(station, age);
     let byte = random.byte();
@@ -170,36 +168,50 @@ fn damage(random: &mut Random, station: &mut Station) {
             (station.lo[place], station.hi[place]) = (station.lo[other], station.hi[other]);
         }
         4 | 5 => station.asker[place] = random.pick(&[0, 3, 7, 8, 9, 10, 255, byte]),
+        6 | 7 => {
+            let line = random.below(8);
+            damage_pongs(random, &mut station.lines[line]);
+        }
+        8 => {
+            let line = random.below(8);
+            close_badly(random, &mut station.lines[line]);
+        }
         _ => {
-            let (line, room) = (random.below(8), station.room);
-            damage_line(random, &mut station.lines[line], room);
+            let (any, room) = (random.below(8), station.room);
+            let with_table = (0..8).map(|step| (any + step) % 8).find(|&line| (1..=3).contains(&station.lines[line].table.mark));
+            damage_table(random, &mut station.lines[with_table.unwrap_or(any)].table, room);
         }
     }
 }
 
-fn damage_line(random: &mut Random, line: &mut Line, room: usize) {
-    let at = random.below(10);
-    let place = (line.pongnext % 10 + 9) % 10;
-    match random.below(9) {
-        0 => line.pongcount = random.pick(&[10, 11, 255]),
-        1 => line.pongnext = random.pick(&[9, 10, 255]),
-        2 => line.pongs[at].hops = random.pick(&[7, 8, 255]),
-        3 => line.pongs[place].hops = random.pick(&[7, 8, 255]),
-        4 => line.live = false,
-        5 => (line.live, line.pongcount) = (false, random.pick(&[0, 1])),
-        6 => (line.live, line.pinged, line.pongcount, line.table.mark) = (false, random.one_in(2), 0, 0),
-        7 => (line.live, line.pinged, line.pongcount) = (false, false, 0),
-        _ => damage_table(random, &mut line.table, room),
+fn damage_pongs(random: &mut Random, line: &mut Line) {
+    let (any, newest) = (random.below(10), (line.pongnext + 9) % 10);
+    match random.below(4) {
+        0 => line.pongcount = random.pick(&[10, 11, 11, 255]),
+        1 => line.pongnext = random.pick(&[9, 10, 10, 255]),
+        2 => line.pongs[any].hops = random.pick(&[7, 8, 255]),
+        _ => line.pongs[newest].hops = random.pick(&[7, 8, 255]),
+    }
+}
+
+/// A closed line that may have kept something.
+fn close_badly(random: &mut Random, line: &mut Line) {
+    line.live = false;
+    (line.pinged, line.pongcount, line.table.mark) = (false, 0, 0);
+    match random.below(4) {
+        0 => line.pinged = true,
+        1 => line.pongcount = 1,
+        2 => line.table.mark = random.pick(&[1, 2, 3, 4]),
+        _ => {}
     }
 }
 
 fn damage_table(random: &mut Random, table: &mut Table, room: usize) {
+    let beyond = room.saturating_mul(2).max(4).min(65_536).next_power_of_two() as u32;
     match random.below(8) {
         0 => table.mark = random.pick(&[1, 2, 3, 4, 5, 255]),
-        1 | 2 => {
-            let beyond = room.saturating_mul(2).max(4) as u32;
-            table.length = random.pick(&[0, 2, 3, 4, 6, 12, beyond, 131_072, 0x8000_0000]);
-        }
+        1 => table.length = random.pick(&[0, 2, 3, 4, 6, 12, 131_072, 0x8000_0000]),
+        2 => table.length = beyond,
         3 => table.infinity = random.pick(&[0, 1, 2, 127, 128, 255]),
         4 => table.place = random.pick(&[0, 1, 2, table.size, table.size.wrapping_add(1)]),
         5 => table.size = random.pick(&[0, 1, table.place, table.place.wrapping_sub(1)]),
