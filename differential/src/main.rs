@@ -5,6 +5,7 @@
 
 mod call;
 mod case;
+mod compare;
 mod convert;
 mod field;
 mod make;

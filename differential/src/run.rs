@@ -2,8 +2,9 @@
 
 use crate::call::Call;
 use crate::case::{Case, Start};
+use crate::compare::{self, Difference};
 use crate::field::Area;
-use crate::side::{self, Difference, Outcome, Side};
+use crate::side::{Outcome, Side};
 use lunozhar::raw::{Own, Station};
 use std::collections::BTreeMap;
 
@@ -92,12 +93,12 @@ impl<A: Side, B: Side> Runner<A, B> {
 
     fn compare(&self) -> Option<Difference> {
         let (first, second) = (&self.first, &self.second);
-        side::outcomes(&first.outcome, &second.outcome)
-            .or_else(|| side::areas("output", &first.out, &second.out))
-            .or_else(|| side::stations(&first.station, &second.station))
-            .or_else(|| side::areas("route", &first.route, &second.route))
-            .or_else(|| side::areas("other route", &first.other, &second.other))
-            .or_else(|| side::tallies(&first.side.tally(), &second.side.tally()))
+        compare::outcomes(&first.outcome, &second.outcome)
+            .or_else(|| compare::areas("output", &first.out, &second.out))
+            .or_else(|| compare::stations(&first.station, &second.station))
+            .or_else(|| compare::areas("route", &first.route, &second.route))
+            .or_else(|| compare::areas("other route", &first.other, &second.other))
+            .or_else(|| compare::tallies(&first.side.tally(), &second.side.tally()))
     }
 }
 

@@ -32,12 +32,13 @@ mod tests {
     use super::*;
     use crate::call::Call;
     use crate::case::Start;
+    use crate::compare::Difference;
     use crate::field::Area;
     use crate::make::Maker;
     use crate::proved::Proved;
     use crate::run::{Counts, Runner};
     use crate::second::Reference;
-    use crate::side::{Difference, Outcome};
+    use crate::side::Outcome;
     use lunozhar::raw::{Station, Tally};
 
     /// The reference with one fault, to see that it is found and made small.

@@ -207,7 +207,7 @@ fn close_badly(random: &mut Random, line: &mut Line) {
 }
 
 fn damage_table(random: &mut Random, table: &mut Table, room: usize) {
-    let beyond = room.saturating_mul(2).max(4).min(65_536).next_power_of_two() as u32;
+    let beyond = room.saturating_mul(2).clamp(4, 65_536).next_power_of_two() as u32;
     match random.below(8) {
         0 => table.mark = random.pick(&[1, 2, 3, 4, 5, 255]),
         1 => table.length = random.pick(&[0, 2, 3, 4, 6, 12, 131_072, 0x8000_0000]),
