@@ -118,6 +118,13 @@ impl Start {
     fn simplify(&mut self, still: &mut dyn FnMut(&Start) -> bool) {
         let zero = Start::zero(self.route);
         attempt(self, zero, still);
+        for room in [512, 64, 8, 4] {
+            let mut smaller = self.clone();
+            (smaller.route.length, smaller.station.room) = (8 * room, room);
+            if room < self.station.room {
+                attempt(self, smaller, still);
+            }
+        }
         part(self, |start| &mut start.route, |route, still| route.simplify(still), still);
         part(self, |start| &mut start.tally.counts, |counts, still| plain_array(counts, &0, still), still);
         part(self, |start| &mut start.station.lines, |lines, still| plain_array(lines, &ZERO_LINE, still), still);

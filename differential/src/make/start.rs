@@ -14,7 +14,7 @@ pub fn route(random: &mut Random) -> Area {
         0 => 8 * 65_536,
         1 => 8 * 65_536 + 5,
         2..=12 => 16_384,
-        13..=15 => random.pick(&[0, 7, 31]),
+        13..=16 => random.pick(&[0, 7, 31, 31]),
         _ => random.pick(&[32, 33, 39, 40, 64, 64, 71, 128, 300, 512, 2048]),
     };
     Area { length, seed: random.number() | 1, top: random.pick(&[0, 2, 7, 8, 8, 8, 127]) }
@@ -40,7 +40,7 @@ pub fn start(random: &mut Random, clock: u32) -> Start {
 }
 
 fn room(random: &mut Random, length: usize) -> usize {
-    let right = if length < 32 { 0 } else { length / 8 };
+    let right = if length < 32 { random.pick(&[0, length / 8]) } else { length / 8 };
     if random.one_in(40) {
         random.pick(&[0, 3, 4, right + 1, right.saturating_sub(1), 65_536, usize::MAX])
     } else {
