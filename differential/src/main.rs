@@ -3,6 +3,8 @@
 //!     differential CALLS SEED      at least so many random calls; a disagreement is made small, printed and kept as a file
 //!     differential replay FILE     runs a kept case again
 
+#[cfg(test)]
+mod broken;
 mod call;
 mod case;
 mod compare;

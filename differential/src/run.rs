@@ -175,3 +175,32 @@ pub fn run<A: Side, B: Side>(case: &Case) -> Option<(usize, Difference)> {
     let mut counts = Counts::default();
     case.calls.iter().enumerate().find_map(|(at, call)| runner.step(call, &mut counts).err().map(|difference| (at, difference)))
 }
+
+#[cfg(test)]
+mod tests {
+    use super::*;
+    use crate::broken::{Broken, BAD_WRITER};
+    use crate::second::Reference;
+
+    fn trip(room: usize) -> Case {
+        let route = Area { length: 8 * room, seed: 3, top: 0 };
+        let call = Call::RoundTrip { line: 5, old: vec![3, 1, 4, 1], both: true, new: vec![5, 1, 5, 2], infinity: 20, size: 1, route };
+        Case { start: Start::zero(route), calls: vec![call] }
+    }
+
+    #[test]
+    fn tables_are_written_and_read() {
+        let mut counts = Counts::default();
+        let Case { start, calls } = trip(4);
+        assert_eq!(Runner::<Reference, Reference>::begin(&start).step(&calls[0], &mut counts), Ok(()));
+        // The trip, an opening, two calls of the writer, and the messages: a RESET, four PATCHes of 8 bits, two of 4 bits.
+        assert_eq!((counts.calls, counts.answers[0]), (11, 10));
+        assert_eq!(run::<Reference, Reference>(&trip(3)), None);
+    }
+
+    #[test]
+    fn a_table_that_does_not_stand_is_a_difference() {
+        let (at, difference) = run::<Broken<BAD_WRITER>, Broken<BAD_WRITER>>(&trip(4)).unwrap();
+        assert_eq!((at, &difference.what[..]), (0, "the table that was written does not stand (both alike)"));
+    }
+}
