@@ -29,12 +29,12 @@ impl Maker {
     pub(super) fn message(&mut self, station: &Station, route: &[u8]) -> Call {
         let line = self.line(station, true);
         let at = line as usize % 8;
-        let framed = match self.random.below(24) {
+        let framed = match self.random.below(26) {
             0..=4 => self.query(station),
-            5..=9 => self.hit(station),
-            10..=14 => self.ping(),
-            15 | 16 => self.pong(),
-            17..=22 => self.update(station, at, route),
+            5..=11 => self.hit(station),
+            12..=16 => self.ping(),
+            17 | 18 => self.pong(),
+            19..=24 => self.update(station, at, route),
             _ => self.other(),
         };
         let mut bytes = framed.number.to_vec();
@@ -180,7 +180,7 @@ impl Maker {
                 let at = self.random.below(payload.len().min(7));
                 payload[at] = payload[at].wrapping_add(self.random.pick(&[1, 2, 4, 255]));
             }
-            4 | 5 if payload.len() > 5 => {
+            4..=6 if payload.len() > 5 => {
                 let at = 5 + self.random.below(payload.len() - 5);
                 payload[at] = self.random.byte();
             }
