@@ -147,7 +147,18 @@ impl Call {
                 still(&call)
             });
         }
+        while self.halve_tables(still) {}
         self.simplify_fields(still);
+    }
+
+    /// Takes the first halves of both tables; says whether it did.
+    fn halve_tables(&mut self, still: &mut dyn FnMut(&Call) -> bool) -> bool {
+        let mut call = self.clone();
+        if let Call::WriteTable { old, new, .. } | Call::RoundTrip { old, new, .. } = &mut call {
+            old.truncate(old.len() / 2);
+            new.truncate(new.len() / 2);
+        }
+        attempt(self, call, still)
     }
 }
 

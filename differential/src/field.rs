@@ -62,9 +62,10 @@ impl Field for bool {
     }
 }
 
-/// Sizes from half of `length` down to 1.
-pub fn halves(length: usize) -> impl Iterator<Item = usize> {
-    std::iter::successors(Some(length.max(1)), |size| Some(size / 2).filter(|&half| half > 0))
+/// Sizes from `length` down to 1, or to a thousandth of it so that a long list takes no longer.
+fn halves(length: usize) -> impl Iterator<Item = usize> {
+    let least = (length / 1024).max(1);
+    std::iter::successors(Some(length.max(1)), move |size| Some(size / 2).filter(|&half| half >= least))
 }
 
 /// Drops runs of items, long runs first and from the end.

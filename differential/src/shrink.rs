@@ -3,9 +3,10 @@
 use crate::case::Case;
 use crate::run::run;
 use crate::side::Side;
+use std::time::{Duration, Instant};
 
-/// The most runs that are spent on one case.
-const TRIES: usize = 200_000;
+/// The most time that is spent on one case.
+const TIME: Duration = Duration::from_secs(30);
 
 /// A simpler case on which the two still disagree; the case itself if they do not disagree on it.
 pub fn shrink<A: Side, B: Side>(case: &Case) -> Case {
@@ -14,13 +15,10 @@ pub fn shrink<A: Side, B: Side>(case: &Case) -> Case {
         Some((at, _)) => least.calls.truncate(at + 1),
         None => return least,
     }
-    let mut tries = 0;
+    let began = Instant::now();
     loop {
         let before = least.clone();
-        least.simplify(&mut |case| {
-            tries += 1;
-            tries <= TRIES && run::<A, B>(case).is_some()
-        });
+        least.simplify(&mut |case| began.elapsed() < TIME && run::<A, B>(case).is_some());
         if least == before {
             return least;
         }
