@@ -80,7 +80,9 @@ fn pure(call: &Call, out: &mut [u8]) -> Outcome {
         Call::WriteBusy { count, pairs, .. } => {
             let mut listed: Vec<Pair> = pairs.iter().map(convert::pair_from_raw).collect();
             // The boundary has 32 places whatever the count; the reference takes a slice, for which 33 stands for every count above 32.
-            listed.resize((*count).min(33), Pair::default());
+            listed.resize(32, Pair::default());
+            listed.push(Pair { address: [0; 4], port: 1 });
+            listed.truncate(*count);
             Outcome::Written(convert::written(handshake::write_busy(&listed, out)))
         }
         Call::Hash { keyword } => Outcome::Number(hash::product(keyword)),

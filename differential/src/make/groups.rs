@@ -70,22 +70,29 @@ fn first_line(random: &mut Random) -> Vec<u8> {
     [b"GNUTELLA/", &version[..], b" ", &code, text].concat()
 }
 
-/// An address and a port, one in twelve not allowed.
-fn pair(random: &mut Random) -> Vec<u8> {
-    if random.one_in(300) {
-        let bad: &[u8] =
-            random.pick(&[b"1.2.3:4", b"1.2.3.4.5:6", b"1.2.3.4", b"1.2.3.4:", b".1.2.3:4", b"1.2.3.4:5x", b" 1.2.3.4:5", b"1.2.3.4 :5"]);
-        return bad.to_vec();
+/// An address and a port, each octet below `octets` and the port below `ports`.
+fn pair(random: &mut Random, octets: usize, ports: usize) -> Vec<u8> {
+    let mut octet = || random.below(octets);
+    let address = format!("{}.{}.{}.{}", octet(), octet(), octet(), octet());
+    format!("{address}:{}", 1 + random.below(ports - 1)).into_bytes()
+}
+
+/// A pair that is not allowed, or nearly so.
+fn odd_pair(random: &mut Random) -> Vec<u8> {
+    let other: &[u8] =
+        random.pick(&[b"1.2.3:4", b"1.2.3.4.5:6", b"1.2.3.4", b"1.2.3.4:", b".1.2.3:4", b"1.2.3.4:5x", b"1.2.3.4 :5", b"1.2.3.4:0"]);
+    match random.below(5) {
+        0 => other.to_vec(),
+        1 => pair(random, 300, 65_536),
+        2 => pair(random, 256, 80_000),
+        _ => {
+            let mut zeros = pair(random, 256, 65_536);
+            let starts: Vec<usize> = (0..zeros.len()).filter(|&at| at == 0 || !zeros[at - 1].is_ascii_digit()).collect();
+            let at = random.pick(&starts);
+            zeros.splice(at..at, vec![b'0'; 1 + random.below(3)]);
+            zeros
+        }
     }
-    let far = random.one_in(100);
-    let octet = |random: &mut Random| if far { random.below(400) } else { random.below(256) };
-    let port = if far { random.below(80_000) } else { 1 + random.below(65_535) };
-    let text = format!("{}.{}.{}.{}:{}", octet(random), octet(random), octet(random), octet(random), port);
-    if random.one_in(60) {
-        let at = random.below(text.len());
-        return [&text.as_bytes()[..at], b"0", &text.as_bytes()[at..]].concat();
-    }
-    text.into_bytes()
 }
 
 fn value(random: &mut Random, pairs: bool) -> Vec<u8> {
@@ -94,16 +101,18 @@ fn value(random: &mut Random, pairs: bool) -> Vec<u8> {
         return text.to_vec();
     }
     let mut value = Vec::new();
-    for item in 0..random.pick(&[0, 1, 2, 3, 31, 32, 33, 40]) {
+    let count = random.pick(&[0, 1, 2, 3, 31, 32, 33, 40]);
+    let odd = random.below(5 * count + 1);
+    for item in 0..count {
         if item > 0 {
             let comma: &[u8] = random.pick(&[b",", b",", b",", b", "]);
             value.extend(comma);
-            if random.one_in(60) {
+            if random.one_in(200) {
                 let odd: &[u8] = random.pick(&[b",", b", ", b"\t", b" "]);
                 value.extend(odd);
             }
         }
-        value.extend(pair(random));
+        value.extend(if item == odd { odd_pair(random) } else { pair(random, 256, 65_536) });
     }
     value
 }
@@ -125,6 +134,9 @@ fn field(random: &mut Random, bytes: &mut Vec<u8>) {
 pub fn group(random: &mut Random) -> Vec<u8> {
     let mut bytes = first_line(random);
     bytes.extend(b"\r\n");
+    if random.one_in(20) {
+        bytes.extend(b" goes on\r\n");
+    }
     for _ in 0..random.below(6) {
         field(random, &mut bytes);
     }
@@ -139,6 +151,9 @@ pub fn group(random: &mut Random) -> Vec<u8> {
     if random.one_in(4) {
         let more = random.pick(&[1, 2, 20, 100, 4_100]);
         bytes.extend(random.bytes(more));
+    }
+    if random.one_in(8) {
+        bytes.truncate(random.pick(&[4_095, 4_096, 4_097]));
     }
     if random.one_in(3) {
         for _ in 0..1 + random.below(3) {
