@@ -1,6 +1,6 @@
 //! The calls that are compared.
 
-use crate::field::{attempt, drop_runs, Area, Field};
+use crate::field::{attempt, drop_runs, part, Area, Field};
 use lunozhar::raw::{Own, Pair};
 
 /// Bytes of a message's header; the last four are the payload's length.
@@ -15,14 +15,18 @@ macro_rules! calls {
         }
 
         impl Call {
+            pub fn name(&self) -> &'static str {
+                match self {
+                    $(Call::$name { .. } => $word,)*
+                }
+            }
+
             /// The call's name and its fields as `name=value`.
             pub fn text(&self) -> String {
                 match self {
                     $(Call::$name { $($field),* } => {
-                        #[allow(unused_mut)]
-                        let mut words = vec![$word.to_string()];
-                        $(words.push(format!("{}={}", stringify!($field), $field.text()));)*
-                        words.join(" ")
+                        let fields: Vec<String> = vec![$(format!(" {}={}", stringify!($field), $field.text())),*];
+                        $word.to_string() + &fields.concat()
                     })*
                 }
             }
@@ -45,18 +49,15 @@ macro_rules! calls {
 
             /// Makes one field after the other simpler.
             fn simplify_fields(&mut self, still: &mut dyn FnMut(&Call) -> bool) {
-                $($(
-                    let whole = self.clone();
-                    if let Call::$name { $field, .. } = self {
-                        $field.simplify(&mut |value| {
-                            let mut call = whole.clone();
-                            if let Call::$name { $field, .. } = &mut call {
-                                *$field = value.clone();
-                            }
-                            still(&call)
-                        });
+                $($(if matches!(self, Call::$name { .. }) {
+                    fn field(call: &mut Call) -> &mut $kind {
+                        match call {
+                            Call::$name { $field, .. } => $field,
+                            _ => unreachable!("the call stays of its kind"),
+                        }
                     }
-                )*)*
+                    part(self, field, Field::simplify, still);
+                })*)*
             }
         }
     };
@@ -93,7 +94,7 @@ impl Call {
     pub fn kind(&self) -> String {
         let bytes = match self {
             Call::Message { bytes, .. } => bytes,
-            other => return other.text().split(' ').next().unwrap_or_default().to_string(),
+            other => return other.name().to_string(),
         };
         let kind = match (bytes.get(16), bytes.get(HEADER)) {
             (_, _) if bytes.len() < HEADER => "under 23 bytes",
@@ -129,25 +130,8 @@ impl Call {
 
     /// Takes simpler calls one after the other, each if `still` holds of it.
     pub fn simplify(&mut self, still: &mut dyn FnMut(&Call) -> bool) {
-        let whole = self.clone();
-        if let Call::Message { bytes, out, .. } = self {
-            shorten_message(bytes, &mut |bytes| {
-                let mut call = whole.clone();
-                if let Call::Message { bytes: place, .. } = &mut call {
-                    place.clone_from(bytes);
-                }
-                still(&call)
-            });
-            let usual = Area { length: 4119, seed: 0, top: 0 };
-            let mut call = whole.clone();
-            attempt(out, usual, &mut |&usual| {
-                if let Call::Message { out, .. } = &mut call {
-                    *out = usual;
-                }
-                still(&call)
-            });
-        }
         while self.halve_tables(still) {}
+        self.shorten_message(still);
         self.simplify_fields(still);
     }
 
@@ -160,19 +144,23 @@ impl Call {
         }
         attempt(self, call, still)
     }
-}
 
-/// Drops payload bytes of a message and sets its length to what is left.
-fn shorten_message(message: &mut Vec<u8>, still: &mut dyn FnMut(&Vec<u8>) -> bool) {
-    if message.len() < HEADER {
-        return;
-    }
-    let header = message[..19].to_vec();
-    let framed = |payload: &Vec<u8>| [&header[..], &(payload.len() as u32).to_le_bytes(), payload].concat();
-    let mut payload = message[HEADER..].to_vec();
-    if still(&framed(&payload)) {
-        drop_runs(&mut payload, &mut |payload| still(&framed(payload)));
-        *message = framed(&payload);
+    /// Drops payload bytes of a message and sets its length to what is left; takes the shortest output area that is long enough.
+    fn shorten_message(&mut self, still: &mut dyn FnMut(&Call) -> bool) {
+        let (line, clock, own, bytes, route) = match self {
+            Call::Message { line, clock, own, bytes, route, .. } if bytes.len() >= HEADER => (*line, *clock, *own, bytes.clone(), *route),
+            _ => return,
+        };
+        let out = Area { length: 4119, seed: 0, top: 0 };
+        let framed = |payload: &Vec<u8>| {
+            let bytes = [&bytes[..19], &(payload.len() as u32).to_le_bytes(), payload].concat();
+            Call::Message { line, clock, own, bytes, out, route }
+        };
+        let mut payload = bytes[HEADER..].to_vec();
+        if still(&framed(&payload)) {
+            drop_runs(&mut payload, &mut |payload| still(&framed(payload)));
+            *self = framed(&payload);
+        }
     }
 }
 

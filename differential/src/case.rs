@@ -2,7 +2,7 @@
 
 use crate::call::Call;
 use crate::convert::number_of;
-use crate::field::{attempt, drop_runs, plain_runs, Area, Field};
+use crate::field::{attempt, drop_runs, part, plain_runs, Area, Field};
 use lunozhar::raw::{Line, Pong, Station, Table, Tally};
 use std::fmt::Write;
 
@@ -143,20 +143,6 @@ fn values(line: &str) -> Vec<&str> {
     line.split(' ').map(|word| word.split_once('=').map_or(word, |(_, value)| value)).collect()
 }
 
-/// Simplifies the part of a whole that `get` gives.
-fn part<W: Clone, P: Clone>(
-    whole: &mut W,
-    get: impl Fn(&mut W) -> &mut P,
-    simplify: impl Fn(&mut P, &mut dyn FnMut(&P) -> bool),
-    still: &mut dyn FnMut(&W) -> bool,
-) {
-    let mut other = whole.clone();
-    simplify(get(whole), &mut |value| {
-        get(&mut other).clone_from(value);
-        still(&other)
-    });
-}
-
 fn plain_array<T: Copy + PartialEq + std::fmt::Debug, const N: usize>(
     items: &mut [T; N],
     plain: &T,
@@ -235,9 +221,29 @@ impl Case {
         Ok(case)
     }
 
+    /// The case with every clock turned back by so much.
+    fn turned_back(&self, by: u32) -> Case {
+        let mut case = self.clone();
+        for line in &mut case.start.station.lines {
+            line.pingtime = line.pingtime.wrapping_sub(by);
+            line.pongs.iter_mut().for_each(|pong| pong.clock = pong.clock.wrapping_sub(by));
+        }
+        for call in &mut case.calls {
+            if let Call::Message { clock, .. } = call {
+                *clock = clock.wrapping_sub(by);
+            }
+        }
+        case
+    }
+
     /// Takes simpler cases, one after the other, each if `still` holds of it: fewer calls, a simpler start, simpler calls.
     pub fn simplify(&mut self, still: &mut dyn FnMut(&Case) -> bool) {
         part(self, |case| &mut case.calls, drop_runs, still);
+        let first = self.calls.iter().find_map(|call| if let Call::Message { clock, .. } = call { Some(*clock) } else { None });
+        if let Some(first) = first {
+            let early = self.turned_back(first);
+            attempt(self, early, still);
+        }
         part(self, |case| &mut case.start, |start, still| start.simplify(still), still);
         for at in 0..self.calls.len() {
             part(self, |case| &mut case.calls[at], |call, still| call.simplify(still), still);

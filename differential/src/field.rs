@@ -22,6 +22,20 @@ pub fn attempt<T: PartialEq>(value: &mut T, simpler: T, still: &mut dyn FnMut(&T
     taken
 }
 
+/// Simplifies the part of a whole that `get` gives.
+pub fn part<W: Clone, P: Clone>(
+    whole: &mut W,
+    get: impl Fn(&mut W) -> &mut P,
+    simplify: impl Fn(&mut P, &mut dyn FnMut(&P) -> bool),
+    still: &mut dyn FnMut(&W) -> bool,
+) {
+    let mut other = whole.clone();
+    simplify(get(whole), &mut |value| {
+        get(&mut other).clone_from(value);
+        still(&other)
+    });
+}
+
 macro_rules! numbers {
     ($($kind:ty)*) => {$(
         impl Field for $kind {

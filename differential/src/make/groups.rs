@@ -79,10 +79,19 @@ fn pair(random: &mut Random, octets: usize, ports: usize) -> Vec<u8> {
 
 /// A pair that is not allowed, or nearly so.
 fn odd_pair(random: &mut Random) -> Vec<u8> {
-    let other: &[u8] =
-        random.pick(&[b"1.2.3:4", b"1.2.3.4.5:6", b"1.2.3.4", b"1.2.3.4:", b".1.2.3:4", b"1.2.3.4:5x", b"1.2.3.4 :5", b"1.2.3.4:0"]);
-    match random.below(5) {
-        0 => other.to_vec(),
+    let other: &[u8] = random.pick(&[
+        b"1.2.3:4",
+        b"1.2.3.4.5:6",
+        b"1.2.3.4",
+        b"1.2.3.4:",
+        b".1.2.3:4",
+        b"1.2.3.4:5x",
+        b"1.2.3.4 :5",
+        b"1.2.3.4:0",
+        b"1.2.3.4:000",
+    ]);
+    match random.below(6) {
+        0 | 5 => other.to_vec(),
         1 => pair(random, 300, 65_536),
         2 => pair(random, 256, 80_000),
         _ => {
@@ -119,7 +128,8 @@ fn value(random: &mut Random, pairs: bool) -> Vec<u8> {
 
 /// A name, blanks and a value; sometimes with a line that goes on.
 fn field(random: &mut Random, bytes: &mut Vec<u8>) {
-    let name = random.pick(&NAMES);
+    let odd: &[u8] = random.pick(&[b"", b"A b", b"A\tb"]);
+    let name = if random.one_in(60) { odd } else { random.pick(&NAMES) };
     let pairs = name.eq_ignore_ascii_case(b"X-Try");
     let blanks: &[u8] = random.pick(&[b"", b" ", b" ", b"\t ", b"   "]);
     bytes.extend([name, b":", blanks, &value(random, pairs)].concat());
@@ -132,7 +142,7 @@ fn field(random: &mut Random, bytes: &mut Vec<u8>) {
 }
 
 pub fn group(random: &mut Random) -> Vec<u8> {
-    let mut bytes = first_line(random);
+    let mut bytes = if random.one_in(60) { Vec::new() } else { first_line(random) };
     bytes.extend(b"\r\n");
     if random.one_in(20) {
         bytes.extend(b" goes on\r\n");
@@ -140,9 +150,9 @@ pub fn group(random: &mut Random) -> Vec<u8> {
     for _ in 0..random.below(6) {
         field(random, &mut bytes);
     }
-    if random.one_in(5) && bytes.len() < 4_000 {
+    if random.one_in(4) && bytes.len() < 4_000 {
         // The group's end stands around its 4,096th byte.
-        let end = random.pick(&[4_094, 4_095, 4_096, 4_097, 4_098, 5_000]);
+        let end = random.pick(&[4_095, 4_096, 4_097, 4_098, 5_000, 5_000]);
         bytes.extend(b"Long: ");
         bytes.resize(end - 4, b'x');
         bytes.extend(b"\r\n");

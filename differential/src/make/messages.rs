@@ -176,11 +176,11 @@ impl Maker {
             0 => (ttl, hops) = (self.random.pick(&[0, 1, 2, 255]), self.random.pick(&[0, 1, 255])),
             1 => payload.truncate(self.random.pick(&[0, 1, 2, 4, 5, 6])),
             2 => payload.push(self.random.byte()),
-            3 => {
+            3 | 9 => {
                 let at = self.random.below(payload.len().min(7));
                 payload[at] = payload[at].wrapping_add(self.random.pick(&[1, 2, 4, 255]));
             }
-            4..=6 if payload.len() > 5 => {
+            4..=8 if payload.len() > 5 => {
                 let at = 5 + self.random.below(payload.len() - 5);
                 payload[at] = self.random.byte();
             }
@@ -245,7 +245,10 @@ impl Maker {
         let mut text: Vec<u8> = self.text().into_iter().filter(|&byte| byte != 0).collect();
         match self.random.below(16) {
             0 => text.insert(self.random.below(text.len() + 1), 0),
-            1 => text.resize(self.random.pick(&[4_092, 4_093, 4_094, 5_000]), b'a'),
+            1 => {
+                text.resize(self.random.pick(&[4_091, 4_092, 4_093, 5_000]), b'a');
+                text.push(self.random.pick(b"aa\0"));
+            }
             2 => text = vec![0; self.random.pick(&[1, 4_093, 4_094])],
             _ => {}
         }

@@ -54,9 +54,15 @@ impl Maker {
         if self.damaged && self.random.one_in(2) {
             return Call::InOrder {};
         }
+        if route.len() < 32 && self.random.one_in(4) {
+            return Call::Fresh { route: start::fresh_route(&mut self.random) };
+        }
+        if station.lines.iter().all(|line| !line.live) && self.random.one_in(3) {
+            return Call::Open { line: self.line(station, false) };
+        }
         match self.random.below(200) {
-            0 => Call::Fresh { route: start::route(&mut self.random) },
-            1..=12 => Call::Open { line: self.line(station, false) },
+            0 | 1 => Call::Fresh { route: start::fresh_route(&mut self.random) },
+            2..=12 => Call::Open { line: self.line(station, false) },
             13..=17 => Call::Close { line: self.line(station, true) },
             18..=23 => Call::InOrder {},
             24..=28 => Call::Count { answer: self.some_answer() },

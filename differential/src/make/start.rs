@@ -20,6 +20,13 @@ pub fn route(random: &mut Random) -> Area {
     Area { length, seed: random.number() | 1, top: random.pick(&[0, 2, 7, 8, 8, 8, 127]) }
 }
 
+/// A route area for a fresh state, one in five too short.
+pub fn fresh_route(random: &mut Random) -> Area {
+    let given = route(random);
+    let length = if random.one_in(5) { random.pick(&[0, 7, 8, 24, 31]) } else { given.length };
+    Area { length, ..given }
+}
+
 /// The lengths that a table may have in this room.
 pub fn lengths(room: usize) -> &'static [u32] {
     let fit = LENGTHS.iter().take_while(|&&length| length as usize <= room).count();
@@ -91,7 +98,7 @@ fn some_table(random: &mut Random, room: usize, live: bool) -> Table {
     }
     let infinity = random.pick(&[2, 7, 8, 8, 8, 127]);
     let length = random.pick(lengths);
-    let mark = random.pick(&[1, 2, 3, 3, 3]);
+    let mark = random.pick(&[1, 2, 2, 3, 3, 3]);
     if mark != 2 {
         return Table { mark, length, infinity, place: 1, at: 0, ..junk };
     }

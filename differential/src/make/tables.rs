@@ -61,7 +61,7 @@ pub fn write_table(random: &mut Random) -> Call {
                 0 => change(random, &mut new, infinity),
                 1 => change(random, &mut old, oldinfinity),
                 2 => infinity = random.pick(&[0, 1, 2, 127, 128, 255]),
-                3 => oldinfinity = random.pick(&[0, 1, 2, 127, 128, 255]),
+                3 => oldinfinity = random.pick(&[0, 1, 2, 127, 128, 255, oldinfinity + 1, oldinfinity + 1]),
                 4 => size = random.pick(&[0, 1, 4091, 4092, 1 << 40, usize::MAX]),
                 5 => new.resize(random.pick(&[length - 1, length + 1, 2 * length, length / 2]).max(1), 1),
                 _ => old.resize(random.pick(&[length - 1, length + 1, 2 * length, length / 2]).max(1), 1),
