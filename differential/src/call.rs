@@ -91,23 +91,22 @@ calls! {
 
 impl Call {
     /// The kind of call, and of message, for counting.
-    pub fn kind(&self) -> String {
+    pub fn kind(&self) -> &'static str {
         let bytes = match self {
             Call::Message { bytes, .. } => bytes,
-            other => return other.name().to_string(),
+            other => return other.name(),
         };
-        let kind = match (bytes.get(16), bytes.get(HEADER)) {
-            (_, _) if bytes.len() < HEADER => "under 23 bytes",
-            (Some(0x00), _) => "ping",
-            (Some(0x01), _) => "pong",
-            (Some(0x80), _) => "query",
-            (Some(0x81), _) => "hit",
-            (Some(0x30), Some(0)) => "RESET",
-            (Some(0x30), Some(1)) => "PATCH",
-            (Some(0x30), _) => "other update",
-            _ => "other type",
-        };
-        format!("message: {kind}")
+        match (bytes.get(16), bytes.get(HEADER)) {
+            _ if bytes.len() < HEADER => "message: under 23 bytes",
+            (Some(0x00), _) => "message: ping",
+            (Some(0x01), _) => "message: pong",
+            (Some(0x80), _) => "message: query",
+            (Some(0x81), _) => "message: hit",
+            (Some(0x30), Some(0)) => "message: RESET",
+            (Some(0x30), Some(1)) => "message: PATCH",
+            (Some(0x30), _) => "message: other update",
+            _ => "message: other type",
+        }
     }
 
     /// The area that is lent for output.

@@ -1,7 +1,7 @@
 //! A case: a start and a list of calls, and its text in a file.
 
 use crate::call::Call;
-use crate::convert::number_of;
+use crate::convert::{number_of, station_from_raw};
 use crate::field::{attempt, drop_runs, part, plain_runs, Area, Field};
 use lunozhar::raw::{Line, Pong, Station, Table, Tally};
 use std::fmt::Write;
@@ -218,6 +218,7 @@ impl Case {
                 None => case.start.read_more(line).ok_or(line)?,
             }
         }
+        station_from_raw(&case.start.station).ok_or("a count or next place that the reference cannot hold")?;
         Ok(case)
     }
 

@@ -8,11 +8,17 @@ use crate::side::{Outcome, Side};
 use lunozhar::raw::{Own, Station};
 use std::collections::BTreeMap;
 
+const NO_AREA: Area = Area { length: 0, seed: 0, top: 0 };
+/// The number of the messages of a round trip.
+const NUMBER: [u8; 16] = [0x5A; 16];
+/// Enough for a RESET, 255 PATCHes and 65,536 bytes of data.
+const WRITER_OUT: Area = Area { length: 29 + 255 * 28 + 65_536, seed: 1, top: 0 };
+
 /// How many calls of each kind, and of each answer, were made.
 #[derive(Clone, Debug, Default, PartialEq, Eq)]
 pub struct Counts {
     pub calls: u64,
-    pub kinds: BTreeMap<String, u64>,
+    pub kinds: BTreeMap<&'static str, u64>,
     pub answers: [u64; 19],
 }
 
@@ -100,12 +106,33 @@ impl<A: Side, B: Side> Runner<A, B> {
             .or_else(|| compare::areas("other route", &first.other, &second.other))
             .or_else(|| compare::tallies(&first.side.tally(), &second.side.tally()))
     }
-}
 
-const NO_AREA: Area = Area { length: 0, seed: 0, top: 0 };
-const NUMBER: [u8; 16] = [0x5A; 16];
-/// Enough for a RESET, 255 PATCHes and 65,536 bytes of data.
-const WRITER_OUT: Area = Area { length: 29 + 255 * 28 + 65_536, seed: 1, top: 0 };
+    /// Hands over messages that stand one behind the other, up to the first that is refused.
+    fn read(&mut self, line: u32, mut bytes: &[u8], counts: &mut Counts) -> Result<(), Difference> {
+        let own = Own { port: 0, address: [0; 4], files: 0, kilobytes: 0, calls: false };
+        let out = Area { length: 4119, seed: 2, top: 0 };
+        while !bytes.is_empty() {
+            self.step(&Call::Message { line, clock: 0, own, bytes: bytes.to_vec(), out, route: None }, counts)?;
+            match &self.first.outcome {
+                Outcome::Told(told) if told.answer == 0 => bytes = &bytes[told.used..],
+                _ => break,
+            }
+        }
+        Ok(())
+    }
+
+    /// Holds the line's table to this one, settled.
+    fn stands(&self, line: u32, entries: &[u8], infinity: u8) -> Result<(), Difference> {
+        let (station, line) = (self.station(), line as usize);
+        let table = station.lines[line].table;
+        let held = &self.route()[line * station.room..][..entries.len()];
+        if (table.mark, table.length as usize, table.infinity) == (3, entries.len(), infinity) && held == entries {
+            return Ok(());
+        }
+        let what = "the table that was written does not stand (both alike)".to_string();
+        Err(Difference { what, first: format!("{table:?}"), second: format!("length {} infinity {infinity}", entries.len()) })
+    }
+}
 
 /// Writes the call's tables one after the other and reads them on a station of its own.
 fn round_trip<A: Side, B: Side>(trip: &Call, counts: &mut Counts) -> Result<(), Difference> {
@@ -139,34 +166,6 @@ fn round_trip<A: Side, B: Side>(trip: &Call, counts: &mut Counts) -> Result<(), 
         runner.stands(line, new, infinity)?;
     }
     Ok(())
-}
-
-impl<A: Side, B: Side> Runner<A, B> {
-    /// Hands over messages that stand one behind the other, up to the first that is refused.
-    fn read(&mut self, line: u32, mut bytes: &[u8], counts: &mut Counts) -> Result<(), Difference> {
-        let own = Own { port: 0, address: [0; 4], files: 0, kilobytes: 0, calls: false };
-        let out = Area { length: 4119, seed: 2, top: 0 };
-        while !bytes.is_empty() {
-            self.step(&Call::Message { line, clock: 0, own, bytes: bytes.to_vec(), out, route: None }, counts)?;
-            match &self.first.outcome {
-                Outcome::Told(told) if told.answer == 0 => bytes = &bytes[told.used..],
-                _ => break,
-            }
-        }
-        Ok(())
-    }
-
-    /// Holds the line's table to this one, settled.
-    fn stands(&self, line: u32, entries: &[u8], infinity: u8) -> Result<(), Difference> {
-        let (station, line) = (self.station(), line as usize);
-        let table = station.lines[line].table;
-        let held = &self.route()[line * station.room..][..entries.len()];
-        if (table.mark, table.length as usize, table.infinity) == (3, entries.len(), infinity) && held == entries {
-            return Ok(());
-        }
-        let what = "the table that was written does not stand (both alike)".to_string();
-        Err(Difference { what, first: format!("{table:?}"), second: format!("length {} infinity {infinity}", entries.len()) })
-    }
 }
 
 /// Runs a whole case: the first difference and the number of the call it is at, from 0.

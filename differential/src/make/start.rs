@@ -5,7 +5,7 @@ use crate::field::Area;
 use crate::random::Random;
 use lunozhar::raw::{Line, Pong, Station, Table, Tally};
 
-/// Most room in a table that a start makes.
+/// The lengths that a table may have.
 const LENGTHS: [u32; 15] = [4, 8, 16, 32, 64, 128, 256, 512, 1024, 2048, 4096, 8192, 16384, 32768, 65536];
 
 /// A route area: mostly small, also too short, seldom the largest that tables can use.
@@ -27,7 +27,7 @@ pub fn fresh_route(random: &mut Random) -> Area {
     Area { length, ..given }
 }
 
-/// The lengths that a table may have in this room.
+/// Those of them that fit a room.
 pub fn lengths(room: usize) -> &'static [u32] {
     let fit = LENGTHS.iter().take_while(|&&length| length as usize <= room).count();
     &LENGTHS[..fit]
