@@ -21,7 +21,7 @@ mod side;
 use case::Case;
 use make::Maker;
 use proved::Proved;
-use run::{run, Counts, Runner};
+use run::{run, Count, Counts, Runner};
 use second::Reference;
 use std::process::ExitCode;
 use std::time::Instant;
@@ -30,7 +30,7 @@ use std::{env, fs, panic};
 /// Makes cases and runs them until so many calls are done; the case of the first disagreement if there is one.
 fn compare(calls: u64, seed: u64, counts: &mut Counts) -> Option<Case> {
     for at in 0.. {
-        if counts.calls >= calls {
+        if counts.all.calls >= calls {
             break;
         }
         let mut maker = Maker::of_case(seed, at);
@@ -53,12 +53,16 @@ fn report(case: &Case) -> Option<String> {
     Some(format!("{about}#   proved    {}\n#   reference {}\n{}", difference.first, difference.second, case.text()))
 }
 
+/// A line for each kind of call: how many, and how often each number was answered.
 fn print_counts(counts: &Counts) {
-    for (kind, times) in &counts.kinds {
-        println!("{times:>10} {kind}");
-    }
-    let answers: Vec<String> = counts.answers.iter().enumerate().map(|(answer, times)| format!("{answer}: {times}")).collect();
-    println!("answers {}", answers.join(", "));
+    let print = |kind: &str, count: &Count| {
+        let met = count.answers.iter().enumerate().filter(|(_, times)| **times > 0);
+        let answers: String = met.map(|(answer, times)| format!(" {answer}:{times}")).collect();
+        println!("{:>10} {kind:<24}{answers}", count.calls);
+    };
+    println!("     calls kind                     answer:times ..");
+    counts.kinds.iter().for_each(|(kind, count)| print(kind, count));
+    print("all", &counts.all);
 }
 
 fn random_calls(calls: u64, seed: u64) -> ExitCode {
@@ -68,7 +72,7 @@ fn random_calls(calls: u64, seed: u64) -> ExitCode {
     print_counts(&counts);
     let case = match found {
         None => {
-            println!("{} calls agree, seed {seed}, {:.1} s", counts.calls, began.elapsed().as_secs_f64());
+            println!("{} calls agree, seed {seed}, {:.1} s", counts.all.calls, began.elapsed().as_secs_f64());
             return ExitCode::SUCCESS;
         }
         Some(case) => case,

@@ -14,21 +14,33 @@ const NUMBER: [u8; 16] = [0x5A; 16];
 /// Enough for a RESET, 255 PATCHes and 65,536 bytes of data.
 const WRITER_OUT: Area = Area { length: 29 + 255 * 28 + 65_536, seed: 1, top: 0 };
 
-/// How many calls of each kind, and of each answer, were made.
+/// How many calls were made, and how often each number was answered.
+#[derive(Clone, Debug, Default, PartialEq, Eq)]
+pub struct Count {
+    pub calls: u64,
+    pub answers: [u64; 19],
+}
+
+impl Count {
+    fn count(&mut self, outcome: &Outcome) {
+        self.calls += 1;
+        if let Some(times) = outcome.answer().and_then(|answer| self.answers.get_mut(usize::from(answer))) {
+            *times += 1;
+        }
+    }
+}
+
+/// The count of all calls, and of each kind.
 #[derive(Clone, Debug, Default, PartialEq, Eq)]
 pub struct Counts {
-    pub calls: u64,
-    pub kinds: BTreeMap<&'static str, u64>,
-    pub answers: [u64; 19],
+    pub all: Count,
+    pub kinds: BTreeMap<&'static str, Count>,
 }
 
 impl Counts {
     fn count(&mut self, call: &Call, outcome: &Outcome) {
-        self.calls += 1;
-        *self.kinds.entry(call.kind()).or_default() += 1;
-        if let Some(count) = outcome.answer().and_then(|answer| self.answers.get_mut(usize::from(answer))) {
-            *count += 1;
-        }
+        self.all.count(outcome);
+        self.kinds.entry(call.kind()).or_default().count(outcome);
     }
 }
 
@@ -193,7 +205,7 @@ mod tests {
         let Case { start, calls } = trip(4);
         assert_eq!(Runner::<Reference, Reference>::begin(&start).step(&calls[0], &mut counts), Ok(()));
         // The trip, an opening, two calls of the writer, and the messages: a RESET, four PATCHes of 8 bits, two of 4 bits.
-        assert_eq!((counts.calls, counts.answers[0]), (11, 10));
+        assert_eq!((counts.all.calls, counts.all.answers[0]), (11, 10));
         assert_eq!(run::<Reference, Reference>(&trip(3)), None);
     }
 

@@ -32,7 +32,12 @@ fn read_field(random: &mut Random) -> Call {
         0 => Vec::new(),
         1 => b"A:".to_vec(),
         2 => b"absent".to_vec(),
-        _ => random.pick(&NAMES).to_vec(),
+        3..=5 => random.pick(&NAMES).to_vec(),
+        _ => {
+            let any = random.below(NAMES.len());
+            let there = |name: &&&[u8]| handshake::field(&bytes, name, &mut [0; 4096]).answer == 0;
+            NAMES[any..].iter().chain(&NAMES[..any]).find(there).unwrap_or(&NAMES[any]).to_vec()
+        }
     };
     let need = handshake::field(&bytes, &name, &mut [0; 4096]).written;
     Call::ReadField { bytes, name, value: around(random, need) }
@@ -150,7 +155,7 @@ pub fn group(random: &mut Random) -> Vec<u8> {
     for _ in 0..random.below(6) {
         field(random, &mut bytes);
     }
-    if random.one_in(4) && bytes.len() < 4_000 {
+    if random.one_in(5) && bytes.len() < 4_000 {
         // The group's end stands around its 4,096th byte.
         let end = random.pick(&[4_095, 4_096, 4_097, 4_098, 5_000, 5_000]);
         bytes.extend(b"Long: ");

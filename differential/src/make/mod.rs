@@ -170,11 +170,11 @@ mod tests {
     /// A generator that never meets an answer is a poor one.
     #[test]
     fn every_answer_is_met() {
-        let counts = counted(1_000);
-        for (answer, times) in counts.answers.iter().enumerate() {
-            assert!(times * 20_000 > 100 * counts.calls, "answer {answer}: {times} of {}", counts.calls);
+        let Counts { all, kinds } = counted(1_000);
+        for (answer, times) in all.answers.iter().enumerate() {
+            assert!(times * 20_000 > 100 * all.calls, "answer {answer}: {times} of {}", all.calls);
         }
-        assert!(counts.kinds.len() >= 24, "{:?}", counts.kinds);
+        assert!(kinds.len() >= 24, "{kinds:?}");
     }
 
     #[test]
