@@ -115,7 +115,7 @@ pub fn calls(line: u32, clock: u32, messages: Vec<Vec<u8>>) -> Vec<Call> {
 /// A greeting with ten fields, as a neighbour sends it.
 pub fn group() -> Vec<u8> {
     let fields = [
-        "User-Agent: Example/1.2.3 (x86-64; en)",
+        "User-Agent: Example/1.2.3 (a servent of the examples; x86-64; en)",
         "Listen-IP: 203.0.113.7:6346",
         "Remote-IP: 198.51.100.24",
         "X-Ultrapeer: True",
@@ -123,7 +123,7 @@ pub fn group() -> Vec<u8> {
         "X-Ultrapeer-Query-Routing: 0.1",
         "X-Max-TTL: 3",
         "Pong-Caching: 0.1",
-        "X-Try: 203.0.113.9:6346,198.51.100.77:6347, 192.0.2.15:6346",
+        "X-Try: 203.0.113.9:6346,198.51.100.77:6347, 192.0.2.15:6346, 192.0.2.201:27015, 192.0.2.9:63460",
         "Accept-Language: en, de;q=0.8, fr;q=0.5, es;q=0.3",
     ];
     format!("GNUTELLA CONNECT/0.6\r\n{}\r\n\r\n", fields.join("\r\n")).into_bytes()

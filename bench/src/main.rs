@@ -1,4 +1,7 @@
 //! Timings and sizes of the proved core beside the reference, on the same inputs, as tables in markdown.
+//!
+//! `bench` takes a few minutes. `bench --quick` only sees that the two agree and that everything runs. `bench WORD` has the rows with that
+//! word in their names.
 
 mod growth;
 mod inputs;
@@ -16,26 +19,33 @@ fn print_head(title: &str) {
     println!("\n## {title}\n\n| name | proved ns | reference ns | ratio |\n|---|---:|---:|---:|");
 }
 
-fn print_row(row: &Row) {
+fn print_row(row: Row) {
     let Row { name, proved, reference } = row;
     println!("| {name} | {proved:.1} | {reference:.1} | {:.2} |", proved / reference);
 }
 
 fn main() {
-    let quick = env::args().any(|argument| argument == "--quick");
-    let effort = if quick { Effort::QUICK } else { Effort::FULL };
+    let (flags, words): (Vec<_>, Vec<_>) = env::args().skip(1).partition(|argument| argument.starts_with("--"));
+    let effort = if flags.iter().any(|flag| flag == "--quick") { Effort::QUICK } else { Effort::FULL };
+    let wanted = |name: &str| words.iter().all(|word| name.contains(word));
     let mut areas = Areas::new();
     print_head("Calls");
     for session in rows::sessions() {
-        print_row(&session.row(effort, &mut areas));
+        if wanted(&session.name) {
+            print_row(session.row(effort, &mut areas));
+        }
     }
-    for row in rows::functions(effort, &mut areas) {
-        print_row(&row);
+    for (name, measure) in rows::FUNCTIONS {
+        if wanted(name) {
+            print_row(measure(name, effort, &mut areas));
+        }
     }
     print_head("How cost grows");
     for list in [growth::payloads(), growth::keywords(), growth::entries(), growth::remembered()] {
         for session in list {
-            print_row(&session.row(effort, &mut areas));
+            if wanted(&session.name) {
+                print_row(session.row(effort, &mut areas));
+            }
         }
     }
 }

@@ -110,53 +110,59 @@ pub fn sessions() -> Vec<Session> {
     vec![mixed(), passing(), repeat(), passed_back(), pings(), resets(), four, eight]
 }
 
-fn in_order(effort: Effort, areas: &mut Areas) -> Row {
+fn in_order(name: &str, effort: Effort, areas: &mut Areas) -> Row {
     let mut world = world(5, ROOM);
-    let setup = Session { name: "in order, 512 remembered".into(), setup: world.warm(), calls: vec![], units: 1 };
-    let (proved, reference) = (setup.started::<Proved>(areas), setup.started::<Reference>(areas));
+    let session = Session { name: name.into(), setup: world.warm(), calls: vec![], units: 1 };
+    let (proved, reference) = (session.started::<Proved>(areas), session.started::<Reference>(areas));
     assert!(proved.in_order() && reference.in_order());
-    repeated(&setup.name, effort, &mut (), |_| black_box(&proved).in_order(), |_| black_box(&reference).in_order())
+    repeated(name, effort, &mut (), |_| black_box(&proved).in_order(), |_| black_box(&reference).in_order())
 }
 
-fn hash(effort: Effort, length: usize) -> Row {
-    let name = Random(6).word(length);
-    assert_eq!(Proved::hash(&name), Reference::hash(&name));
-    let row = format!("hash of {length} bytes");
-    repeated(&row, effort, &mut (), |_| Proved::hash(black_box(&name)), |_| Reference::hash(black_box(&name)))
+fn hash(name: &str, effort: Effort, length: usize) -> Row {
+    let word = Random(6).word(length);
+    assert_eq!(Proved::hash(&word), Reference::hash(&word));
+    repeated(name, effort, &mut (), |_| Proved::hash(black_box(&word)), |_| Reference::hash(black_box(&word)))
 }
 
-fn writer(effort: Effort, bits: u8) -> Row {
-    let tables = inputs::writing(&mut Random(7), ROOM, if bits == 4 { INFINITY } else { 100 });
+fn writer(name: &str, effort: Effort, bits: u8, infinity: u8) -> Row {
+    let tables = inputs::writing(&mut Random(7), ROOM, infinity);
     let mut out = vec![0; 2 * ROOM];
     let one = Proved::write_table(&tables, &mut out);
     let bytes = std::mem::replace(&mut out, vec![0; 2 * ROOM]);
     let two = Reference::write_table(&tables, &mut out);
     assert!(one == two && bytes == out && one.0 == 0 && bytes[27] == bits, "the bytes written are equal");
-    let row = format!("table writer, 65,536 entries, {bits} bits");
     let proved = |out: &mut Vec<u8>| Proved::write_table(black_box(&tables), out);
-    repeated(&row, effort, &mut out, proved, |out| Reference::write_table(black_box(&tables), out))
+    repeated(name, effort, &mut out, proved, |out| Reference::write_table(black_box(&tables), out))
 }
 
-fn group(effort: Effort) -> Row {
+fn group(name: &str, effort: Effort) -> Row {
     let group = inputs::group();
+    assert_eq!(group.len(), 400);
     assert_eq!(Proved::read_group(&group), Reference::read_group(&group));
     assert_eq!(Proved::read_group(&group).answer, 0);
-    let row = format!("handshake group read, {} bytes", group.len());
-    repeated(&row, effort, &mut (), |_| Proved::read_group(black_box(&group)), |_| Reference::read_group(black_box(&group)))
+    repeated(name, effort, &mut (), |_| Proved::read_group(black_box(&group)), |_| Reference::read_group(black_box(&group)))
 }
 
-fn field(effort: Effort) -> Row {
-    let (group, name) = (inputs::group(), b"x-try");
+fn field(name: &str, effort: Effort) -> Row {
+    let (group, asked) = (inputs::group(), b"x-try");
     let mut out = vec![0; 256];
-    let one = Proved::read_field(&group, name, &mut out);
+    let one = Proved::read_field(&group, asked, &mut out);
     let bytes = std::mem::replace(&mut out, vec![0; 256]);
-    let two = Reference::read_field(&group, name, &mut out);
+    let two = Reference::read_field(&group, asked, &mut out);
     assert!(one == two && bytes == out && one.0 == 0, "the values are equal");
-    let proved = |out: &mut Vec<u8>| Proved::read_field(black_box(&group), black_box(name), out);
-    repeated("handshake field asked for", effort, &mut out, proved, |out| Reference::read_field(black_box(&group), black_box(name), out))
+    let proved = |out: &mut Vec<u8>| Proved::read_field(black_box(&group), black_box(asked), out);
+    repeated(name, effort, &mut out, proved, |out| Reference::read_field(black_box(&group), black_box(asked), out))
 }
 
-/// Rows of the other functions.
-pub fn functions(effort: Effort, areas: &mut Areas) -> Vec<Row> {
-    vec![in_order(effort, areas), writer(effort, 4), writer(effort, 8), hash(effort, 8), hash(effort, 200), group(effort), field(effort)]
-}
+type Function = fn(&str, Effort, &mut Areas) -> Row;
+
+/// Rows of the other functions, with what measures each.
+pub const FUNCTIONS: [(&str, Function); 7] = [
+    ("in order, 512 remembered", in_order),
+    ("table writer, 65,536 entries, 4 bits", |name, effort, _| writer(name, effort, 4, INFINITY)),
+    ("table writer, 65,536 entries, 8 bits", |name, effort, _| writer(name, effort, 8, 100)),
+    ("hash of 8 bytes", |name, effort, _| hash(name, effort, 8)),
+    ("hash of 200 bytes", |name, effort, _| hash(name, effort, 200)),
+    ("handshake group of 400 bytes read", |name, effort, _| group(name, effort)),
+    ("handshake field asked for", |name, effort, _| field(name, effort)),
+];

@@ -72,12 +72,6 @@ impl Session {
             by_turns(effort, areas, |areas| round(&mut first, &proved, self, areas), |areas| round(&mut second, &reference, self, areas));
         row(&self.name, times, self.units as f64)
     }
-
-    /// The answers that the list gets, for the checks of the rows.
-    pub fn answers(&self, areas: &mut Areas) -> Vec<u8> {
-        let side: Reference = self.started(areas);
-        outcomes(&side, self, areas).iter().map(|(outcome, _)| outcome.answer).collect()
-    }
 }
 
 /// What set-ups have in common: the keywords that are near, the numbers remembered, the tables of the lines.
