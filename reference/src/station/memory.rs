@@ -4,7 +4,7 @@
 //! that a random number has at random, and only where both are marked already are the kept numbers looked through. The marks then say of
 //! most new numbers that they are not remembered, with no look either.
 
-use super::{Line, State, GONE, HERE, LINES, MEMORY};
+use super::{kept, Line, State, GONE, HERE, LINES, MEMORY};
 use std::ops::Range;
 
 const MARKS: usize = 16_384;
@@ -55,12 +55,10 @@ fn fitting(lines: &[Line; LINES]) -> [bool; 256] {
 }
 
 impl State {
-    /// The kept places, going round: those at the end of the memory, if any, and those before `next`. The ring is in order.
+    /// The kept places, the oldest first.
     #[inline]
     fn kept(&self) -> [Range<usize>; 2] {
-        let (count, next) = (usize::from(self.count), usize::from(self.next));
-        let before = count.min(next);
-        [MEMORY - (count - before)..MEMORY, next - before..next]
+        kept(usize::from(self.count), usize::from(self.next), MEMORY)
     }
 
     /// Whether the state is in order; if so, the kept numbers are marked.
@@ -72,9 +70,10 @@ impl State {
         let fitting = fitting(&self.lines);
         let mut fit = true;
         for places in self.kept() {
-            for (number, asker) in self.numbers[places.clone()].iter().zip(&self.askers[places]) {
+            let queries = self.numbers[places.clone()].iter().zip(&self.askers[places.clone()]);
+            for (place, (number, asker)) in places.zip(queries) {
                 let low = low_half(number);
-                if marks.maybe(low) && self.times(number) > 1 {
+                if marks.maybe(low) && self.place_of(number) != Some(place) {
                     return false;
                 }
                 marks.mark(low);
@@ -84,21 +83,25 @@ impl State {
         fit
     }
 
-    /// How often a number is kept.
-    #[cold]
-    fn times(&self, number: &[u8; 16]) -> usize {
-        self.kept().into_iter().map(|places| self.numbers[places].iter().filter(|kept| *kept == number).count()).sum()
+    /// The first kept place of a number, from the oldest on.
+    #[inline(never)]
+    fn place_of(&self, number: &[u8; 16]) -> Option<usize> {
+        let among = |places: Range<usize>| {
+            let at = self.numbers[places.clone()].iter().position(|kept| kept == number)?;
+            Some(places.start + at)
+        };
+        let [older, newer] = self.kept();
+        among(older).or_else(|| among(newer))
     }
 
     /// The kept place of a number, given the marks of the kept numbers.
     #[inline]
     pub(super) fn find(&self, marks: &Marks, number: &[u8; 16]) -> Option<usize> {
-        if !marks.maybe(low_half(number)) {
-            return None;
+        if marks.maybe(low_half(number)) {
+            self.place_of(number)
+        } else {
+            None
         }
-        let among = |places: Range<usize>| self.numbers[places.clone()].iter().position(|kept| kept == number).map(|at| places.start + at);
-        let [older, newer] = self.kept();
-        among(newer).or_else(|| among(older))
     }
 
     /// Remembers a query; the oldest of 512 makes way.

@@ -11,6 +11,7 @@ use crate::header::{self, Header, HIT, PING, PONG, QUERY, UPDATE};
 use crate::keywords::keywords;
 use crate::table::{self, Table};
 use memory::Marks;
+use std::ops::Range;
 
 /// Lines of a station.
 pub const LINES: usize = 8;
@@ -136,11 +137,19 @@ impl Line {
     }
 
     fn in_order(&self, room: usize) -> bool {
-        let ring = usize::from(self.pong_count) <= PONGS && usize::from(self.pong_next) < PONGS;
-        ring && (0..PONGS).all(|rank| self.pong(rank).map_or(true, |pong| pong.hops <= REACH))
-            && (self.open || (self.table.mark == table::NONE && self.pong_count == 0 && !self.pinged))
+        let (count, next) = (usize::from(self.pong_count), usize::from(self.pong_next));
+        let ring = count <= PONGS && next < PONGS;
+        ring && kept(count, next, PONGS).into_iter().all(|places| self.pongs[places].iter().all(|pong| pong.hops <= REACH))
+            && (self.open || (self.table.mark == table::NONE && count == 0 && !self.pinged))
             && table_in_order(&self.table, room)
     }
+}
+
+/// The kept places of a ring: those at its end, if any are kept there, and those before `next`. The ring is in order.
+#[inline]
+fn kept(count: usize, next: usize, capacity: usize) -> [Range<usize>; 2] {
+    let before = count.min(next);
+    [capacity - (count - before)..capacity, next - before..next]
 }
 
 fn table_in_order(table: &Table, room: usize) -> bool {
@@ -359,7 +368,7 @@ impl State {
         if ttl == 0 || ttl > QUERY_TTL || hops >= REACH {
             return Err(8);
         }
-        if self.find(&marks, number).is_some() {
+        if self.find(marks, number).is_some() {
             return Err(9);
         }
         if hops == 255 {
