@@ -10,9 +10,11 @@ mod proved;
 mod rows;
 mod sessions;
 mod sides;
+mod sizes;
 
 use measure::{Effort, Row};
 use sides::Areas;
+use sizes::Size;
 use std::env;
 
 fn print_head(title: &str) {
@@ -24,7 +26,19 @@ fn print_row(row: Row) {
     println!("| {name} | {proved:.1} | {reference:.1} | {:.2} |", proved / reference);
 }
 
+fn print_sizes() {
+    println!("\n## Sizes\n\n| name | proved bytes | reference bytes | ratio |\n|---|---:|---:|---:|");
+    for Size { name, proved, reference } in sizes::sizes().expect("the programs stand beside this one") {
+        println!("| {name} | {proved} | {reference} | {:.2} |", proved as f64 / reference as f64);
+    }
+}
+
 fn main() {
+    if let [flag, side, levels] = &env::args().skip(1).collect::<Vec<_>>()[..] {
+        if flag == "--stack" {
+            return sizes::try_stack(side, levels);
+        }
+    }
     let (flags, words): (Vec<_>, Vec<_>) = env::args().skip(1).partition(|argument| argument.starts_with("--"));
     let effort = if flags.iter().any(|flag| flag == "--quick") { Effort::QUICK } else { Effort::FULL };
     let wanted = |name: &str| words.iter().all(|word| name.contains(word));
@@ -47,5 +61,8 @@ fn main() {
                 print_row(session.row(effort, &mut areas));
             }
         }
+    }
+    if words.is_empty() {
+        print_sizes();
     }
 }

@@ -31,7 +31,7 @@ fn text(random: &mut Random, words: &[Vec<u8>]) -> Vec<u8> {
 }
 
 /// 40% queries, 20% hits, 15% pings, 15% pongs, 10% updates: two times a RESET and a run of nine PATCHes for a table of 65,536 entries.
-fn mixed() -> Session {
+pub fn mixed() -> Session {
     let mut world = world(1, ROOM);
     let setup = world.warm();
     let World { mut random, words, kept, tables } = world;
