@@ -86,8 +86,9 @@ impl State {
     /// The first kept place of a number, from the oldest on.
     #[inline(never)]
     fn place_of(&self, number: &[u8; 16]) -> Option<usize> {
+        let low = low_half(number);
         let among = |places: Range<usize>| {
-            let at = self.numbers[places.clone()].iter().position(|kept| kept == number)?;
+            let at = self.numbers[places.clone()].iter().position(|kept| low_half(kept) == low && kept == number)?;
             Some(places.start + at)
         };
         let [older, newer] = self.kept();
