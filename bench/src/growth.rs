@@ -14,7 +14,7 @@ fn queries(name: String, keywords: Vec<Vec<u8>>) -> Session {
     let mut world = World::new(11, ROOM, keywords);
     let setup = world.warm();
     let list = (0..LIST).map(|_| inputs::query(world.random.number(), 5, 1, &text)).collect();
-    Session { name, setup, calls: calls(0, CLOCK, list), units: LIST }
+    Session { name, setup, calls: calls(0, CLOCK, list), expected: |outcome| outcome.to.count_ones() >= 5, units: LIST }
 }
 
 /// A query of one keyword that gets longer.
@@ -41,7 +41,8 @@ pub fn remembered() -> Vec<Session> {
         let mut world = rows::world(14, 1_024);
         let setup = world.remembered(kept);
         let list = (0..LIST).map(|_| inputs::hit(world.random.number(), 5, 1, 100)).collect();
-        Session { name: format!("hit of no query (10), {kept} remembered"), setup, calls: calls(0, CLOCK, list), units: LIST }
+        let name = format!("hit of no query (10), {kept} remembered");
+        Session { name, setup, calls: calls(0, CLOCK, list), expected: |outcome| outcome.answer == 10, units: LIST }
     };
     [0, MEMORY / 8, MEMORY / 4, MEMORY / 2, MEMORY].map(unknown).into()
 }

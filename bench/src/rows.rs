@@ -4,7 +4,7 @@ use crate::inputs::{self, calls, Random};
 use crate::measure::{repeated, Effort, Row};
 use crate::proved::Proved;
 use crate::sessions::{Session, World, CLOCK, INFINITY, MEMORY};
-use crate::sides::{Areas, Call, Reference, Side, ROOM};
+use crate::sides::{Areas, Call, Outcome, Reference, Side, ROOM};
 use std::hint::black_box;
 
 /// Calls in a list of like messages.
@@ -57,27 +57,30 @@ pub fn mixed() -> Session {
         };
         list.push(Call { line, clock: CLOCK + 60 * index as u32, bytes });
     }
-    Session { name: "message, mixed list".into(), setup, units: list.len(), calls: list }
+    Session { name: "message, mixed list".into(), setup, units: list.len(), calls: list, expected: |_| true }
 }
 
 /// A list of messages of line 0 to a warm station.
-fn warm(name: &str, make: impl Fn(&mut World, usize) -> Vec<u8>) -> Session {
+fn warm(name: &str, expected: fn(&Outcome) -> bool, make: impl Fn(&mut World, usize) -> Vec<u8>) -> Session {
     let mut world = world(2, ROOM);
     let setup = world.warm();
     let list = (0..LIST).map(|index| make(&mut world, index)).collect();
-    Session { name: name.into(), setup, calls: calls(0, CLOCK, list), units: LIST }
+    Session { name: name.into(), setup, calls: calls(0, CLOCK, list), expected, units: LIST }
 }
 
 fn passing() -> Session {
-    warm("query to eight lines, passed to five", |world, _| inputs::query(world.random.number(), 5, 1, &world.words[..3].join(&b' ')))
+    let five = |outcome: &Outcome| outcome.answer == 0 && outcome.to.count_ones() == 5;
+    warm("query to eight lines, passed to five", five, |world, _| inputs::query(world.random.number(), 5, 1, &world.words[..3].join(&b' ')))
 }
 
 fn repeat() -> Session {
-    warm("query remembered (9)", |world, index| inputs::query(world.kept[index * 8], 5, 1, &world.words[..3].join(&b' ')))
+    let remembered = |outcome: &Outcome| outcome.answer == 9;
+    warm("query remembered (9)", remembered, |world, index| inputs::query(world.kept[index * 8], 5, 1, &world.words[..3].join(&b' ')))
 }
 
 fn passed_back() -> Session {
-    warm("hit passed back", |world, index| inputs::hit(world.kept[index * 8], 5, 1, HIT))
+    let sent = |outcome: &Outcome| outcome.answer == 0 && outcome.to.count_ones() == 1;
+    warm("hit passed back", sent, |world, index| inputs::hit(world.kept[index * 8], 5, 1, HIT))
 }
 
 /// Fourteen pings of each line, a second apart, while the stored pongs are fresh.
@@ -85,11 +88,12 @@ fn pings() -> Session {
     let mut world = world(3, ROOM);
     let setup = world.warm();
     let ping = |index: u32| Call { line: index % 8, clock: CLOCK + 1_000 * (index / 8), bytes: inputs::ping([index as u8; 16], 7, 2) };
-    Session { name: "ping, 80 pongs stored".into(), setup, calls: (0..112).map(ping).collect(), units: 112 }
+    let eleven = |outcome: &Outcome| outcome.answer == 0 && outcome.written == 11 * 37;
+    Session { name: "ping, 80 pongs stored".into(), setup, calls: (0..112).map(ping).collect(), expected: eleven, units: 112 }
 }
 
 fn resets() -> Session {
-    warm("RESET of 65,536 entries", |_, _| inputs::reset([7; 16], ROOM, INFINITY))
+    warm("RESET of 65,536 entries", |outcome| outcome.answer == 0, |_, _| inputs::reset([7; 16], ROOM, INFINITY))
 }
 
 /// Two whole runs, from one table to another and back.
@@ -100,7 +104,7 @@ pub fn run(name: &str, entries: usize, infinity: u8) -> Session {
     setup.extend(calls(0, CLOCK, inputs::updates(tables.number, None, &tables.old, infinity)));
     let mut list = inputs::updates(tables.number, Some(&tables.old), &tables.new, infinity);
     list.extend(inputs::updates(tables.number, Some(&tables.new), &tables.old, infinity));
-    Session { name: name.into(), setup, calls: calls(0, CLOCK, list), units: 2 }
+    Session { name: name.into(), setup, calls: calls(0, CLOCK, list), expected: |outcome| outcome.answer == 0, units: 2 }
 }
 
 /// Rows of message calls.
@@ -112,7 +116,7 @@ pub fn sessions() -> Vec<Session> {
 
 fn in_order(name: &str, effort: Effort, areas: &mut Areas) -> Row {
     let mut world = world(5, ROOM);
-    let session = Session { name: name.into(), setup: world.warm(), calls: vec![], units: 1 };
+    let session = Session { name: name.into(), setup: world.warm(), calls: vec![], expected: |_| true, units: 1 };
     let (proved, reference) = (session.started::<Proved>(areas), session.started::<Reference>(areas));
     assert!(proved.in_order() && reference.in_order());
     repeated(name, effort, &mut (), |_| black_box(&proved).in_order(), |_| black_box(&reference).in_order())

@@ -15,11 +15,12 @@ pub const INFINITY: u8 = 7;
 /// The clock when the set-up is done.
 pub const CLOCK: u32 = 100_000;
 
-/// What is timed: a set-up, a list of messages, and how many units of work the list is.
+/// What is timed: a set-up, a list of messages, what each is to come to, and how many units of work the list is.
 pub struct Session {
     pub name: String,
     pub setup: Vec<Call>,
     pub calls: Vec<Call>,
+    pub expected: fn(&Outcome) -> bool,
     pub units: usize,
 }
 
@@ -66,6 +67,7 @@ impl Session {
         let route = areas.route.clone();
         let two = outcomes(&reference, self, areas);
         assert_eq!(one, two, "{}: the outcomes are equal", self.name);
+        assert!(one.iter().all(|(outcome, _)| (self.expected)(outcome)), "{}: the outcomes are what the row says", self.name);
         assert!(route == areas.route, "{}: the tables are equal", self.name);
         let (mut first, mut second) = (proved.clone(), reference.clone());
         let times =
