@@ -13,7 +13,7 @@ fn queries(name: String, keywords: Vec<Vec<u8>>) -> Session {
     let text = keywords.join(&b' ');
     let mut world = World::new(11, ROOM, keywords);
     let setup = world.warm();
-    let list = (0..LIST).map(|_| inputs::query(world.random.number(), 5, 1, &text)).collect();
+    let list = (0..LIST).map(|_| inputs::query(world.numbers.number(), 5, 1, &text)).collect();
     Session { name, setup, calls: calls(0, CLOCK, list), expected: |outcome| outcome.to.count_ones() >= 5, units: LIST }
 }
 

@@ -34,8 +34,8 @@ fn text(random: &mut Random, words: &[Vec<u8>]) -> Vec<u8> {
 pub fn mixed() -> Session {
     let mut world = world(1, ROOM);
     let setup = world.warm();
-    let World { mut random, words, kept, tables } = world;
-    let mut numbers: Vec<[u8; 16]> = kept[MEMORY / 2..].to_vec();
+    let World { mut random, mut numbers, words, kept, tables } = world;
+    let mut asked: Vec<[u8; 16]> = kept[MEMORY / 2..].to_vec();
     let update =
         |line: u32| inputs::updates([line as u8; 16], None, &tables[line as usize], INFINITY).into_iter().map(move |bytes| (line, bytes));
     let mut updates = update(4).chain(update(5)).collect::<Vec<_>>().into_iter();
@@ -45,11 +45,11 @@ pub fn mixed() -> Session {
         // Kinds in each twenty messages: eight queries, four hits, three pings, three pongs, two updates.
         let (line, bytes) = match index * 7 % 20 {
             0..=7 => {
-                let number = random.number();
-                numbers.push(number);
+                let number = numbers.number();
+                asked.push(number);
                 (line, inputs::query(number, 7 - hops, hops, &text(&mut random, &words)))
             }
-            8..=11 => (line, inputs::hit(numbers[random.below(numbers.len())], 5, hops, HIT)),
+            8..=11 => (line, inputs::hit(asked[random.below(asked.len())], 5, hops, HIT)),
             12 => (line, inputs::ping(random.number(), 1, 0)),
             13 | 14 => (line, inputs::ping(random.number(), 7 - hops, hops)),
             15..=17 => (line, inputs::pong(random.number(), 3, hops, [index as u8; 14])),
@@ -70,7 +70,9 @@ fn warm(name: &str, expected: fn(&Outcome) -> bool, make: impl Fn(&mut World, us
 
 fn passing() -> Session {
     let five = |outcome: &Outcome| outcome.answer == 0 && outcome.to.count_ones() == 5;
-    warm("query to eight lines, passed to five", five, |world, _| inputs::query(world.random.number(), 5, 1, &world.words[..3].join(&b' ')))
+    warm("query to eight lines, passed to five", five, |world, _| {
+        inputs::query(world.numbers.number(), 5, 1, &world.words[..3].join(&b' '))
+    })
 }
 
 fn repeat() -> Session {

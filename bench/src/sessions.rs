@@ -76,28 +76,29 @@ impl Session {
     }
 }
 
-/// What set-ups have in common: the keywords that are near, the numbers remembered, the tables of the lines.
+/// What set-ups have in common: the numbers of new queries, the keywords that are near, the numbers remembered, the tables of the lines.
 pub struct World {
     pub random: Random,
+    pub numbers: Random,
     pub words: Vec<Vec<u8>>,
     pub kept: Vec<[u8; 16]>,
     pub tables: Vec<Vec<u8>>,
 }
 
-/// The seed of the remembered numbers. With these a test in order looks through 273 numbers in vain, since the 274th has both its marks from
-/// others; with random numbers it looks through 249 on average.
-const KEPT: u64 = 27;
+/// The seed of the numbers of queries, remembered and new. A test in order looks through the kept numbers where a number has both its marks from
+/// others: with random numbers through 249 of 512 on average, with these and up to 80 new ones through 282 to 202.
+const NUMBERS: u64 = 157;
 /// Lines whose tables know none of the keywords, so that they withhold most queries.
 const STRANGERS: [usize; 2] = [3, 6];
 
 impl World {
     /// Tables of so many entries in which these keywords are near, but for two lines.
     pub fn new(seed: u64, entries: usize, words: Vec<Vec<u8>>) -> World {
-        let (mut random, mut numbers) = (Random(seed), Random(KEPT));
+        let (mut random, mut numbers) = (Random(seed), Random(NUMBERS));
         let kept = (0..MEMORY).map(|_| numbers.number()).collect();
         let mut table = |line| inputs::table(&mut random, entries, INFINITY, if STRANGERS.contains(&line) { &[] } else { &words });
         let tables = (0..LINES as usize).map(&mut table).collect();
-        World { random, words, kept, tables }
+        World { random, numbers, words, kept, tables }
     }
 
     /// The first `kept` numbers are remembered. They were asked by all lines but line 0 by turns.
