@@ -1,10 +1,13 @@
-/* The proved core of a Gnutella 0.6 station, for C.
+/* The proved core of a Gnutella 0.6 station, for C11 and C++11 on x86-64.
  *
- * Link target/staticlib/liblunozhar.a (`rt staticlib lunozhar`). Nothing here allocates, starts a thread, keeps a pointer or has a
- * state of its own: everything is in the structs and areas that the caller lends for the length of a call. Areas that are lent to one
- * call must not overlap, and a pointer must not be null, even where its length is 0.
+ * Link target/staticlib/liblunozhar.a, which `rt staticlib lunozhar` proves and writes. Nothing here allocates, starts a thread, keeps a
+ * pointer or has a state of its own: everything is in the structs and areas that the caller lends for the length of a call.
  *
- * Every function takes any input. Answers are the numbers of enum lunozhar_answer. */
+ * Every function takes any values and any bytes, and answers. What it asks of a caller is C's own: a pointer is not null, even where its
+ * length is 0, and points to as much as its length or type says; a bool is 0 or 1; what one call is lent to write overlaps nothing else of it.
+ *
+ * A refusal (an answer other than LUNOZHAR_DONE) sends to no line and changes no struct and no area, but for two cases that are said at
+ * lunozhar_fresh and lunozhar_message. */
 #ifndef LUNOZHAR_H
 #define LUNOZHAR_H
 
@@ -17,145 +20,337 @@
 extern "C" {
 #endif
 
+/* How many: lines of a station, queries it remembers, pongs it keeps of a line, hosts of an X-Try field, answer numbers. */
 #define LUNOZHAR_LINES 8
 #define LUNOZHAR_MEMORY 512
 #define LUNOZHAR_PONGS 10
 #define LUNOZHAR_PAIRS 32
 #define LUNOZHAR_ANSWERS 19
 
-/* The shortest output area of a message or an own query, and the shortest route area. */
+/* The shortest output area of a message or an own query: a header of 23 bytes and a payload of 4,096. */
 #define LUNOZHAR_OUTPUT 4119
+
+/* The shortest route area. A neighbour's table has room for route_len / 8 entries; the longest that a neighbour can send has 65,536. */
 #define LUNOZHAR_ROUTE 32
 
+/* The answers: done, or the first reason to refuse. */
 enum lunozhar_answer {
     LUNOZHAR_DONE = 0,
-    /* ... the eighteen others, named from document 01 */
+    LUNOZHAR_NOT_IN_ORDER = 1,        /* the station's state is not in order */
+    LUNOZHAR_BAD_AREA = 2,            /* an area is too short, or the route area gives another room than the state's */
+    LUNOZHAR_BAD_LINE = 3,            /* the line is over 7, or not open; for opening: already open */
+    LUNOZHAR_NOT_WHOLE = 4,           /* the message or handshake group does not end in the bytes that are there */
+    LUNOZHAR_TOO_LONG = 5,            /* the payload is over 4,096 bytes, or an own query's text over 4,093 */
+    LUNOZHAR_BAD_PAYLOAD = 6,         /* the payload is wrong for its type; an own query's text or a host is wrong */
+    LUNOZHAR_UNKNOWN_TYPE = 7,        /* the message is no ping, pong, query, query hit or route update */
+    LUNOZHAR_BAD_TTL_OR_HOPS = 8,     /* TTL or Hops is not allowed */
+    LUNOZHAR_REPEATED = 9,            /* the query's number is remembered */
+    LUNOZHAR_NOT_FOUND = 10,          /* a hit for no remembered query; the handshake field is absent */
+    LUNOZHAR_ASKER_CLOSED = 11,       /* a hit for a query whose line has closed since */
+    LUNOZHAR_HOPS_FULL = 12,          /* Hops is 255 and would have to rise */
+    LUNOZHAR_PING_TOO_SOON = 13,      /* less than 1,000 ms since the line's last accepted ping */
+    LUNOZHAR_BAD_UPDATE = 14,         /* a field of a route update is not allowed; the table writer's arguments are wrong */
+    LUNOZHAR_OUT_OF_TURN = 15,        /* a PATCH that is not the next of its run, or does not fit the table */
+    LUNOZHAR_ENTRY_OUT_OF_RANGE = 16, /* a PATCH leads an entry outside 1 to Infinity */
+    LUNOZHAR_BAD_HANDSHAKE = 17,      /* the handshake group is not understood */
+    LUNOZHAR_NO_GROUP_END = 18        /* no handshake group ends in the first 4,096 bytes */
 };
 
-/* A neighbour's route table, but for its entries, which are in the route area. */
+/* The mark of a route table. Only a settled table withholds queries. */
+enum lunozhar_mark {
+    LUNOZHAR_MARK_NONE = 0,    /* no RESET since the line opened */
+    LUNOZHAR_MARK_WAITING = 1, /* RESET, and no PATCH yet */
+    LUNOZHAR_MARK_RUNNING = 2, /* inside a run of PATCHes */
+    LUNOZHAR_MARK_SETTLED = 3, /* a run is complete */
+    LUNOZHAR_MARK_BROKEN = 4   /* an update was refused; the next RESET mends it */
+};
+
+/* The asker of a remembered query: a line, 0 to 7, or one of these. */
+enum lunozhar_asker {
+    LUNOZHAR_ASKER_HERE = 8, /* this station itself */
+    LUNOZHAR_ASKER_GONE = 9  /* a line that has closed since, even if it is open again */
+};
+
+/* The kind of a handshake group. */
+enum lunozhar_kind {
+    LUNOZHAR_KIND_NONE = 0,     /* refused */
+    LUNOZHAR_KIND_GREETING = 1, /* GNUTELLA CONNECT/0.6 */
+    LUNOZHAR_KIND_REPLY = 2     /* GNUTELLA/0.6 200 OK, and the like */
+};
+
+/* A neighbour's route table but for its entries, which are in the route area from byte line * room on, one byte each. */
 typedef struct lunozhar_table {
-    uint8_t mark; /* 0 none, 1 waiting, 2 running, 3 settled, 4 broken */
-    uint32_t length;
-    uint8_t infinity;
-    uint8_t place;
+    uint8_t mark;     /* enum lunozhar_mark */
+    uint32_t length;  /* how many entries */
+    uint8_t infinity; /* the entry of a keyword that is not there */
+    uint8_t place;    /* the run: the place of its next PATCH, how many it has, the bits of a number, the next entry */
     uint8_t size;
     uint8_t bits;
     uint32_t at;
 } lunozhar_table;
 
+/* A stored pong: the first 14 bytes of its payload, its Hops, and the clock of the call that brought it. */
 typedef struct lunozhar_pong {
     uint8_t bytes[14];
     uint8_t hops;
     uint32_t clock;
 } lunozhar_pong;
 
+/* One line of a station. */
 typedef struct lunozhar_line {
-    bool live;
-    bool pinged;
+    bool live;         /* whether it is open */
+    bool pinged;       /* whether a ping was accepted, and the clock of the last one */
     uint32_t pingtime;
-    size_t pongcount;
+    size_t pongcount;  /* the ring of stored pongs: how many, where the next goes; the kept ones are those just before it */
     size_t pongnext;
     lunozhar_pong pongs[LUNOZHAR_PONGS];
     lunozhar_table table;
 } lunozhar_line;
 
+/* A station's state. Only the functions below are to write it. It has no pointer, so that it may be copied and moved. */
 typedef struct lunozhar_station {
-    size_t room;
+    size_t room; /* entries that there is room for in each neighbour's table: the route area's length / 8 */
     lunozhar_line lines[LUNOZHAR_LINES];
-    uint64_t lo[LUNOZHAR_MEMORY];
+    uint64_t lo[LUNOZHAR_MEMORY];   /* the ring of remembered queries: the number's bytes 0 to 7 and 8 to 15, little-endian, and the asker */
     uint64_t hi[LUNOZHAR_MEMORY];
     uint8_t asker[LUNOZHAR_MEMORY];
-    size_t count;
+    size_t count;                   /* how many are kept, and where the next goes; the kept ones are those just before it */
     size_t next;
 } lunozhar_station;
 
+/* What this station says of itself in a pong. */
 typedef struct lunozhar_own {
     uint16_t port;
-    uint8_t address[4];
+    uint8_t address[4]; /* IPv4, in network order */
     uint32_t files;
     uint32_t kilobytes;
-    bool calls;
+    bool calls; /* whether it takes connections; if not, only a ping to this station alone (TTL 1, Hops 0 or 1) gets its own pong */
 } lunozhar_own;
 
+/* A message's number: bytes 0 to 15 of its header. */
 typedef struct lunozhar_number {
     uint8_t bytes[16];
 } lunozhar_number;
 
 /* What a message or an own query came to. */
 typedef struct lunozhar_told {
-    uint8_t answer;
-    size_t used;
-    size_t written;
+    uint8_t answer;           /* enum lunozhar_answer */
+    size_t used;              /* bytes used of the message: its header and payload for 0 and 6 to 16, else 0; 0 for an own query */
+    size_t written;           /* bytes written to the output area, to be sent to each line whose flag is set */
     bool to[LUNOZHAR_LINES];
-    bool search;
-    bool delivered;
+    bool search;              /* a query is for the local search; its text is textlen bytes of the message from textat on */
+    bool delivered;           /* the message is a hit for a query of this station's own */
     size_t textat;
     size_t textlen;
 } lunozhar_told;
 
+/* How many messages had each answer. Start with all zero. A full count stays. */
 typedef struct lunozhar_tally {
     uint32_t counts[LUNOZHAR_ANSWERS];
 } lunozhar_tally;
 
+/* What a writer came to: its answer, and the bytes written (0 when refused). */
 typedef struct lunozhar_written {
     uint8_t answer;
     size_t written;
 } lunozhar_written;
 
+/* A handshake group that was read. When refused, all but the answer is 0. */
 typedef struct lunozhar_group {
     uint8_t answer;
-    size_t used;
-    uint8_t kind;
-    uint32_t major;
+    size_t used;    /* the group's length */
+    uint8_t kind;   /* enum lunozhar_kind */
+    uint32_t major; /* the version */
     uint32_t minor;
-    uint32_t code;
+    uint32_t code;  /* the status code of a reply, 0 for a greeting */
 } lunozhar_group;
 
+/* A handshake field that was asked for. */
 typedef struct lunozhar_asked {
     uint8_t answer;
-    size_t used;
-    size_t written;
+    size_t used;    /* the group's length for 0 and 10, else 0 */
+    size_t written; /* the value's length for 0, else 0 */
 } lunozhar_asked;
 
+/* A host: its IPv4 address in network order, and its port. */
 typedef struct lunozhar_pair {
     uint8_t address[4];
     uint16_t port;
 } lunozhar_pair;
 
+/* Hosts: the first `count` places. The others are zero when read, and are not looked at when written. */
 typedef struct lunozhar_pairs {
     size_t count;
     lunozhar_pair pairs[LUNOZHAR_PAIRS];
 } lunozhar_pairs;
 
+/* The hosts of a handshake group. */
 typedef struct lunozhar_hosts {
     uint8_t answer;
-    size_t used;
+    size_t used; /* the group's length for 0 and 6, else 0 */
     lunozhar_pairs pairs;
 } lunozhar_hosts;
 
+/* Makes the station: every line closed, nothing remembered, room for tables as a route area of route_len bytes gives it. The area itself is
+ * lent to lunozhar_message and lunozhar_ask, always the same one; its bytes may be anything. What the station held before does not count, but it
+ * holds something: memory that is new is set to zero first, as a static station is.
+ * Answers 0, or 2 for route_len below LUNOZHAR_ROUTE: the station is made all the same, with room 0. */
 uint8_t lunozhar_fresh(lunozhar_station *station, size_t route_len);
+
+/* Opens a line, 0 to 7: no table, no pongs, no ping. Answers 0, 1, or 3 for a line over 7 or open already. */
 uint8_t lunozhar_open(lunozhar_station *station, uint32_t line);
+
+/* Closes a line: its table and pongs are dropped, and no hit for a query that came by it is passed on any more, even if the line is opened
+ * again. Answers 0, 1, or 3 for a line over 7 or not open. */
 uint8_t lunozhar_close(lunozhar_station *station, uint32_t line);
+
+/* Takes the message at the front of the bytes, which arrived by a line at a clock in milliseconds (it may go round). Bytes past the message
+ * are not read. Answers 0 to 16, and says what is to be sent, searched or delivered. Writes the bytes to be sent to the front of the output
+ * area (out_len at least LUNOZHAR_OUTPUT), and an accepted update's entries to the line's part of the route area (route_len at least
+ * LUNOZHAR_ROUTE, route_len / 8 the station's room). A refusal writes to no area and changes no state, but that 14, 15 and 16 mark the
+ * line's table as broken. */
 lunozhar_told lunozhar_message(lunozhar_station *station, uint32_t line, uint32_t clock, lunozhar_own own,
                                const uint8_t *message, size_t message_len, uint8_t *out, size_t out_len,
                                uint8_t *route, size_t route_len);
+
+/* Asks a query of this station's own, with a number that no query had yet. The message goes to each open line whose table does not withhold
+ * it, and is written to the front of the output area (lengths as for lunozhar_message). The route area is only read.
+ * Answers 0, 1, 2, 5 for a text over 4,093 bytes, 6 for a zero byte in it, or 9 for a number that is remembered. */
 lunozhar_told lunozhar_ask(lunozhar_station *station, lunozhar_number number, const uint8_t *text, size_t text_len,
                            uint8_t *out, size_t out_len, const uint8_t *route, size_t route_len);
+
+/* Whether the state is in order, as every call tests first (answer 1). A state that only these functions wrote is. */
 bool lunozhar_in_order(const lunozhar_station *station);
+
+/* Counts one more message with this answer. A number over 18 counts nothing. */
 void lunozhar_count(lunozhar_tally *tally, uint8_t answer);
 
+/* Writes the messages that turn a neighbour's copy of the old table into the new one: a RESET where there was none (`had` is false; the old
+ * entries and Infinity are not looked at then), and a run of PATCHes with `size` bytes of data each (1 to 4,091), the last with the rest.
+ * Answers 0, 14 for a length, an Infinity, an entry, two unlike tables, a size or a run that is not allowed, or 2 for a short area.
+ * Writes to the front of the area; one of 29 + 28 * 255 + new_len bytes is never short. */
 lunozhar_written lunozhar_write_table(lunozhar_number number, bool had, const uint8_t *old_entries, size_t old_len,
                                       uint8_t old_infinity, const uint8_t *new_entries, size_t new_len, uint8_t infinity,
                                       size_t size, uint8_t *out, size_t out_len);
+
+/* Reads the handshake group at the front of the bytes. Answers 0, 4, 17 or 18. */
 lunozhar_group lunozhar_read_group(const uint8_t *bytes, size_t len);
+
+/* Writes the value of the group's field of that name, whatever its case, to the front of an area; equal names are joined by commas. Answers
+ * 0, 4, 17, 18, 10 for no such field, or 2 for a short area; one of 4,096 bytes is never short. */
 lunozhar_asked lunozhar_read_field(const uint8_t *bytes, size_t len, const uint8_t *name, size_t name_len, uint8_t *value,
                                    size_t value_len);
+
+/* Reads the first 32 hosts of the group's X-Try field, none where it has no such field. Answers 0, 4, 17, 18, or 6 for a bad host. */
 lunozhar_hosts lunozhar_read_hosts(const uint8_t *bytes, size_t len);
+
+/* Writes the greeting, 24 bytes, to the front of an area. Answers 0, or 2 for a short area. */
 lunozhar_written lunozhar_write_greeting(uint8_t *out, size_t out_len);
+
+/* Writes the reply that takes a connection, 23 bytes, to the front of an area. Answers 0, or 2 for a short area. */
 lunozhar_written lunozhar_write_ok(uint8_t *out, size_t out_len);
+
+/* Writes the reply that turns a connection away and names other hosts to the front of an area. Answers 0, 6 for more than 32 hosts or a
+ * port 0, or 2 for a short area; one of 737 bytes is never short. */
 lunozhar_written lunozhar_write_busy(lunozhar_pairs pairs, uint8_t *out, size_t out_len);
+
+/* The 32-bit hash of a keyword, whatever the case of its letters A to Z. */
 uint32_t lunozhar_hash(const uint8_t *keyword, size_t len);
+
+/* A keyword's place in a table of 2^bits entries: the top bits of its hash; 0 for no bits, all 32 for more than 32. */
 uint32_t lunozhar_place(const uint8_t *keyword, size_t len, uint32_t bits);
+
+/* The layout that the library was built with: the size of each struct and the offset of each field. */
+#define LUNOZHAR_SIZE(type, size) static_assert(sizeof(type) == (size), "the size of " #type)
+#define LUNOZHAR_AT(type, field, at) static_assert(offsetof(type, field) == (at), "the offset of " #type "." #field)
+
+LUNOZHAR_SIZE(lunozhar_table, 16);
+LUNOZHAR_AT(lunozhar_table, mark, 0);
+LUNOZHAR_AT(lunozhar_table, length, 4);
+LUNOZHAR_AT(lunozhar_table, infinity, 8);
+LUNOZHAR_AT(lunozhar_table, place, 9);
+LUNOZHAR_AT(lunozhar_table, size, 10);
+LUNOZHAR_AT(lunozhar_table, bits, 11);
+LUNOZHAR_AT(lunozhar_table, at, 12);
+
+LUNOZHAR_SIZE(lunozhar_pong, 20);
+LUNOZHAR_AT(lunozhar_pong, bytes, 0);
+LUNOZHAR_AT(lunozhar_pong, hops, 14);
+LUNOZHAR_AT(lunozhar_pong, clock, 16);
+
+LUNOZHAR_SIZE(lunozhar_line, 240);
+LUNOZHAR_AT(lunozhar_line, live, 0);
+LUNOZHAR_AT(lunozhar_line, pinged, 1);
+LUNOZHAR_AT(lunozhar_line, pingtime, 4);
+LUNOZHAR_AT(lunozhar_line, pongcount, 8);
+LUNOZHAR_AT(lunozhar_line, pongnext, 16);
+LUNOZHAR_AT(lunozhar_line, pongs, 24);
+LUNOZHAR_AT(lunozhar_line, table, 224);
+
+LUNOZHAR_SIZE(lunozhar_station, 10648);
+LUNOZHAR_AT(lunozhar_station, room, 0);
+LUNOZHAR_AT(lunozhar_station, lines, 8);
+LUNOZHAR_AT(lunozhar_station, lo, 1928);
+LUNOZHAR_AT(lunozhar_station, hi, 6024);
+LUNOZHAR_AT(lunozhar_station, asker, 10120);
+LUNOZHAR_AT(lunozhar_station, count, 10632);
+LUNOZHAR_AT(lunozhar_station, next, 10640);
+
+LUNOZHAR_SIZE(lunozhar_own, 20);
+LUNOZHAR_AT(lunozhar_own, port, 0);
+LUNOZHAR_AT(lunozhar_own, address, 2);
+LUNOZHAR_AT(lunozhar_own, files, 8);
+LUNOZHAR_AT(lunozhar_own, kilobytes, 12);
+LUNOZHAR_AT(lunozhar_own, calls, 16);
+
+LUNOZHAR_SIZE(lunozhar_number, 16);
+LUNOZHAR_AT(lunozhar_number, bytes, 0);
+
+LUNOZHAR_SIZE(lunozhar_told, 56);
+LUNOZHAR_AT(lunozhar_told, answer, 0);
+LUNOZHAR_AT(lunozhar_told, used, 8);
+LUNOZHAR_AT(lunozhar_told, written, 16);
+LUNOZHAR_AT(lunozhar_told, to, 24);
+LUNOZHAR_AT(lunozhar_told, search, 32);
+LUNOZHAR_AT(lunozhar_told, delivered, 33);
+LUNOZHAR_AT(lunozhar_told, textat, 40);
+LUNOZHAR_AT(lunozhar_told, textlen, 48);
+
+LUNOZHAR_SIZE(lunozhar_tally, 76);
+LUNOZHAR_AT(lunozhar_tally, counts, 0);
+
+LUNOZHAR_SIZE(lunozhar_written, 16);
+LUNOZHAR_AT(lunozhar_written, answer, 0);
+LUNOZHAR_AT(lunozhar_written, written, 8);
+
+LUNOZHAR_SIZE(lunozhar_group, 32);
+LUNOZHAR_AT(lunozhar_group, answer, 0);
+LUNOZHAR_AT(lunozhar_group, used, 8);
+LUNOZHAR_AT(lunozhar_group, kind, 16);
+LUNOZHAR_AT(lunozhar_group, major, 20);
+LUNOZHAR_AT(lunozhar_group, minor, 24);
+LUNOZHAR_AT(lunozhar_group, code, 28);
+
+LUNOZHAR_SIZE(lunozhar_asked, 24);
+LUNOZHAR_AT(lunozhar_asked, answer, 0);
+LUNOZHAR_AT(lunozhar_asked, used, 8);
+LUNOZHAR_AT(lunozhar_asked, written, 16);
+
+LUNOZHAR_SIZE(lunozhar_pair, 6);
+LUNOZHAR_AT(lunozhar_pair, address, 0);
+LUNOZHAR_AT(lunozhar_pair, port, 4);
+
+LUNOZHAR_SIZE(lunozhar_pairs, 200);
+LUNOZHAR_AT(lunozhar_pairs, count, 0);
+LUNOZHAR_AT(lunozhar_pairs, pairs, 8);
+
+LUNOZHAR_SIZE(lunozhar_hosts, 216);
+LUNOZHAR_AT(lunozhar_hosts, answer, 0);
+LUNOZHAR_AT(lunozhar_hosts, used, 8);
+LUNOZHAR_AT(lunozhar_hosts, pairs, 16);
+
+#undef LUNOZHAR_SIZE
+#undef LUNOZHAR_AT
 
 #ifdef __cplusplus
 }

@@ -40,3 +40,11 @@ pub fn write(out: &mut [u8], number: &[u8; 16], kind: u8, ttl: u8, hops: u8, pay
     out[18] = hops;
     out[19..].copy_from_slice(&(payload as u32).to_le_bytes());
 }
+
+/// A whole message.
+pub fn message(number: &[u8; 16], kind: u8, ttl: u8, hops: u8, payload: &[u8]) -> Vec<u8> {
+    let mut bytes = vec![0; BYTES];
+    write(&mut bytes, number, kind, ttl, hops, payload.len());
+    bytes.extend(payload);
+    bytes
+}

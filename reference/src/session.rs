@@ -45,6 +45,27 @@ fn events(file: &[u8]) -> Option<Vec<&[u8]>> {
     (from == file.len()).then_some(events)
 }
 
+/// An event, of which only a message is read past its clock.
+pub fn event(kind: u8, line: u8, clock: u32, message: &[u8]) -> Vec<u8> {
+    let mut event = vec![kind, line];
+    event.extend(clock.to_le_bytes());
+    event.extend(message);
+    event
+}
+
+/// The session file of these events.
+pub fn file(events: &[Vec<u8>]) -> Vec<u8> {
+    let mut offset = 8 + 4 * events.len();
+    let mut bytes = (events.len() as u32).to_le_bytes().to_vec();
+    bytes.extend((offset as u32).to_le_bytes());
+    for event in events {
+        offset += event.len();
+        bytes.extend((offset as u32).to_le_bytes());
+    }
+    bytes.extend(events.concat());
+    bytes
+}
+
 /// The text of a session: a heading, and a row for each event with its answer and the lines sent to.
 pub fn text(file: &[u8]) -> Vec<u8> {
     let mut text = Vec::new();
@@ -80,33 +101,10 @@ fn run(events: &[&[u8]], text: &mut Vec<u8>) {
 #[cfg(test)]
 mod tests {
     use super::*;
-
-    /// A session file of these events.
-    fn file(events: &[Vec<u8>]) -> Vec<u8> {
-        let mut offset = 8 + 4 * events.len();
-        let mut bytes = (events.len() as u32).to_le_bytes().to_vec();
-        bytes.extend((offset as u32).to_le_bytes());
-        for event in events {
-            offset += event.len();
-            bytes.extend((offset as u32).to_le_bytes());
-        }
-        bytes.extend(events.concat());
-        bytes
-    }
-
-    fn event(kind: u8, line: u8, clock: u32, message: &[u8]) -> Vec<u8> {
-        let mut event = vec![kind, line];
-        event.extend(clock.to_le_bytes());
-        event.extend(message);
-        event
-    }
+    use crate::header;
 
     fn message(number: u8, kind: u8, ttl: u8, hops: u8, payload: &[u8]) -> Vec<u8> {
-        let mut message = vec![number; 16];
-        message.extend([kind, ttl, hops]);
-        message.extend((payload.len() as u32).to_le_bytes());
-        message.extend(payload);
-        message
+        header::message(&[number; 16], kind, ttl, hops, payload)
     }
 
     fn shown(file: &[u8]) -> String {

@@ -1,136 +1,274 @@
-//! The boundary as C sees it: the structs and functions of `include/lunozhar.h`. A slice is a pointer and a length.
+//! The library as C sees it: the constants, structs and functions of `include/lunozhar.h`, which says more of each.
+//!
+//! Most users want [`crate::Station`] and the functions beside it. A slice is a pointer and a length here, and every function is `unsafe` to call:
+//! pointers are not null and point to as much as their length or type says, and what a call is lent to write overlaps nothing else of it.
+//!
+//! ```
+//! use lunozhar::raw;
+//!
+//! let keyword = b"ebckl";
+//! // SAFETY: the pointer goes with the length of its slice.
+//! let place = unsafe { raw::lunozhar_place(keyword.as_ptr(), keyword.len(), 13) };
+//! assert_eq!(place, 3179);
+//! ```
 
+use core::mem::{offset_of, size_of};
+
+#[cfg(test)]
+mod header;
+
+/// Lines of a station.
+pub const LINES: usize = 8;
+/// Queries that a station remembers.
+pub const MEMORY: usize = 512;
+/// Pongs that a station keeps of each line.
+pub const PONGS: usize = 10;
+/// Hosts of an X-Try field that are read, and that can be written.
+pub const PAIRS: usize = 32;
+/// Answer numbers: 0 for done, and 18 refusals.
+pub const ANSWERS: usize = 19;
+/// The shortest output area of a message or an own query.
+pub const OUTPUT: usize = 4_119;
+/// The shortest route area.
+pub const ROUTE: usize = 32;
+
+/// The mark of a table: no RESET since the line opened.
+pub const MARK_NONE: u8 = 0;
+/// The mark of a table: RESET, and no PATCH yet.
+pub const MARK_WAITING: u8 = 1;
+/// The mark of a table: inside a run of PATCHes.
+pub const MARK_RUNNING: u8 = 2;
+/// The mark of a table: a run is complete. Only such a table withholds queries.
+pub const MARK_SETTLED: u8 = 3;
+/// The mark of a table: an update was refused; the next RESET mends it.
+pub const MARK_BROKEN: u8 = 4;
+
+/// The asker of a remembered query that is this station. A line is 0 to 7.
+pub const ASKER_HERE: u8 = 8;
+/// The asker of a remembered query whose line has closed since.
+pub const ASKER_GONE: u8 = 9;
+
+/// The kind of a handshake group that was refused.
+pub const KIND_NONE: u8 = 0;
+/// The kind of a handshake group that greets.
+pub const KIND_GREETING: u8 = 1;
+/// The kind of a handshake group that replies.
+pub const KIND_REPLY: u8 = 2;
+
+/// A neighbour's route table but for its entries, which are in the route area from byte `line * room` on, one byte each.
 #[repr(C)]
-#[derive(Clone, Copy, Debug, PartialEq, Eq)]
+#[derive(Clone, Copy, Debug, Default, PartialEq, Eq)]
 pub struct Table {
+    /// One of the `MARK` constants.
     pub mark: u8,
+    /// How many entries.
     pub length: u32,
+    /// The entry of a keyword that is not there.
     pub infinity: u8,
+    /// The place of the run's next PATCH.
     pub place: u8,
+    /// How many PATCHes the run has.
     pub size: u8,
+    /// The bits of a number in the run.
     pub bits: u8,
+    /// The next entry of the run.
     pub at: u32,
 }
 
+/// A stored pong.
 #[repr(C)]
-#[derive(Clone, Copy, Debug, PartialEq, Eq)]
+#[derive(Clone, Copy, Debug, Default, PartialEq, Eq)]
 pub struct Pong {
+    /// The first 14 bytes of its payload.
     pub bytes: [u8; 14],
+    /// Its Hops.
     pub hops: u8,
+    /// The clock of the call that brought it.
     pub clock: u32,
 }
 
+/// One line of a station.
 #[repr(C)]
-#[derive(Clone, Copy, Debug, PartialEq, Eq)]
+#[derive(Clone, Copy, Debug, Default, PartialEq, Eq)]
 pub struct Line {
+    /// Whether it is open.
     pub live: bool,
+    /// Whether a ping was accepted.
     pub pinged: bool,
+    /// The clock of the last accepted ping.
     pub pingtime: u32,
+    /// How many pongs are kept: the places just before `pongnext`, going round.
     pub pongcount: usize,
+    /// Where the next pong goes.
     pub pongnext: usize,
-    pub pongs: [Pong; 10],
+    /// The ring of stored pongs.
+    pub pongs: [Pong; PONGS],
+    /// Its neighbour's table.
     pub table: Table,
 }
 
+/// A station's state.
 #[repr(C)]
 #[derive(Clone, Debug, PartialEq, Eq)]
 pub struct Station {
+    /// Entries that there is room for in each neighbour's table: the route area's length / 8.
     pub room: usize,
-    pub lines: [Line; 8],
-    pub lo: [u64; 512],
-    pub hi: [u64; 512],
-    pub asker: [u8; 512],
+    /// The lines.
+    pub lines: [Line; LINES],
+    /// Remembered queries: bytes 0 to 7 of the number, little-endian.
+    pub lo: [u64; MEMORY],
+    /// Remembered queries: bytes 8 to 15 of the number, little-endian.
+    pub hi: [u64; MEMORY],
+    /// Remembered queries: a line, [`ASKER_HERE`] or [`ASKER_GONE`].
+    pub asker: [u8; MEMORY],
+    /// How many queries are kept: the places just before `next`, going round.
     pub count: usize,
+    /// Where the next query goes.
     pub next: usize,
 }
 
+impl Default for Station {
+    /// All zero, which is a fresh state with room for no table.
+    fn default() -> Station {
+        let (lo, hi, asker) = ([0; MEMORY], [0; MEMORY], [0; MEMORY]);
+        Station { room: 0, lines: [Line::default(); LINES], lo, hi, asker, count: 0, next: 0 }
+    }
+}
+
+/// What a station says of itself in a pong.
 #[repr(C)]
 #[derive(Clone, Copy, Debug, PartialEq, Eq)]
 pub struct Own {
+    /// Its port.
     pub port: u16,
+    /// Its IPv4 address, in network order.
     pub address: [u8; 4],
+    /// How many files it shares.
     pub files: u32,
+    /// How many kilobytes they have.
     pub kilobytes: u32,
+    /// Whether it takes connections.
     pub calls: bool,
 }
 
+/// A message's number.
 #[repr(C)]
 #[derive(Clone, Copy, Debug, PartialEq, Eq)]
 pub struct Number {
+    /// Bytes 0 to 15 of the header.
     pub bytes: [u8; 16],
 }
 
+/// What a message or an own query came to.
 #[repr(C)]
 #[derive(Clone, Copy, Debug, PartialEq, Eq)]
 pub struct Told {
+    /// 0, or the number of a [`crate::Refusal`].
     pub answer: u8,
+    /// Bytes used of the message.
     pub used: usize,
+    /// Bytes written to the output area.
     pub written: usize,
-    pub to: [bool; 8],
+    /// The lines to send them to.
+    pub to: [bool; LINES],
+    /// Whether a query is for the local search.
     pub search: bool,
+    /// Whether the message is a hit for a query of this station's own.
     pub delivered: bool,
+    /// Where the query's text starts in the message.
     pub textat: usize,
+    /// How long the query's text is.
     pub textlen: usize,
 }
 
+/// How many messages had each answer.
 #[repr(C)]
-#[derive(Clone, Copy, Debug, PartialEq, Eq)]
+#[derive(Clone, Copy, Debug, Default, PartialEq, Eq)]
 pub struct Tally {
-    pub counts: [u32; 19],
+    /// One count for each answer number. A full count stays.
+    pub counts: [u32; ANSWERS],
 }
 
+/// What a writer came to.
 #[repr(C)]
 #[derive(Clone, Copy, Debug, PartialEq, Eq)]
 pub struct Written {
+    /// 0, or the number of a [`crate::Refusal`].
     pub answer: u8,
+    /// Bytes written, 0 when refused.
     pub written: usize,
 }
 
+/// A handshake group that was read. When refused, all but the answer is 0.
 #[repr(C)]
 #[derive(Clone, Copy, Debug, PartialEq, Eq)]
 pub struct Group {
+    /// 0, or the number of a [`crate::Refusal`].
     pub answer: u8,
+    /// The group's length.
     pub used: usize,
+    /// One of the `KIND` constants.
     pub kind: u8,
+    /// The version before the dot.
     pub major: u32,
+    /// The version behind the dot.
     pub minor: u32,
+    /// The status code of a reply, 0 for a greeting.
     pub code: u32,
 }
 
+/// A handshake field that was asked for.
 #[repr(C)]
 #[derive(Clone, Copy, Debug, PartialEq, Eq)]
 pub struct Asked {
+    /// 0, or the number of a [`crate::Refusal`].
     pub answer: u8,
+    /// The group's length for 0 and 10, else 0.
     pub used: usize,
+    /// The value's length for 0, else 0.
     pub written: usize,
 }
 
+/// A host.
 #[repr(C)]
-#[derive(Clone, Copy, Debug, PartialEq, Eq)]
+#[derive(Clone, Copy, Debug, Default, PartialEq, Eq)]
 pub struct Pair {
+    /// Its IPv4 address, in network order.
     pub address: [u8; 4],
+    /// Its port.
     pub port: u16,
 }
 
+/// Hosts.
 #[repr(C)]
-#[derive(Clone, Copy, Debug, PartialEq, Eq)]
+#[derive(Clone, Copy, Debug, Default, PartialEq, Eq)]
 pub struct Pairs {
+    /// How many places are in use.
     pub count: usize,
-    pub pairs: [Pair; 32],
+    /// The places. Those not in use are zero when read, and are not looked at when written.
+    pub pairs: [Pair; PAIRS],
 }
 
+/// The hosts of a handshake group.
 #[repr(C)]
 #[derive(Clone, Copy, Debug, PartialEq, Eq)]
 pub struct Hosts {
+    /// 0, or the number of a [`crate::Refusal`].
     pub answer: u8,
+    /// The group's length for 0 and 6, else 0.
     pub used: usize,
+    /// The hosts.
     pub pairs: Pairs,
 }
 
 extern "C" {
+    /// Makes a station over a route area of so many bytes.
     pub fn lunozhar_fresh(station: *mut Station, route_len: usize) -> u8;
+    /// Opens a line.
     pub fn lunozhar_open(station: *mut Station, line: u32) -> u8;
+    /// Closes a line.
     pub fn lunozhar_close(station: *mut Station, line: u32) -> u8;
+    /// Takes a message that arrived.
     pub fn lunozhar_message(
         station: *mut Station,
         line: u32,
@@ -143,6 +281,7 @@ extern "C" {
         route: *mut u8,
         route_len: usize,
     ) -> Told;
+    /// Asks a query of the station's own.
     pub fn lunozhar_ask(
         station: *mut Station,
         number: Number,
@@ -153,27 +292,69 @@ extern "C" {
         route: *const u8,
         route_len: usize,
     ) -> Told;
+    /// Whether a state is in order.
     pub fn lunozhar_in_order(station: *const Station) -> bool;
+    /// Counts one more message with this answer.
     pub fn lunozhar_count(tally: *mut Tally, answer: u8);
+    /// Writes the updates that turn the old table into the new one.
     pub fn lunozhar_write_table(
         number: Number,
         had: bool,
-        old: *const u8,
+        old_entries: *const u8,
         old_len: usize,
         old_infinity: u8,
-        new: *const u8,
+        new_entries: *const u8,
         new_len: usize,
         infinity: u8,
         size: usize,
         out: *mut u8,
         out_len: usize,
     ) -> Written;
+    /// Reads a handshake group.
     pub fn lunozhar_read_group(bytes: *const u8, len: usize) -> Group;
+    /// Writes the value of a handshake group's field to an area.
     pub fn lunozhar_read_field(bytes: *const u8, len: usize, name: *const u8, name_len: usize, value: *mut u8, value_len: usize) -> Asked;
+    /// Reads the hosts of a handshake group's X-Try field.
     pub fn lunozhar_read_hosts(bytes: *const u8, len: usize) -> Hosts;
+    /// Writes the greeting.
     pub fn lunozhar_write_greeting(out: *mut u8, out_len: usize) -> Written;
+    /// Writes the reply that takes a connection.
     pub fn lunozhar_write_ok(out: *mut u8, out_len: usize) -> Written;
+    /// Writes the reply that turns a connection away and names other hosts.
     pub fn lunozhar_write_busy(pairs: Pairs, out: *mut u8, out_len: usize) -> Written;
+    /// The hash of a keyword.
     pub fn lunozhar_hash(keyword: *const u8, len: usize) -> u32;
+    /// A keyword's place in a table of `2^bits` entries.
     pub fn lunozhar_place(keyword: *const u8, len: usize, bits: u32) -> u32;
+}
+
+/// Asserts the size of each struct and the offset of each field, all of which are to be listed; the tests hold the list to the header's.
+macro_rules! layout {
+    ($($name:ident $size:literal { $($field:ident $at:literal),+ })+) => {
+        $(const _: () = {
+            assert!(size_of::<$name>() == $size);
+            $(assert!(offset_of!($name, $field) == $at);)+
+            const fn _all_fields($name { $($field: _),+ }: &$name) {}
+        };)+
+
+        #[cfg(test)]
+        const LAYOUT: &[(&str, usize, &[(&str, usize)])] = &[$((stringify!($name), $size, &[$((stringify!($field), $at)),+])),+];
+    };
+}
+
+layout! {
+    Table 16 { mark 0, length 4, infinity 8, place 9, size 10, bits 11, at 12 }
+    Pong 20 { bytes 0, hops 14, clock 16 }
+    Line 240 { live 0, pinged 1, pingtime 4, pongcount 8, pongnext 16, pongs 24, table 224 }
+    Station 10648 { room 0, lines 8, lo 1928, hi 6024, asker 10120, count 10632, next 10640 }
+    Own 20 { port 0, address 2, files 8, kilobytes 12, calls 16 }
+    Number 16 { bytes 0 }
+    Told 56 { answer 0, used 8, written 16, to 24, search 32, delivered 33, textat 40, textlen 48 }
+    Tally 76 { counts 0 }
+    Written 16 { answer 0, written 8 }
+    Group 32 { answer 0, used 8, kind 16, major 20, minor 24, code 28 }
+    Asked 24 { answer 0, used 8, written 16 }
+    Pair 6 { address 0, port 4 }
+    Pairs 200 { count 0, pairs 8 }
+    Hosts 216 { answer 0, used 8, pairs 16 }
 }

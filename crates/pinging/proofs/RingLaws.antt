@@ -1,7 +1,7 @@
 -- The stored pongs of a line, one after another and by rank.
 -- Assumes nothing.
 use Prim.Native.Nat.{ℕ, zero, suc, _+_, _-_, _≤_, _<_}
-use mathlib.Core.Path.{_≡_, refl, sym, ap, _∙_}
+use mathlib.Core.Path.{_≡_, refl, sym, ap, ap₂, _∙_}
 use mathlib.Core.Bool.{Bool, true, false, cond, _&&_}
 use mathlib.Core.List.{List, [], _∷_, map}
 use native.Mathlib.Omega.{arith}
@@ -10,12 +10,12 @@ use lib.ListN.{length, getD}
 use borrow.Author.Tests.{le-leb, lt-leb, lt-ltb, leb-true, ltb-true, ltb-false}
 use Rattle.laws.specs.Tests.{all}
 use Rattle.laws.specs.Ring.{back, placesBefore, keptPlaces}
-use Rattle.laws.proofs.Rings.{map-getD}
+use Rattle.laws.proofs.Rings.{map-getD, back-below}
 use Rattle.protocol.specs.declared.Pong.{Pong}
 use Rattle.protocol.specs.declared.Line.{Line}
 use Rattle.protocol.specs.Lines.{storedPongs, pongCapacity}
 use Rattle.protocol.specs.Pings.{ranked}
-use Rattle.pinging.specs.Sending.{lowHops, placeOf}
+use Rattle.pinging.specs.Sending.{hopsIn, lowHops, placeOf}
 use Rattle.laws.proofs.Ranks.{places-next, places-length, place-low, place-high}
 
 -- the pong at a place of the line's ring
@@ -26,7 +26,6 @@ pongIn x p = getD (x .pongs) p (record { bytes = []; hops = 0; clock = 0 })
 abbrev pub pongsBefore : Line → ℕ → ℕ → List Pong
 pongsBefore x p n = map (pongIn x) (placesBefore pongCapacity p n)
 
--- the test of those still to be looked at
 abbrev pub low : Pong → Bool
 low p = leb (p .hops) 7
 
@@ -34,27 +33,49 @@ pub all-stored : (x : Line) → x .pongcount ≤ 10 → x .pongnext < 10 → sto
 unfolding storedPongs keptPlaces
 all-stored x h k = rw (le-leb (x .pongcount) 10 h, lt-ltb (x .pongnext) 10 k)
 
-module _ (x : Line) where
-  pub low-start : x .pongcount ≤ 10 → x .pongnext < 10 → all low (pongsBefore x (x .pongnext) (x .pongcount)) ≡ lowHops x
-  unfolding lowHops
-  low-start h k = ap (all low) (sym (all-stored x h k))
+-- the Hops at the ten places are those of the pongs there
+hops-at : (x : Line) (k : ℕ) → k < 10 → getD (hopsIn (x .pongs)) k 0 ≡ pongIn x k .hops
+hops-at x zero h = refl
+hops-at x (suc zero) h = refl
+hops-at x (suc (suc zero)) h = refl
+hops-at x (suc (suc (suc zero))) h = refl
+hops-at x (suc (suc (suc (suc zero)))) h = refl
+hops-at x (suc (suc (suc (suc (suc zero))))) h = refl
+hops-at x (suc (suc (suc (suc (suc (suc zero)))))) h = refl
+hops-at x (suc (suc (suc (suc (suc (suc (suc zero))))))) h = refl
+hops-at x (suc (suc (suc (suc (suc (suc (suc (suc zero)))))))) h = refl
+hops-at x (suc (suc (suc (suc (suc (suc (suc (suc (suc zero))))))))) h = refl
+hops-at x (suc (suc (suc (suc (suc (suc (suc (suc (suc (suc k)))))))))) h = absurd (omega arith)
 
-  -- with w the whole answer: a pong that passes is left behind, one that fails is the answer, and none left passes
-  module _ (p q n i : ℕ) (w : Bool) (at : q ≡ back 10 p) (left : all low (pongsBefore x p (n - i)) ≡ w) where
-    low-next : i < n → low (pongIn x q) && all low (pongsBefore x q (n - (i + 1))) ≡ w
+-- the test of those still to be looked at
+abbrev pub lowAt : List ℕ → ℕ → Bool
+lowAt hops k = leb (getD hops k 0) 7
+
+pub low-all : (x : Line) → x .pongcount ≤ 10 → x .pongnext < 10 → all (lowAt (hopsIn (x .pongs))) (placesBefore 10 (x .pongnext) (x .pongcount)) ≡ lowHops x
+unfolding lowHops
+low-all x h k = same (x .pongnext) (x .pongcount) ∙ ap (all low) (sym (all-stored x h k))
+  where
+    same : (p n : ℕ) → all (lowAt (hopsIn (x .pongs))) (placesBefore 10 p n) ≡ all low (pongsBefore x p n)
+    same p zero = refl
+    same p (suc n) = ap₂ _&&_ (ap (λ m. leb m 7) (hops-at x (back 10 p) (back-below 10 (omega arith) p))) (same (back 10 p) n)
+
+-- with w the whole answer: Hops that pass are left behind, one that fails is the answer, and none left passes
+module _ (hops : List ℕ) where
+  module _ (p q n i : ℕ) (w : Bool) (at : q ≡ back 10 p) (left : all (lowAt hops) (placesBefore 10 p (n - i)) ≡ w) where
+    low-next : i < n → lowAt hops q && all (lowAt hops) (placesBefore 10 q (n - (i + 1))) ≡ w
     low-next h =
-        ap (λ k. low (pongIn x k) && all low (pongsBefore x k (n - (i + 1)))) at
-        ∙ sym (ap (λ ps. all low (map (pongIn x) ps)) (places-next 10 p n i h))
+        ap (λ k. lowAt hops k && all (lowAt hops) (placesBefore 10 k (n - (i + 1)))) at
+        ∙ sym (ap (all (lowAt hops)) (places-next 10 p n i h))
         ∙ left
 
-    pub low-on : i < n → pongIn x q .hops ≤ 7 → all low (pongsBefore x q (n - (i + 1))) ≡ w
-    low-on h k = rw (le-leb (pongIn x q .hops) 7 k) at (low-next h)
+    pub low-on : i < n → getD hops q 0 ≤ 7 → all (lowAt hops) (placesBefore 10 q (n - (i + 1))) ≡ w
+    low-on h k = rw (le-leb (getD hops q 0) 7 k) at (low-next h)
 
-    pub low-out : i < n → 7 < pongIn x q .hops → false ≡ w
-    low-out h k = rw (lt-leb (pongIn x q .hops) 7 k) at (low-next h)
+    pub low-out : i < n → 7 < getD hops q 0 → false ≡ w
+    low-out h k = rw (lt-leb (getD hops q 0) 7 k) at (low-next h)
 
-  pub low-end : (p n i : ℕ) (w : Bool) → all low (pongsBefore x p (n - i)) ≡ w → n ≤ i → true ≡ w
-  low-end p n i w left h = let e : n - i ≡ 0 = omega arith in sym (ap (λ k. all low (pongsBefore x p k)) e) ∙ left
+  pub low-end : (p n i : ℕ) (w : Bool) → all (lowAt hops) (placesBefore 10 p (n - i)) ≡ w → n ≤ i → true ≡ w
+  low-end p n i w left h = let e : n - i ≡ 0 = omega arith in sym (ap (λ k. all (lowAt hops) (placesBefore 10 p k)) e) ∙ left
 
 -- the pong of a rank
 pub ranked-none : (r : ℕ) (ps : List Pong) → length ps ≤ r → ranked r ps ≡ []

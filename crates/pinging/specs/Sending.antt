@@ -14,6 +14,10 @@ use Rattle.protocol.specs.declared.Own.{Own}
 use Rattle.protocol.specs.Lines.{lineNumbers, isOther, nowhere, pongCapacity, storedPongs}
 use Rattle.protocol.specs.Pings.{pongType, ranked, keepIf, flat, isFresh, ownPong}
 
+-- the Hops at the ten places of a ring
+abbrev pub hopsIn : List Pong → List ℕ
+hopsIn pongs = map (λ k. getD pongs k (record { bytes = []; hops = 0; clock = 0 }) .hops) (0 ∷ 1 ∷ 2 ∷ 3 ∷ 4 ∷ 5 ∷ 6 ∷ 7 ∷ 8 ∷ 9 ∷ [])
+
 -- the kept pongs have Hops of at most 7
 unfoldable pub lowHops : Line → Bool
 lowHops x = all (λ p. leb (p .hops) 7) (storedPongs x)

@@ -3,8 +3,9 @@ ghost use mathlib.Core.Path.{_≡_};
 ghost use Prim.Native.Nat.{_≤_, _<_};
 ghost use Rattle.laws.specs.Ring.{back};
 ghost use Rattle.protocol.specs.Order.{emptyWhenClosed, lineInOrder};
-ghost use Rattle.pinging.specs.Sending.{lowHops};
+ghost use Rattle.pinging.specs.Sending.{hopsIn, lowHops};
 use protocol::Line;
+use protocol::Pong;
 
 // A closed line has no table, pongs or ping time.
 fn empty_when_closed(x: Line) -> bool
@@ -31,18 +32,37 @@ fn place_before(place: usize) -> usize
     if place == 0 { 9 } else { place - 1 }
 }
 
+// The Hops at the ten places of a ring. The loop below goes through these, and the ring itself is not copied.
+fn hops_in(pongs: [Pong; 10]) -> [u8; 10]
+    ensures { λ r. ⌜ r ≡ hopsIn pongs ⌝ }
+{
+    [
+        pongs[0].hops,
+        pongs[1].hops,
+        pongs[2].hops,
+        pongs[3].hops,
+        pongs[4].hops,
+        pongs[5].hops,
+        pongs[6].hops,
+        pongs[7].hops,
+        pongs[8].hops,
+        pongs[9].hops,
+    ]
+}
+
 // The Hops of each kept pong are at most 7.
 fn low_hops(x: Line) -> bool
     requires { ⌜ (x .pongcount ≤ 10) × (x .pongnext < 10) ⌝ }
     ensures { λ r. ⌜ r ≡ lowHops x ⌝ }
 {
     let count = x.pongcount;
+    let pongs = x.pongs;
+    let hops = hops_in(pongs);
     let mut place = x.pongnext;
     let mut i = 0;
     while i < count {
         place = place_before(place);
-        let pong = x.pongs[place];
-        if 7 < pong.hops {
+        if 7 < hops[place] {
             return false;
         }
         i += 1;

@@ -3,11 +3,11 @@
 use Prim.Native.Nat.{ℕ, zero, suc, _+_, _-_, _^_, _≤_, _<_, zero-le}
 use native.Mathlib.Omega.{arith}
 use mathlib.Core.Path.{_≡_, refl, sym, ap, ap₂, _∙_, subst}
-use mathlib.Core.Bool.{Bool, true, false, cond, _&&_, and-false}
+use mathlib.Core.Bool.{Bool, true, false, cond, not, _&&_, _||_, and-false}
 use mathlib.Core.List.{List, [], _∷_, _++_, map}
 use lib.Dec.{eqb, ltb, leb, leb·suc-suc}
-use lib.ListN.{length, getD, take, drop, length-replicate, getD-replicate}
-use lib.IntN.{ℤ, pos, negℤ, _+ℤ_, +ℤ-assoc, +ℤ-idl, +ℤ-idr, +ℤ-invr, pos-+ℤ-pos}
+use lib.ListN.{length, getD, take, drop, length-append, length-map, length-replicate, getD-replicate}
+use lib.IntN.{ℤ, pos, negℤ, _+ℤ_, +ℤ-assoc, +ℤ-comm, +ℤ-idl, +ℤ-idr, +ℤ-invr, pos-+ℤ-pos}
 use borrow.Author.Tests.{ltb-true, lt-ltb, le-ltb, ne-eqb}
 use Rattle.laws.specs.Tests.{any, all}
 use Rattle.laws.proofs.Refusals.{clash, and-fst, and-snd}
@@ -18,7 +18,7 @@ use Rattle.tables.specs.Updates.{lengthIn, infinityIn, bitsIn, numbersIn, isPat
 use Rattle.protocol.specs.Outcomes.{Outcome, unsent}
 use Rattle.protocol.specs.Runs.{Call, Open, Close, Message, Ask, Made}
 use Rattle.protocol.specs.Expected.{Expected, wiped, opens, closes, brings, asks, brought, isUpdateOf, feed, expected}
-use Rattle.protocol.specs.History.{Update, noted, updatesOf, accepted, isReset, finishes, sinceReset, speaks, covered, signed, gives, sumAt}
+use Rattle.protocol.specs.History.{Update, noted, updatesOf, accepted, isReset, signed, carried, underWay, wholeRuns, total, sumAt, beforeRun, insideRun, spoiled, speaks}
 use Rattle.protocol.specs.Demand3.{Agrees, AllAgree}
 use Rattle.protocol.proofs.Updates.{Patches, by-update, patched-length}
 
@@ -44,9 +44,9 @@ sum-signed bits inf v e f =
     let low : loss bits v < e + gain bits v = ltb-true (loss bits v) (e + gain bits v) (and-fst (ltb (loss bits v) (e + gain bits v)) (leb (e + gain bits v) (inf + loss bits v)) f) in
     shifted e (gain bits v) (loss bits v) (omega arith) ∙ ap (λ z. pos e +ℤ z) (sym (signed-parts bits v))
 
--- the number among vs for the entry j, where the first is for the entry `from`
-abbrev numberFor : ℕ → List ℕ → ℕ → ℕ → ℤ
-numberFor bits vs from j = cond (ltb j from) (pos 0) (getD (map (signed bits) vs) (j - from) (pos 0))
+-- the numbers rs for the entries from `from` on: what they give to the entry j
+abbrev given : List ℤ → ℕ → ℕ → ℤ
+given rs from j = cond (ltb j from) (pos 0) (getD rs (j - from) (pos 0))
 
 -- numbers added from the entry `from` on: each entry after is the entry before plus its number
 added-each : (bits inf : ℕ) (vs es : List ℕ) (j : ℕ) → allFit bits inf vs es ≡ true → j < length es
@@ -58,7 +58,7 @@ added-each bits inf (v ∷ vs) (e ∷ es) zero f l = sum-signed bits inf v e (an
 added-each bits inf (v ∷ vs) (e ∷ es) (suc j) f l = added-each bits inf vs es j (and-snd (fits bits inf v e) (allFit bits inf vs es) f) (omega arith)
 
 added-from : (from bits inf : ℕ) (vs es : List ℕ) (j : ℕ) → allFit bits inf vs (drop from es) ≡ true → j < length es
-    → pos (getD (take from es ++ added bits vs (drop from es)) j 0) ≡ pos (getD es j 0) +ℤ numberFor bits vs from j
+    → pos (getD (take from es ++ added bits vs (drop from es)) j 0) ≡ pos (getD es j 0) +ℤ given (map (signed bits) vs) from j
 added-from zero bits inf vs es j f l =
     let e : j - 0 ≡ j = omega arith in
     rw (le-ltb j 0 zero-le, e) (added-each bits inf vs es j f l)
@@ -68,16 +68,30 @@ added-from (suc from) bits inf vs (x ∷ xs) (suc j) f l =
     let e : suc j - suc from ≡ j - from = omega arith in
     rw (leb·suc-suc (suc j) from, e) (added-from from bits inf vs xs j f (omega arith))
 
-patched-at : (h : Held) (p : List ℕ) (j : ℕ) → inRange h p ≡ true → j < length (h .entries)
-    → pos (getD (patchBy h p .entries) j 0) ≡ pos (getD (h .entries) j 0) +ℤ gives p (h .table .at) j
-unfolding patchBy inRange
-patched-at h p j f l = added-from (h .table .at) (bitsIn p) (h .table .infinity) (numbersIn p) (h .entries) j f l
+-- a run that goes on: the j-th number of all is that of the first part and what the second gives behind it
+joined-at : (rs ss : List ℤ) (j : ℕ) → getD (rs ++ ss) j (pos 0) ≡ getD rs j (pos 0) +ℤ given ss (length rs) j
+joined-at [] ss j =
+    let e : j - 0 ≡ j = omega arith in
+    rw (le-ltb j 0 zero-le, e) (sym (+ℤ-idl (getD ss j (pos 0))))
+joined-at (r ∷ rs) ss zero = rw (lt-ltb 0 (suc (length rs)) (omega arith)) (sym (+ℤ-idr r))
+joined-at (r ∷ rs) ss (suc j) =
+    let e : suc j - suc (length rs) ≡ j - length rs = omega arith in
+    rw (leb·suc-suc (suc j) (length rs), e) (joined-at rs ss j)
+
+not-true : (b : Bool) → not b ≡ true → b ≡ false
+not-true true h = absurd (clash h refl)
+not-true false h = refl
+
+-- inside a run a table is quiet, whether or not one has ended before
+inside-quiet : (b : Bool) → false ≡ not (b || true)
+inside-quiet true = refl
+inside-quiet false = refl
 
 -- a table with its entries is what these updates come to
 pub record Accounts (h : Held) (us : List Update) : Type 0 where
-  pub patchable : ready (h .table .mark) ≡ (any isReset us && all accepted (sinceReset us))
+  pub patchable : ready (h .table .mark) ≡ (any isReset us && not (spoiled us))
   pub speaking : eqb (h .table .mark) settled ≡ speaks us
-  pub reached : ready (h .table .mark) ≡ true → h .table .at ≡ covered us
+  pub reached : ready (h .table .mark) ≡ true → h .table .at ≡ length (underWay us)
   pub totals : (j : ℕ) → j < length (h .entries) → pos (getD (h .entries) j 0) ≡ pos (h .table .infinity) +ℤ sumAt us j
 
 abbrev pub noHeld : Held
@@ -95,8 +109,8 @@ module _ (h : Held) (us : List Update) (q : Accounts h us) (p : List ℕ) where
   unfolding brokenBy
   after-refusal n a =
       record {
-        patchable = rw (a, a) (sym (and-false (any isReset us)));
-        speaking = rw (a, a) (sym (and-false (any isReset us)));
+        patchable = rw a (sym (and-false (any isReset us)));
+        speaking = rw a (inside-quiet (not (any isReset us)));
         reached = λ r. absurd (clash r refl);
         totals = λ j l. rw a (q .totals j l);
       }
@@ -112,23 +126,38 @@ module _ (h : Held) (us : List Update) (q : Accounts h us) (p : List ℕ) where
       }
 
   module _ (z : Patches h p) where
-    clean : (any isReset us && all accepted (sinceReset us)) ≡ true
+    clean : (any isReset us && not (spoiled us)) ≡ true
     clean = sym (q .patchable) ∙ z .turn .0
 
     started : any isReset us ≡ true
-    started = and-fst (any isReset us) (all accepted (sinceReset us)) clean
+    started = and-fst (any isReset us) (not (spoiled us)) clean
 
-    unbroken : all accepted (sinceReset us) ≡ true
-    unbroken = and-snd (any isReset us) (all accepted (sinceReset us)) clean
+    unspoiled : spoiled us ≡ false
+    unspoiled = not-true (spoiled us) (and-snd (any isReset us) (not (spoiled us)) clean)
 
-    -- each sum has one number more
+    abbrev grown : List ℤ
+    grown = underWay us ++ carried (update p 0)
+
+    grown-length : length grown ≡ length (underWay us) + length (numbersIn p)
+    grown-length = length-append (underWay us) (carried (update p 0)) ∙ ap (λ n. length (underWay us) + n) (length-map (numbersIn p) (signed (bitsIn p)))
+
+    -- the run under way has more numbers, and each entry has changed by the one that is for it
     sums-patch : (j : ℕ) → j < length (patchBy h p .entries)
-        → pos (getD (patchBy h p .entries) j 0) ≡ pos (h .table .infinity) +ℤ (sumAt us j +ℤ gives p (covered us) j)
+        → pos (getD (patchBy h p .entries) j 0) ≡ pos (h .table .infinity) +ℤ (getD grown j (pos 0) +ℤ total j (wholeRuns us))
+    unfolding patchBy inRange
     sums-patch j l =
         let k : j < length (h .entries) = subst (λ (n : ℕ). j < n) (patched-length h p) l in
-        patched-at h p j (z .range) k
-        ∙ ap₂ (λ x y. x +ℤ gives p y j) (q .totals j k) (q .reached (z .turn .0))
-        ∙ +ℤ-assoc (pos (h .table .infinity)) (sumAt us j) (gives p (covered us) j)
+        let g : given (carried (update p 0)) (h .table .at) j ≡ given (carried (update p 0)) (length (underWay us)) j
+        = ap (λ n. given (carried (update p 0)) n j) (q .reached (z .turn .0)) in
+        added-from (h .table .at) (bitsIn p) (h .table .infinity) (numbersIn p) (h .entries) j (z .range) k
+        ∙ ap₂ (λ x y. x +ℤ y) (q .totals j k) g
+        ∙ moved (pos (h .table .infinity)) (getD (underWay us) j (pos 0)) (total j (wholeRuns us)) (given (carried (update p 0)) (length (underWay us)) j)
+        ∙ ap (λ x. pos (h .table .infinity) +ℤ (x +ℤ total j (wholeRuns us))) (sym (joined-at (underWay us) (carried (update p 0)) j))
+      where
+        moved : (i a b c : ℤ) → (i +ℤ (a +ℤ b)) +ℤ c ≡ i +ℤ ((a +ℤ c) +ℤ b)
+        moved i a b c =
+            +ℤ-assoc i (a +ℤ b) c
+            ∙ ap (λ x. i +ℤ x) (+ℤ-assoc a b c ∙ ap (λ x. a +ℤ x) (+ℤ-comm b c) ∙ sym (+ℤ-assoc a c b))
 
     after-patch : Accounts (patchBy h p) (update p 0 ∷ us)
     unfolding patchBy movedOn
@@ -137,16 +166,16 @@ module _ (h : Held) (us : List Update) (q : Accounts h us) (p : List ℕ) where
         go : (b : Bool) → isLast p ≡ b → Accounts (patchBy h p) (update p 0 ∷ us)
         go true e =
             record {
-              patchable = simp (e, z .variant, started, unbroken);
-              speaking = simp (e, z .variant, started, unbroken);
+              patchable = simp (e, z .variant, started, unspoiled);
+              speaking = simp (e, z .variant, started, unspoiled);
               reached = λ _. simp (e, z .variant);
-              totals = λ j l. simp (e, z .variant) (sums-patch j l);
+              totals = λ j l. simp (e, z .variant, +ℤ-idl) (sums-patch j l);
             }
         go false e =
             record {
-              patchable = simp (e, z .variant, started, unbroken);
-              speaking = simp (e, z .variant, started, unbroken) (sym (and-false (any finishes (sinceReset us))));
-              reached = λ _. simp (e, z .variant) (ap (λ x. x + length (numbersIn p)) (q .reached (z .turn .0)));
+              patchable = simp (e, z .variant, started, unspoiled);
+              speaking = simp (e, z .variant, started, unspoiled) (inside-quiet (beforeRun us));
+              reached = λ _. simp (e, z .variant) (ap (λ x. x + length (numbersIn p)) (q .reached (z .turn .0)) ∙ sym grown-length);
               totals = λ j l. simp (e, z .variant) (sums-patch j l);
             }
 

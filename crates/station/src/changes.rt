@@ -59,12 +59,12 @@ fn area_answer(n: usize) -> u8
     if n < 32 { 2 } else { 0 }
 }
 
-// A fresh state over a route area, of which only the length is read.
-pub fn fresh(route: &[u8]) -> Changed
-    ensures { λ r. ⌜ r ≡ fresh (length (now (route .entry))) ⌝ }
+// A fresh state over a route area of so many bytes.
+pub fn fresh_over(length: usize) -> Changed
+    ensures { λ r. ⌜ r ≡ fresh length ⌝ }
 {
-    let room = room_of(route.len());
-    let answer = area_answer(route.len());
+    let room = room_of(length);
+    let answer = area_answer(length);
     let line = empty_line(false);
     let lines = [line; 8];
     let lo = [0u64; 512];
@@ -80,6 +80,13 @@ pub fn fresh(route: &[u8]) -> Changed
         next: 0,
     };
     Changed { state, answer }
+}
+
+// A fresh state over a route area, of which only the length is read.
+pub fn fresh(route: &[u8]) -> Changed
+    ensures { λ r. ⌜ r ≡ fresh (length (now (route .entry))) ⌝ }
+{
+    fresh_over(route.len())
 }
 
 // The line's record after a change that is answered so: an empty line, or as it was where the change is refused.

@@ -7,7 +7,7 @@ pub mod calls;
 pub mod changes;
 mod lines;
 mod numbers;
-mod order;
+pub mod order;
 mod pings;
 mod queries;
 mod ring;

@@ -21,7 +21,7 @@ fn lines_in_order(lines: [Line; 8], room: usize) -> bool
 }
 
 // The remembered queries and the lines, as a state has them.
-pub(crate) fn in_order<'a>(
+pub fn in_order<'a>(
     lo: &'a [u64; 512],
     hi: &'a [u64; 512],
     asker: &'a [u8; 512],

@@ -12,7 +12,7 @@ use Rattle.tables.specs.Patch.{sumOf, fits, added, allFit}
 use Rattle.tables.specs.Tables.{Held, inBounds, entriesInBounds}
 use Rattle.tables.specs.Updates.{lengthIn, infinityIn, bitsIn, numbersIn, resetTests, turnTests, goodReset, inTurn, inRange, resetBy, patchBy, updated, brokenBy}
 use Rattle.tables.proofs.TestLaws.{both-true, every-true}
-use Rattle.tables.proofs.NumberLaws.{fitting}
+use Rattle.tables.proofs.PatchFacts.{fits-exactly}
 use Rattle.tables.proofs.AnswerLaws.{each-way}
 use Rattle.tables.proofs.KeepLaws.{moved-keeps}
 
@@ -43,7 +43,7 @@ added-bounds bits infinity [] es a b = b
 added-bounds bits infinity (v ∷ vs) [] a b = refl
 added-bounds bits infinity (v ∷ vs) (e ∷ es) a b =
     let t = both-true (fits bits infinity v e) (allFit bits infinity vs es) a in
-    let f = fitting bits infinity v e (t .0) in
+    let f = fits-exactly bits infinity v e .0 (t .0) in
     rw (
       le-leb 1 (sumOf bits v e) (omega arith),
       le-leb (sumOf bits v e) infinity (omega arith),

@@ -13,7 +13,7 @@ use Rattle.tables.specs.Patch.{added}
 use Rattle.tables.specs.Tables.{Held, heldIn, atRest, settled}
 use Rattle.tables.specs.Updates.{lengthIn, infinityIn, bitsIn, numbersIn, isLast, resetTests, turnTests, goodReset, inTurn, resetBy, patchBy, onward, movedOn, updated, brokenBy, partWith}
 use Rattle.tables.proofs.TestLaws.{every-true}
-use Rattle.tables.proofs.NumberLaws.{added-length, added-behind}
+use Rattle.tables.proofs.PatchFacts.{added-length, added-rest}
 use Rattle.tables.proofs.AnswerLaws.{each-way}
 
 -- what neither end of a PATCH changes in a table stays
@@ -103,5 +103,5 @@ patched-behind h p w =
     let k = length (numbersIn p) in
     sym (drop-drop k at (take at es ++ added (bitsIn p) (numbersIn p) (drop at es)))
     ∙ ap (drop k) (drop-at (take at es) (added (bitsIn p) (numbersIn p) (drop at es)) at (length-take-le at es w))
-    ∙ added-behind (bitsIn p) (numbersIn p) (drop at es)
+    ∙ added-rest (bitsIn p) (numbersIn p) (drop at es)
     ∙ drop-drop k at es

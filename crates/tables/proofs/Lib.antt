@@ -1,5 +1,7 @@
 pub mod TestLaws
+pub mod PatchFacts
 pub mod NumberLaws
+pub mod UnpackLaws
 pub mod FieldLaws
 pub mod TurnLaws
 pub mod UpdateLaws
@@ -9,4 +11,3 @@ pub mod OrderLaws
 pub mod KeepLaws
 pub mod BoundLaws
 pub mod Vectors
-pub mod PatchFacts

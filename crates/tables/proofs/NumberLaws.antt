@@ -1,5 +1,5 @@
 -- Laws of the numbers of a PATCH, over the bits of a number.
-use Prim.Native.Nat.{ℕ, zero, suc, _+_, _-_, _*_, _/_, _%_, _^_, _≤_, _<_}
+use Prim.Native.Nat.{ℕ, suc, _+_, _*_, _/_, _%_, _≤_, _<_}
 use mathlib.Core.Path.{_≡_, refl, sym, ap, _∙_}
 use mathlib.Core.Logic.{⊎-elim}
 use mathlib.Core.Bool.{Bool, true, false, cond, _&&_, false≢true, and-assoc, and-true}
@@ -7,73 +7,18 @@ use mathlib.Core.List.{List, [], _∷_, _++_}
 use native.Mathlib.Omega.{arith}
 use native.Mathlib.Numerals.{add-one}
 use lib.Dec.{eqb, leb, ltb}
-use lib.ListN.{length, getD, take, drop, set, length-set, take-append-drop, drop-of-length-le}
-use lib.Seq.{drop-cons, take-suc-set, drop-set-lt, append-snoc}
-use borrow.Author.Tests.{eqb-true, ne-eqb, lt-ltb, le-ltb, le-leb, ltb-true, leb-true}
-use Rattle.tables.specs.Patch.{goodBits, numbers, numberCount, half, gain, loss, fits, sumOf, allFit, added}
-use Rattle.tables.proofs.TestLaws.{either, both-true}
-
--- what is known of a width: its whole range is twice its half, which is at most 128
-pub record Width (bits : ℕ) : Type 0 where
-  pub whole : 2 ^ bits ≡ half bits + half bits
-  pub small : half bits ≤ 128
-
--- what holds at 4 and at 8 bits holds at every width
-pub at-widths : (P : ℕ → Type 0) → P 4 → P 8 → (bits : ℕ) → goodBits bits ≡ true → P bits
-at-widths P four eight bits g =
-    ⊎-elim
-    (λ e. rw (eqb-true bits 4 e) four)
-    (λ e. rw (eqb-true bits 8 e) eight)
-    (either (eqb bits 4) (eqb bits 8) g)
-
-pub width : (bits : ℕ) → goodBits bits ≡ true → Width bits
-width = at-widths Width (record { whole = refl; small = omega arith }) (record { whole = refl; small = omega arith })
-
-pub gain-low : (bits v : ℕ) → v < half bits → gain bits v ≡ v
-gain-low bits v h = rw (lt-ltb v (half bits) h)
-
-pub loss-low : (bits v : ℕ) → v < half bits → loss bits v ≡ 0
-loss-low bits v h = rw (lt-ltb v (half bits) h)
-
-pub gain-high : (bits v : ℕ) → half bits ≤ v → gain bits v ≡ 0
-gain-high bits v h = rw (le-ltb v (half bits) h)
-
-pub loss-high : (bits v : ℕ) → half bits ≤ v → loss bits v ≡ 2 ^ bits - v
-loss-high bits v h = rw (le-ltb v (half bits) h)
-
--- what a number that fits says of the sum
-pub record Fitting (bits infinity v e : ℕ) : Type 0 where
-  pub low : loss bits v < e + gain bits v
-  pub high : e + gain bits v ≤ infinity + loss bits v
-
-pub fitting : (bits infinity v e : ℕ) → fits bits infinity v e ≡ true → Fitting bits infinity v e
-fitting bits infinity v e h =
-    let t = both-true (ltb (loss bits v) (e + gain bits v)) (leb (e + gain bits v) (infinity + loss bits v)) h in
-    record {
-      low = ltb-true (loss bits v) (e + gain bits v) (t .0);
-      high = leb-true (e + gain bits v) (infinity + loss bits v) (t .1);
-    }
+use lib.ListN.{length, getD, take, drop, set, length-set, take-append-drop, drop-of-length-le, length-drop}
+use lib.Seq.{length-take-le, drop-drop, drop-cons, take-suc-set, drop-set-lt, append-snoc}
+use borrow.Author.Tests.{eqb-true, ne-eqb, lt-ltb, le-leb, ltb-true, ltb-false, leb-true}
+use Rattle.tables.specs.Patch.{goodBits, numbers, numberCount, gain, loss, fits, sumOf, allFit, added}
+use Rattle.laws.proofs.Chunks.{and-both}
+use Rattle.tables.proofs.TestLaws.{either, both-true, same-test}
+use Rattle.tables.proofs.PatchFacts.{SumWithin, fits-exactly, small-number, large-number, addedAt, addedAt-length, added-twice, fit-twice, allFit-append}
 
 -- a width that is not 4 is 8
 pub eight : (bits : ℕ) → goodBits bits ≡ true → (bits ≡ 4 → ⊥) → bits ≡ 8
 eight bits g n =
     ⊎-elim (λ e. absurd (n (eqb-true bits 4 e))) (λ e. eqb-true bits 8 e) (either (eqb bits 4) (eqb bits 8) g)
-
-pub half-eight : (bits : ℕ) → goodBits bits ≡ true → (bits ≡ 4 → ⊥) → half bits ≡ 128
-half-eight bits g n = ap half (eight bits g n)
-
--- the numbers at places 2k and 2k + 1 of 4-bit data are the halves of byte k
-pub high-at : (bytes : List ℕ) (k : ℕ) → getD (numbers 4 bytes) (k * 2) 0 ≡ getD bytes k 0 / 16
-unfolding numbers
-high-at [] k = refl
-high-at (b ∷ bs) zero = refl
-high-at (b ∷ bs) (suc k) = let e : suc k * 2 ≡ suc (suc (k * 2)) = omega arith in rw e (high-at bs k)
-
-pub low-at : (bytes : List ℕ) (k : ℕ) → getD (numbers 4 bytes) (suc (k * 2)) 0 ≡ getD bytes k 0 % 16
-unfolding numbers
-low-at [] k = refl
-low-at (b ∷ bs) zero = refl
-low-at (b ∷ bs) (suc k) = let e : suc k * 2 ≡ suc (suc (k * 2)) = omega arith in rw e (low-at bs k)
 
 -- data that is not of 4 bits is its own numbers
 pub numbers-whole : (bits : ℕ) (bytes : List ℕ) → (bits ≡ 4 → ⊥) → numbers bits bytes ≡ bytes
@@ -169,6 +114,93 @@ module _ (bits j : ℕ) (vs old es : List ℕ) (a : Adding bits vs old es j) whe
       ∙ ap (λ l. take j es ++ added bits l (drop j es)) (sym (drop-of-length-le vs h))
       ∙ a .left
 
+-- an entry and an 8-bit number whose sum modulo 256 is s: the number fits where s is in range and the sum did not go round
+module _ (infinity v e s : ℕ) (small : infinity < 256) (entry : e < 256) (sum : s ≡ (e + v) % 256) where
+  pub fits-adding : v < 128 → ((leb 1 s && leb s infinity) && leb e s) ≡ fits 8 infinity v e
+  fits-adding low =
+      let g = small-number 8 v low in
+      same-test ((leb 1 s && leb s infinity) && leb e s) (fits 8 infinity v e)
+      (λ h.
+      let t = both-true (leb 1 s && leb s infinity) (leb e s) h in
+      let u = both-true (leb 1 s) (leb s infinity) (t .0) in
+      fits-exactly 8 infinity v e .1 (record {
+        low = omega (arith, leb-true 1 s (u .0), leb-true e s (t .1));
+        high = omega (arith, leb-true s infinity (u .1), leb-true e s (t .1));
+      }))
+      (λ h.
+      let f = fits-exactly 8 infinity v e .0 h in
+      and-both (and-both (le-leb 1 s (omega arith)) (le-leb s infinity (omega arith))) (le-leb e s (omega arith)))
+
+  pub fits-taking : 128 ≤ v → v < 256 → ((leb 1 s && leb s infinity) && ltb s e) ≡ fits 8 infinity v e
+  fits-taking high byte =
+      let g = large-number 8 v high in
+      same-test ((leb 1 s && leb s infinity) && ltb s e) (fits 8 infinity v e)
+      (λ h.
+      let t = both-true (leb 1 s && leb s infinity) (ltb s e) h in
+      let u = both-true (leb 1 s) (leb s infinity) (t .0) in
+      fits-exactly 8 infinity v e .1 (record {
+        low = omega (arith, leb-true 1 s (u .0), ltb-true s e (t .1));
+        high = omega (arith, leb-true s infinity (u .1), ltb-true s e (t .1));
+      }))
+      (λ h.
+      let f = fits-exactly 8 infinity v e .0 h in
+      and-both (and-both (le-leb 1 s (omega arith)) (le-leb s infinity (omega arith))) (lt-ltb s e (omega arith)))
+
+-- .. and is then the entry with the number added
+pub sum-wraps : (infinity v e : ℕ) → infinity < 256 → v < 256 → fits 8 infinity v e ≡ true → (e + v) % 256 ≡ sumOf 8 v e
+sum-wraps infinity v e small byte h = by (ltb v 128) refl
+  where
+    f : SumWithin 8 infinity v e
+    f = fits-exactly 8 infinity v e .0 h
+
+    by : (t : Bool) → ltb v 128 ≡ t → (e + v) % 256 ≡ sumOf 8 v e
+    by true q = let g = small-number 8 v (ltb-true v 128 q) in omega (arith, f .low, f .high)
+    by false q = let g = large-number 8 v (ltb-false v 128 q) in omega (arith, f .low, f .high)
+
+-- the test of all numbers from place j on: the next k, then those behind them
+pub fit-cut : (bits infinity j k : ℕ) (vs es : List ℕ) → j + k ≤ length vs
+    → allFit bits infinity (drop j vs) (drop j es)
+    ≡ (allFit bits infinity (take k (drop j vs)) (drop j es) && allFit bits infinity (drop (j + k) vs) (drop (j + k) es))
+fit-cut bits infinity j k vs es h =
+    let ws = take k (drop j vs) in
+    let size : length ws ≡ k = length-take-le k (drop j vs) (simp length-drop (omega arith)) in
+    ap (λ l. allFit bits infinity l (drop j es)) (sym (take-append-drop k (drop j vs)))
+    ∙ allFit-append bits infinity ws (drop k (drop j vs)) (drop j es)
+    ∙ rw (size, drop-drop k j vs, drop-drop k j es)
+
+pub testing-on : (bits infinity j k : ℕ) (vs es : List ℕ) (good fit : Bool) → j + k ≤ length vs
+    → fit ≡ allFit bits infinity (take k (drop j vs)) (drop j es)
+    → (good && allFit bits infinity (drop j vs) (drop j es)) ≡ ((good && fit) && allFit bits infinity (drop (j + k) vs) (drop (j + k) es))
+testing-on bits infinity j k vs es good fit h e =
+    ap (λ t. good && t) (fit-cut bits infinity j k vs es h)
+    ∙ sym (and-assoc good (allFit bits infinity (take k (drop j vs)) (drop j es)) (allFit bits infinity (drop (j + k) vs) (drop (j + k) es)))
+    ∙ rw e refl
+
+-- k numbers from place j on added at once
+pub adding-on : (bits j k : ℕ) (vs old es : List ℕ) → Adding bits vs old es j → j + k ≤ length vs
+    → Adding bits vs old (addedAt bits j (take k (drop j vs)) es) (j + k)
+adding-on bits j k vs old es a h =
+    let ws = take k (drop j vs) in
+    let size : length ws ≡ k = length-take-le k (drop j vs) (simp length-drop (omega arith)) in
+    let within : j + length ws ≤ length es = rw size (omega (arith, a .long)) in
+    let rest : ws ++ drop (j + k) vs ≡ drop j vs = rw (← drop-drop k j vs) (take-append-drop k (drop j vs)) in
+    let long : length (addedAt bits j ws es) ≡ length es = addedAt-length bits j ws es within in
+    record {
+      within = h;
+      long = rw long (a .long);
+      same = long ∙ a .same;
+      fit =
+          rw size at
+          (both-true
+          (allFit bits 255 ws (drop j es))
+          (allFit bits 255 (drop (j + k) vs) (drop (j + length ws) (addedAt bits j ws es)))
+          (fit-twice bits j ws es within 255 (drop (j + k) vs) ∙ ap (λ l. allFit bits 255 l (drop j es)) rest ∙ a .fit)
+          .1);
+      left =
+          rw size at
+          (added-twice bits j ws es within (drop (j + k) vs) ∙ ap (λ l. take j es ++ added bits l (drop j es)) rest ∙ a .left);
+    }
+
 -- a test of all numbers with those before place j tested, once the one at j is tested too
 pub testing-more : (bits infinity j : ℕ) (vs es : List ℕ) (good fit : Bool) → j < length vs → j < length es
     → fit ≡ fits bits infinity (getD vs j 0) (getD es j 0)
@@ -182,19 +214,6 @@ pub testing-end : (bits infinity j : ℕ) (vs es : List ℕ) (good : Bool) → l
 unfolding allFit
 testing-end bits infinity j vs es good h = rw (drop-of-length-le vs h) (and-true good)
 
-pub added-length : (bits : ℕ) (vs es : List ℕ) → length (added bits vs es) ≡ length es
-unfolding added
-added-length bits [] es = refl
-added-length bits (v ∷ vs) [] = refl
-added-length bits (v ∷ vs) (e ∷ es) = ap suc (added-length bits vs es)
-
--- entries past the numbers stay
-pub added-behind : (bits : ℕ) (vs es : List ℕ) → drop (length vs) (added bits vs es) ≡ drop (length vs) es
-unfolding added
-added-behind bits [] es = refl
-added-behind bits (v ∷ vs) [] = refl
-added-behind bits (v ∷ vs) (e ∷ es) = added-behind bits vs es
-
 -- numbers that fit below an Infinity fit below a larger one
 pub fit-wider : (bits low high : ℕ) (vs es : List ℕ) → low ≤ high → allFit bits low vs es ≡ true → allFit bits high vs es ≡ true
 unfolding allFit
@@ -202,7 +221,7 @@ fit-wider bits low high [] es h a = refl
 fit-wider bits low high (v ∷ vs) [] h a = a
 fit-wider bits low high (v ∷ vs) (e ∷ es) h a =
     let t = both-true (fits bits low v e) (allFit bits low vs es) a in
-    let f = fitting bits low v e (t .0) in
+    let f = fits-exactly bits low v e .0 (t .0) in
     rw (
       lt-ltb (loss bits v) (e + gain bits v) (f .low),
       le-leb (e + gain bits v) (high + loss bits v) (omega arith),

@@ -1,11 +1,11 @@
 -- Laws of tests: what a test that holds says, and two tests that say the same.
-use Prim.Native.Nat.{ℕ, _≤_}
-use mathlib.Core.Path.{_≡_, refl, sym, _∙_}
+use Prim.Native.Nat.{ℕ}
+use mathlib.Core.Path.{_≡_, refl, sym}
 use mathlib.Core.Logic.{_⊎_, inl, inr}
 use mathlib.Core.Bool.{Bool, true, false, _&&_, _||_, false≢true}
 use mathlib.Core.List.{List, [], _∷_}
-use lib.Dec.{eqb, leb}
-use borrow.Author.Tests.{le-leb, leb-true, eq-eqb, ne-eqb, eqb-true}
+use lib.Dec.{eqb}
+use borrow.Author.Tests.{eq-eqb, ne-eqb, eqb-true}
 use Rattle.laws.specs.Tests.{any, every}
 
 pub either : (a b : Bool) → a || b ≡ true → (a ≡ true) ⊎ (b ≡ true)
@@ -16,22 +16,15 @@ pub both-true : (a b : Bool) → a && b ≡ true → (a ≡ true) × (b ≡ true
 both-true true b e = (refl, e)
 both-true false b e = absurd (false≢true e)
 
--- two tests of order that say the same
-pub same-leb : (a b c d : ℕ) → (a ≤ b → c ≤ d) → (c ≤ d → a ≤ b) → leb a b ≡ leb c d
-same-leb a b c d f g = by (leb a b) (leb c d) refl refl
-  where
-    by : (s t : Bool) → leb a b ≡ s → leb c d ≡ t → leb a b ≡ leb c d
-    by true t e u = e ∙ sym (le-leb c d (f (leb-true a b e)))
-    by false true e u = le-leb a b (g (leb-true c d u)) ∙ sym u
-    by false false e u = e ∙ sym u
+-- two tests that say the same
+pub same-test : (a b : Bool) → (a ≡ true → b ≡ true) → (b ≡ true → a ≡ true) → a ≡ b
+same-test true b f g = sym (f refl)
+same-test false true f g = g refl
+same-test false false f g = refl
 
 pub same-eqb : (a b c d : ℕ) → (a ≡ b → c ≡ d) → (c ≡ d → a ≡ b) → eqb a b ≡ eqb c d
-same-eqb a b c d f g = by (eqb a b) (eqb c d) refl refl
-  where
-    by : (s t : Bool) → eqb a b ≡ s → eqb c d ≡ t → eqb a b ≡ eqb c d
-    by true t e u = e ∙ sym (eq-eqb c d (f (eqb-true a b e)))
-    by false true e u = eq-eqb a b (g (eqb-true c d u)) ∙ sym u
-    by false false e u = e ∙ sym u
+same-eqb a b c d f g =
+    same-test (eqb a b) (eqb c d) (λ e. eq-eqb c d (f (eqb-true a b e))) (λ e. eq-eqb a b (g (eqb-true c d e)))
 
 -- n is k, or one of those in the list, as a `match` with several numbers in an arm has it
 abbrev pub Among : ℕ → ℕ → List ℕ → Type 0

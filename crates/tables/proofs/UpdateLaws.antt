@@ -18,7 +18,8 @@ use Rattle.tables.specs.Patch.{numbers, added, allFit}
 use Rattle.tables.specs.Tables.{Held, heldIn, atRest, waiting}
 use Rattle.tables.specs.Updates.{lengthIn, infinityIn, bitsIn, numbersIn, resetTests, isPatch, goodReset, goodPatch, inTurn, inRange, resetAnswer, resetHeld, resetBy, patchAnswer, patchedHeld, patchBy, movedOn, updateAnswer, updated, brokenBy, refusedBy, answered, partWith}
 use Rattle.tables.proofs.TestLaws.{every-true}
-use Rattle.tables.proofs.NumberLaws.{added-length, fit-wider}
+use Rattle.tables.proofs.NumberLaws.{fit-wider}
+use Rattle.tables.proofs.PatchFacts.{added-length}
 use Rattle.tables.proofs.TurnLaws.{turn-within, lent-entries, lent-range}
 
 -- an answer and a part, as the contract of an update has them

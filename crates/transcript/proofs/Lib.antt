@@ -1,6 +1,5 @@
 -- Laws and vectors of the session's text.
 pub mod Vectors
-pub mod Digits
 pub mod Putting
 pub mod Reading
 pub mod Listing

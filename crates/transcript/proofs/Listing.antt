@@ -8,9 +8,9 @@ use native.Mathlib.Omega.{arith}
 use native.Mathlib.Decide.{decLe}
 use lib.ListN.{length, getD, drop, length-append, drop-of-length-le}
 use lib.Seq.{drop-cons}
-use Rattle.transcript.specs.Rows.{space, comma, digit, dash, newline, decimal, flagged, furtherLines, lineList, flagText, sentText, rowText}
+use Rattle.digits.specs.Decimal.{digit, decimal}
+use Rattle.transcript.specs.Rows.{space, comma, dash, newline, flagged, furtherLines, lineList, flagText, sentText, rowText}
 use Rattle.transcript.specs.Put.{Put}
-use Rattle.transcript.proofs.Digits.{size-one, size-two, size-three, size-four, size-five}
 use Rattle.transcript.proofs.Putting.{put-none, put-then, Left, left-start, left-on, left-end}
 
 -- what is still to be listed, of the flags from line k on

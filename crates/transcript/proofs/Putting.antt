@@ -1,17 +1,15 @@
--- Texts put over an area: byte by byte, digit by digit, and one behind another.
-use Prim.Native.Nat.{ℕ, _+_, _-_, _/_, _%_, _≤_, _<_}
+-- Texts put over an area: byte by byte, and one behind another.
+use Prim.Native.Nat.{ℕ, _+_, _≤_, _<_}
 use mathlib.Core.Path.{_≡_, refl, sym, ap, _∙_}
 use mathlib.Core.List.{List, [], _∷_, _++_}
 use native.Mathlib.Nat.{add-zero}
 use native.Mathlib.Omega.{arith}
-use native.Mathlib.Decide.{decLe}
 use lib.ListN.{length, getD, drop, set, length-set, length-append}
 use Rattle.laws.specs.Parts.{over}
-use Rattle.laws.proofs.Text.{over-none, over-append, over-length, copy-on, copy-end}
-use Rattle.laws.proofs.Decimal.{over-byte, over-last}
-use Rattle.transcript.specs.Rows.{decimal}
+use Rattle.laws.proofs.Over.{over-length}
+use Rattle.laws.proofs.Text.{over-none, over-append, copy-on, copy-end}
+use Rattle.laws.proofs.Decimal.{over-byte}
 use Rattle.transcript.specs.Put.{Put}
-use Rattle.transcript.proofs.Digits.{decimal-one, decimal-more, size-one, size-more}
 
 pub put-one : (at b : ℕ) (area : List ℕ) → at < length area → Put at (b ∷ []) area (set area at b) (at + 1)
 put-one at b area h = record { written = over-byte at b area h; moved = refl }
@@ -83,57 +81,3 @@ module _ (text before : List ℕ) (at : ℕ) (area : List ℕ) (i : ℕ) (p : Co
 
   pub copying-end : length text ≤ i → Put at text before area (at + length text)
   copying-end h = record { written = sym (copy-end at i text area h) ∙ p .left; moved = refl }
-
--- ---- a number, from its last digit to its first
-
--- the digits of m are still to be written, and the last of them is before place i
-pub record Spelling (before : List ℕ) (at n : ℕ) (area : List ℕ) (m i : ℕ) : Type 0 where
-  pub small : m < 100000
-  pub place : i ≡ at + length (decimal m)
-  pub size : length area ≡ length before
-  pub room : i ≤ length area
-  pub left : over at (decimal m) area ≡ over at (decimal n) before
-
-pub spelling-start : (area : List ℕ) (at n i : ℕ) → n < 100000 → i ≡ at + length (decimal n) → i ≤ length area → Spelling area at n area n i
-spelling-start area at n i b e h = record { small = b; place = e; size = refl; room = h; left = refl }
-
-module _ (before : List ℕ) (at n : ℕ) (area : List ℕ) (m i : ℕ) (s : Spelling before at n area m i) where
-  pub spelling-back : 10 ≤ m → 1 ≤ i
-  spelling-back h = omega (arith, size-more m h (s .small), s .place)
-
-  pub spelling-on : 10 ≤ m → Spelling before at n (set area (i - 1) (48 + m % 10)) (m / 10) (i - 1)
-  spelling-on h =
-      let k = size-more m h (s .small) in
-      let e : i - 1 ≡ at + length (decimal (m / 10)) = omega (arith, s .place) in
-      record {
-        small = omega (arith, s .small);
-        place = e;
-        size = simp length-set (s .size);
-        room = simp length-set (omega (arith, s .room));
-        left =
-            ap (λ j. over at (decimal (m / 10)) (set area j (48 + m % 10))) e
-            ∙ over-last at (decimal (m / 10)) (48 + m % 10) area (omega (arith, s .room, s .place))
-            ∙ ap (λ x. over at x area) (sym (decimal-more m h (s .small)))
-            ∙ s .left;
-      }
-
-  pub spelling-room : at < length area
-  spelling-room = omega (arith, s .room, s .place, decimal-some m (s .small))
-    where
-      decimal-some : (m : ℕ) → m < 100000 → 1 ≤ length (decimal m)
-      decimal-some m h = go (decLe 10 m)
-        where
-          go : Dec (10 ≤ m) → 1 ≤ length (decimal m)
-          go (yes k) = omega (arith, size-more m k h)
-          go (no k) = omega (arith, size-one m (omega arith))
-
-  pub spelling-end : (size : ℕ) → m < 10 → size ≡ length (decimal n) → Put at (decimal n) before (set area at (48 + m % 10)) (at + size)
-  spelling-end size h e =
-      let d : m % 10 ≡ m = omega arith in
-      record {
-        written =
-            over-byte at (48 + m % 10) area spelling-room
-            ∙ ap (λ x. over at x area) (ap (λ x. (48 + x) ∷ []) d ∙ sym (decimal-one m h))
-            ∙ s .left;
-        moved = ap (λ k. at + k) e;
-      }

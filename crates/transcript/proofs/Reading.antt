@@ -28,15 +28,15 @@ module _ (file : List ℕ) where
     too-short h = sym (rw (le-leb (length file) longest a, lt-leb 8 (length file) h))
 
     module _ (b : 8 ≤ length file) (n : ℕ) (e : n ≡ countOf file) where
-      pub no-room : (length file - 8) / 4 < n → false ≡ goodOffsets file
+      pub no-room : length file < 8 + 4 * n → false ≡ goodOffsets file
       unfolding goodOffsets
       no-room h =
-          let k : length file < 8 + 4 * countOf file = rw (← e) (omega arith) in
+          let k : length file < 8 + 4 * countOf file = rw (← e) h in
           sym (rw (le-leb (length file) longest a, le-leb 8 (length file) b, lt-leb (8 + 4 * countOf file) (length file) k))
 
-      module _ (h : n ≤ (length file - 8) / 4) (first : ℕ) (f : first ≡ offsetOf file 0) where
+      module _ (h : 8 + 4 * n ≤ length file) (first : ℕ) (f : first ≡ offsetOf file 0) where
         room : 8 + 4 * countOf file ≤ length file
-        room = rw (← e) (omega arith)
+        room = rw (← e) h
 
         pub not-first : (first ≡ 8 + 4 * n → ⊥) → false ≡ goodOffsets file
         unfolding goodOffsets

@@ -21,8 +21,9 @@ use Rattle.protocol.specs.Queries.{untilZero, queryOutcome}
 use Rattle.protocol.specs.Hits.{hitOutcome}
 use Rattle.protocol.specs.Pings.{walk, pingOutcome, pongOutcome}
 use Rattle.protocol.specs.Calls.{fresh, opening, closing, early, updateOutcome, byType, arriving, asking}
+use Rattle.digits.specs.Decimal.{decimal}
 use Rattle.transcript.specs.Files.{goodOffsets, goodEvent}
-use Rattle.transcript.specs.Rows.{decimal, sentText, rowText}
+use Rattle.transcript.specs.Rows.{sentText, rowText}
 use Rattle.transcript.specs.Text.{callOf, rowsFrom, allRows, sessionText}
 
 -- an event, and a file of events

@@ -59,7 +59,7 @@ rows-start file n at s area route out f =
       rest = record { size = refl; left = ap (λ x. over at x out) q; place = ap (λ x. at + length x) q };
     }
 
-module _ (file : List ℕ) (n at : ℕ) (s₀ : Station) (route₀ before : List ℕ) (area route out : List ℕ) (s : Station) (next i : ℕ)
+module _ {file : List ℕ} {n at : ℕ} {s₀ : Station} {route₀ before : List ℕ} {area route out : List ℕ} {s : Station} {next i : ℕ}
     (r : Rows file n at s₀ route₀ before area route out s next i) where
   both : i < n → goodEvent file i && all (goodEvent file) (countFrom (i + 1) (n - (i + 1))) ≡ true
   both h = ap (all (goodEvent file)) (sym (count-next i n h)) ∙ r .good
@@ -97,7 +97,7 @@ module _ (file : List ℕ) (n at : ℕ) (s₀ : Station) (route₀ before : List
   rows-end h = left-end (rw (count-end i n h) at (r .rest))
 
   -- event i's part of the file
-  module _ (h : i < n) (from to : ℕ) (e : from ≡ offsetOf file i) (f : to ≡ offsetOf file (i + 1)) where
+  module _ (h : i < n) {from to : ℕ} (e : from ≡ offsetOf file i) (f : to ≡ offsetOf file (i + 1)) where
     pub part-rises : from + 6 ≤ to
     part-rises = rw (e, f) (event-rises file i (here-good h))
 

@@ -1,8 +1,8 @@
 -- The rows of a session's text: the event's number, the answer, and the lines that were sent to.
-use Prim.Native.Nat.{ℕ, zero, suc, _+_, _/_, _%_}
-use mathlib.Core.Bool.{Bool, true, false, cond}
+use Prim.Native.Nat.{ℕ, _+_}
+use mathlib.Core.Bool.{Bool, true, false}
 use mathlib.Core.List.{List, [], _∷_, _++_}
-use lib.Dec.{ltb}
+use Rattle.digits.specs.Decimal.{digit, decimal}
 
 abbrev pub space : ℕ
 space = 0x20
@@ -15,19 +15,6 @@ dash = 0x2D
 
 abbrev pub newline : ℕ
 newline = 0x0A
-
--- a number below ten in ASCII
-abbrev pub digit : ℕ → ℕ
-digit n = 48 + n
-
--- n in at most k digits, with no leading zero
-abbrev pub digitsOf : ℕ → ℕ → List ℕ
-digitsOf zero n = []
-digitsOf (suc k) n = cond (ltb n 10) (digit n ∷ []) (digitsOf k (n / 10) ++ (digit (n % 10) ∷ []))
-
--- a number below 100,000 in decimal
-unfoldable pub decimal : ℕ → List ℕ
-decimal n = digitsOf 5 n
 
 -- the numbers of the true flags, rising; the first flag is that of line k
 abbrev pub flagged : ℕ → List Bool → List ℕ

@@ -39,10 +39,11 @@ fn good_offsets(file: &[u8]) -> bool
         return false;
     }
     let n = count(file);
-    if n > (file.len() - 8) / 4 {
+    let start = 8 + 4 * n;
+    if start > file.len() {
         return false;
     }
-    if offset(file, 0) != 8 + 4 * n {
+    if offset(file, 0) != start {
         return false;
     }
     offset(file, n) == file.len()

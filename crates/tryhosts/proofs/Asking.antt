@@ -10,7 +10,7 @@ use lib.Seq.{take-append-seam, length-take-le}
 use borrow.Author.Tests.{ne-eqb, le-ltb}
 use Rattle.laws.specs.Tests.{firstOf, all}
 use Rattle.laws.specs.Parts.{over}
-use Rattle.laws.proofs.Text.{over-length}
+use Rattle.laws.proofs.Over.{over-length}
 use Rattle.handshake.specs.Lines.{groupLength}
 use Rattle.handshake.specs.Fields.{isNone, commaBetween, fieldsOf, valuesOf, isAbsent, valueFor}
 use Rattle.handshake.specs.Group.{understood, fieldsIn, askedFrom, askedNumber, askedWith, askField, askedOut}

@@ -5,7 +5,6 @@ pub mod Numbers
 pub mod Skipping
 pub mod Parsing
 pub mod Items
-pub mod Digits
 pub mod Putting
 pub mod Listing
 pub mod Busy

@@ -1,23 +1,23 @@
 -- Laws of texts put over an area, by which the loops go.
-use Prim.Native.Nat.{ℕ, suc, _+_, _-_, _/_, _%_, _≤_, _<_}
+use Prim.Native.Nat.{ℕ, suc, _+_, _≤_, _<_}
 use mathlib.Core.Path.{_≡_, refl, sym, ap, _∙_}
 use mathlib.Core.List.{List, [], _∷_, _++_, append-assoc}
 use native.Mathlib.Nat.{add-zero}
 use native.Mathlib.Numerals.{add-one}
 use native.Mathlib.Omega.{arith}
 use borrow.Author.Tests.{lt-ltb, le-ltb}
-use lib.ListN.{length, getD, drop, set, length-set, length-append, drop-of-length-le}
+use lib.ListN.{length, getD, take, drop, set, length-set, length-append, drop-of-length-le}
 use lib.Seq.{drop-cons}
 use Rattle.laws.specs.Parts.{over}
 use Rattle.laws.proofs.Text.{over-none, over-set, over-append}
-use Rattle.laws.proofs.Decimal.{over-byte, over-last}
-use Rattle.tryhosts.specs.Decimal.{decimal}
+use Rattle.digits.specs.declared.Digits.{Digits}
+use Rattle.digits.specs.Decimal.{decimal, digitsFor}
+use Rattle.digits.proofs.Spelling.{spelled}
 use Rattle.tryhosts.specs.Pairs.{dot, colon}
 use Rattle.tryhosts.specs.Groups.{octetOf, pairText, textAnswer, wroteOf, areaOf}
 use Rattle.tryhosts.specs.Writing.{Put}
 use Rattle.tryhosts.specs.declared.Pair.{Pair}
 use Rattle.tryhosts.specs.declared.Wrote.{Wrote}
-use Rattle.tryhosts.proofs.Digits.{decimal-one, decimal-more, size-one, size-more}
 
 -- ---- a text, byte by byte
 
@@ -52,55 +52,14 @@ module _ (text before : List ℕ) (at : ℕ) (area : List ℕ) (i : ℕ) (p : Pu
         moved = refl;
       }
 
--- ---- a number, from its last digit to its first
+-- ---- a number behind the byte that leads it
 
--- `m` are the digits that are still to be written over what stood at the start
-pub record Spelling (before : List ℕ) (at n : ℕ) (area : List ℕ) (m i : ℕ) : Type 0 where
-  pub small : m < 100000
-  pub place : i ≡ at + length (decimal m)
-  pub size : length area ≡ length before
-  pub room : at + length (decimal m) < length area
-  pub left : over (at + 1) (decimal m) area ≡ over (at + 1) (decimal n) before
-
-pub spelling-start : (area : List ℕ) (at lead n : ℕ) → n < 100000 → at + suc (length (decimal n)) ≤ length area → Spelling (set area at lead) at n (set area at lead) n (at + length (decimal n))
-spelling-start area at lead n b h =
-    record { small = b; place = refl; size = refl; room = simp length-set (omega arith); left = refl }
-
-module _ (before : List ℕ) (at n : ℕ) (area : List ℕ) (m i : ℕ) (s : Spelling before at n area m i) where
-  pub spelling-back : 10 ≤ m → 1 ≤ i
-  spelling-back h = omega (arith, size-more m h (s .small), s .place)
-
-  pub spelling-on : 10 ≤ m → Spelling before at n (set area i (48 + m % 10)) (m / 10) (i - 1)
-  spelling-on h =
-      let k = size-more m h (s .small) in
-      let e : i ≡ at + 1 + length (decimal (m / 10)) = omega (arith, s .place) in
-      record {
-        small = omega (arith, s .small);
-        place = omega (arith, s .place);
-        size = simp length-set (s .size);
-        room = simp length-set (omega (arith, s .room));
-        left =
-            ap (λ j. over (at + 1) (decimal (m / 10)) (set area j (48 + m % 10))) e
-            ∙ over-last (at + 1) (decimal (m / 10)) (48 + m % 10) area (omega (arith, s .room))
-            ∙ ap (λ x. over (at + 1) x area) (sym (decimal-more m h (s .small)))
-            ∙ s .left;
-      }
-
-  spelling-done : m < 10 → set area i (48 + m % 10) ≡ over (at + 1) (decimal n) before
-  spelling-done h =
-      let k = size-one m h in
-      let e : i ≡ at + 1 = omega (arith, s .place) in
-      let d : m % 10 ≡ m = omega arith in
-      ap (λ j. set area j (48 + m % 10)) e
-      ∙ over-byte (at + 1) (48 + m % 10) area (omega (arith, s .room))
-      ∙ ap (λ x. over (at + 1) x area) (ap (λ x. (48 + x) ∷ []) d ∙ sym (decimal-one m h))
-      ∙ s .left
-
-pub spelling-end : (before : List ℕ) (at lead n : ℕ) (area : List ℕ) (m i : ℕ) → Spelling (set before at lead) at n area m i → at + suc (length (decimal n)) ≤ length before → m < 10 → Put at (lead ∷ decimal n) before (set area i (48 + m % 10)) (at + length (decimal n) + 1)
-spelling-end before at lead n area m i s r h =
+pub put-led : (n : ℕ) {at lead next : ℕ} {d : Digits} {area after : List ℕ} → d ≡ digitsFor n → at < length area
+    → Put (at + 1) (take (d .size) (d .bytes)) (set area at lead) after next → Put at (lead ∷ decimal n) area after next
+put-led n {at} {lead} {next} {d} {area} e h p =
     record {
-      written = spelling-done (set before at lead) at n area m i s h ∙ over-set at lead (decimal n) before (omega arith);
-      moved = omega arith;
+      written = p .written ∙ ap (λ x. over (at + 1) x (set area at lead)) (spelled n e) ∙ over-set at lead (decimal n) area h;
+      moved = omega (arith, p .moved, ap length (spelled n e));
     }
 
 -- ---- texts one after the other

@@ -4,7 +4,7 @@ use Prim.Native.String.{String}
 use mathlib.Core.Path.{_≡_, refl}
 use mathlib.Core.List.{List, [], _∷_, map}
 use Rattle.laws.specs.Text.{codes}
-use Rattle.tryhosts.specs.Decimal.{decimal}
+use Rattle.digits.specs.Decimal.{decimal}
 use Rattle.tryhosts.specs.Pairs.{itemsOf, pieces, bare, filled, upTo, past, goodPair, pairIn, pairsFrom, pairsOf, readAnswer}
 use Rattle.tryhosts.specs.Groups.{pairText, pairsText, tryLine, busyBytes}
 use Rattle.tryhosts.specs.Tried.{groupAnswer, groupTried}

@@ -1,8 +1,8 @@
--- Numbers written in decimal.
-use Prim.Native.Nat.{ℕ, zero, suc, _+_, _-_, _*_, _/_, _%_}
-use mathlib.Core.Bool.{Bool, cond, _&&_}
-use mathlib.Core.List.{List, [], _∷_, _++_}
-use lib.Dec.{leb, ltb}
+-- Numbers read in decimal.
+use Prim.Native.Nat.{ℕ, _+_, _-_, _*_}
+use mathlib.Core.Bool.{Bool, _&&_}
+use mathlib.Core.List.{List, [], _∷_}
+use lib.Dec.{leb}
 use lib.ListN.{length}
 use Rattle.laws.specs.Tests.{every, all}
 
@@ -22,12 +22,3 @@ number text = numberFrom 0 text
 -- at least one digit, at most `widest`, and nothing else
 abbrev pub isNumber : ℕ → List ℕ → Bool
 isNumber widest text = every (leb 1 (length text) ∷ leb (length text) widest ∷ all isDigit text ∷ [])
-
--- n in at most k digits, with no leading zero
-abbrev pub digitsOf : ℕ → ℕ → List ℕ
-digitsOf zero n = []
-digitsOf (suc k) n = cond (ltb n 10) ((0x30 + n) ∷ []) (digitsOf k (n / 10) ++ ((0x30 + n % 10) ∷ []))
-
--- a number below 100,000 in decimal
-unfoldable pub decimal : ℕ → List ℕ
-decimal n = digitsOf 5 n

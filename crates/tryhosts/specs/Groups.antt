@@ -7,7 +7,7 @@ use lib.ListN.{length, take, getD}
 use Rattle.laws.specs.Tests.{firstOf, all}
 use Rattle.laws.specs.Text.{codes}
 use Rattle.laws.specs.Parts.{over}
-use Rattle.tryhosts.specs.Decimal.{decimal}
+use Rattle.digits.specs.Decimal.{decimal}
 use Rattle.tryhosts.specs.Pairs.{comma, dot, colon}
 use Rattle.tryhosts.specs.declared.Pair.{Pair}
 use Rattle.tryhosts.specs.declared.Pairs.{Pairs}

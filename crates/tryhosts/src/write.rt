@@ -4,9 +4,9 @@ use crate::Pairs;
 use crate::Wrote;
 ghost use mathlib.Core.Path.{_≡_};
 ghost use mathlib.Core.List.{_∷_};
-ghost use Prim.Native.Nat.{_+_, _%_, _≤_};
+ghost use Prim.Native.Nat.{_+_, _≤_};
 ghost use lib.ListN.{length};
-ghost use Rattle.tryhosts.specs.Decimal.{decimal};
+ghost use Rattle.digits.specs.Decimal.{decimal};
 ghost use Rattle.tryhosts.specs.Groups.{greetingBytes, okBytes, busyBytes, pairText, pairsIn, canWrite, textAnswer, busyAnswer, wroteOf, areaOf};
 ghost use Rattle.tryhosts.specs.Pairs.{comma, space};
 ghost use Rattle.tryhosts.specs.Writing.{led, Put};
@@ -55,48 +55,16 @@ pub fn write_ok(out: &mut [u8]) -> Wrote
     put_whole(b"GNUTELLA/0.6 200 OK\r\n\r\n", out)
 }
 
-// How many digits `n` has.
-fn digits(n: u16) -> usize
-    ensures { λ r. ⌜ (r ≡ length (decimal n)) × (r ≤ 5) ⌝ }
-{
-    if n < 10 {
-        return 1;
-    }
-    if n < 100 {
-        return 2;
-    }
-    if n < 1000 {
-        return 3;
-    }
-    if n < 10000 {
-        return 4;
-    }
-    5
-}
-
-// A digit in ASCII.
-fn digit(n: u16) -> u8
-    ensures { λ r. ⌜ r ≡ 48 + n % 10 ⌝ }
-{
-    b'0' + (n % 10) as u8
-}
-
-// The byte `lead` and a number in decimal, whose digits are written from the last to the first.
+// The byte `lead` and a number in decimal.
 fn put_number(out: &mut [u8], at: usize, lead: u8, n: u16) -> usize
     requires { ⌜ at + length (lead ∷ decimal n) ≤ length (now out) ⌝ }
     ensures { λ r. ⌜ Put at (lead ∷ decimal n) (now (out .entry)) (now (out .exit)) r ⌝ }
 {
-    let size = digits(n);
+    let digits = digits::spell(n);
+    let size = digits.size;
+    let bytes = digits.bytes;
     out[at] = lead;
-    let mut m = n;
-    let mut i = at + size;
-    while m >= 10 {
-        out[i] = digit(m);
-        m = m / 10;
-        i -= 1;
-    }
-    out[i] = digit(m);
-    at + size + 1
+    put(&bytes[..size], out, at + 1)
 }
 
 // The byte `lead` and an octet in decimal.
@@ -123,7 +91,7 @@ fn put_pair(out: &mut [u8], at: usize, lead: u8, p: Pair) -> usize
 fn octet_digits(b: u8) -> usize
     ensures { λ r. ⌜ (r ≡ length (decimal b)) × (r ≤ 5) ⌝ }
 {
-    digits(b as u16)
+    digits::size(b as u16)
 }
 
 // How long a pair is in text.
@@ -133,7 +101,7 @@ fn pair_size(p: Pair) -> usize
     let a = p.address;
     let first = octet_digits(a[0]) + octet_digits(a[1]);
     let last = octet_digits(a[2]) + octet_digits(a[3]);
-    first + last + digits(p.port) + 4
+    first + last + digits::size(p.port) + 4
 }
 
 // How long the pairs are in text, each with a byte in front of it.

@@ -1,8 +1,11 @@
 // The vectors over the proved crates, as a table: docs/VECTORS.md says what each row is.
+mod bytes;
+mod cases;
 mod fields;
 mod groups;
 mod places;
 mod print;
+mod sessions;
 mod texts;
 mod tries;
 mod updates;
@@ -16,4 +19,6 @@ fn main() {
     groups::all();
     fields::all();
     tries::all();
+    cases::all();
+    sessions::all();
 }

@@ -1,4 +1,5 @@
 // `keywords TEXT COUNT STARTS`
+use crate::bytes;
 use crate::print;
 
 // Goes from keyword to keyword; where `show` is set, writes where each starts, with commas.
@@ -27,32 +28,33 @@ fn each(text: &[u8], show: bool) -> u64 {
 }
 
 fn start_of(before: u64, at: usize) {
-    if 0 < before {
-        io::write_all(1, b",");
-    }
-    print::number(at as u64);
+    print::between(0 < before);
+    io::print_decimal(1, at as u64);
 }
 
-fn row(shown: &[u8], text: &[u8]) {
-    io::write_all(1, b"keywords ");
-    print::word(shown);
-    print::space();
+fn row(text: &[u8]) {
+    io::write_all(1, b"keywords");
+    print::shown(text);
     let count = each(text, false);
     print::number(count);
-    print::space();
     if count == 0 {
-        io::write_all(1, b"-");
+        print::word(b"");
     } else {
         each(text, true);
     }
     print::end();
 }
 
+// A row for each text of the table.
+fn rows(table: &[u8]) {
+    let mut at = 0;
+    while at < table.len() {
+        let end = bytes::word_end(table, at, 0);
+        row(&table[at..end]);
+        at = end + 1;
+    }
+}
+
 pub fn all() {
-    row(b"", b"");
-    row(b"_", b" ");
-    row(b"eb", b"eb");
-    row(b"eb_ebckl", b"eb ebckl");
-    row(b"__eb___ebckl_", b"  eb   ebckl ");
-    row(b"LX-04417.jpg_Spruce", b"LX-04417.jpg Spruce");
+    rows(b"\0 \0eb\0eb ebckl\0  eb   ebckl \0LX-04417.jpg Spruce\0");
 }

@@ -1,123 +1,95 @@
 // `try LABEL ANSWER USED PAIRS` and `written LABEL ANSWER BYTES`
+use crate::bytes;
 use crate::print;
 use tryhosts::Pair;
 use tryhosts::Pairs;
 
+// An octet and what stands behind it.
+fn octet(b: u8, behind: &[u8]) {
+    io::print_decimal(1, print::wide(b));
+    io::write_all(1, behind);
+}
+
 fn pair_words(p: Pair) {
     let address = p.address;
-    print::byte(address[0]);
-    io::write_all(1, b".");
-    print::byte(address[1]);
-    io::write_all(1, b".");
-    print::byte(address[2]);
-    io::write_all(1, b".");
-    print::byte(address[3]);
-    io::write_all(1, b":");
-    print::number(p.port as u64);
+    octet(address[0], b".");
+    octet(address[1], b".");
+    octet(address[2], b".");
+    octet(address[3], b":");
+    io::print_decimal(1, p.port as u64);
 }
 
 fn pairs_words(found: Pairs) {
     if found.count == 0 {
-        io::write_all(1, b"-");
+        print::word(b"");
     }
     let mut i: usize = 0;
     while i < 32 {
         if found.count <= i {
             return;
         }
-        if 0 < i {
-            io::write_all(1, b",");
-        }
+        print::between(0 < i);
         let p = found.pairs[i];
         pair_words(p);
         i += 1;
     }
 }
 
-fn row(label: &[u8], bytes: &[u8]) {
-    let r = tryhosts::group::try_pairs(bytes);
-    io::write_all(1, b"try ");
+fn row(label: &[u8], group: &[u8]) {
+    let r = tryhosts::group::try_pairs(group);
+    io::write_all(1, b"try");
     print::word(label);
-    print::space();
     print::number(r.answer as u64);
-    print::space();
     print::number(r.used as u64);
-    print::space();
     let found = r.pairs;
     pairs_words(found);
     print::end();
 }
 
+// A row for each label and lines of the table, behind a reply's first line.
+fn rows(table: &[u8]) {
+    let mut at = 0;
+    while at < table.len() {
+        let middle = bytes::word_end(table, at, 0);
+        if middle == table.len() {
+            return;
+        }
+        let from = middle + 1;
+        let end = bytes::word_end(table, from, 0);
+        let mut group = [0u8; 128];
+        bytes::put(&mut group, 0, b"GNUTELLA/0.6 503 Busy\r\n");
+        bytes::put(&mut group, 23, &table[from..end]);
+        row(&table[at..middle], &group);
+        at = end + 1;
+    }
+}
+
 fn lists() {
-    row(
-        b"two",
-        b"GNUTELLA/0.6 503 Busy\r\nX-Try:1.2.3.4:1234,3.4.5.6:3456\r\n\r\n",
-    );
-    row(
-        b"spaces",
-        b"GNUTELLA/0.6 503 Busy\r\nX-Try: 1.2.3.4:1234, 3.4.5.6:3456\r\n\r\n",
-    );
-    row(
-        b"comma",
-        b"GNUTELLA/0.6 503 Busy\r\nX-Try: 1.2.3.4:1234,\r\n\r\n",
-    );
-    row(
-        b"lines",
-        b"GNUTELLA/0.6 503 Busy\r\nX-Try: 1.2.3.4:1234,\r\n 3.4.5.6:3456\r\nx-try: 5.6.7.8:1\r\n\r\n",
-    );
-    row(b"none", b"GNUTELLA/0.6 503 Busy\r\n\r\n");
-    row(b"empty", b"GNUTELLA/0.6 503 Busy\r\nX-Try:\r\n\r\n");
-    row(
-        b"commas",
-        b"GNUTELLA/0.6 503 Busy\r\nX-Try: ,, ,1.2.3.4:5,,\r\n\r\n",
-    );
-    row(
-        b"twospaces",
-        b"GNUTELLA/0.6 503 Busy\r\nX-Try: 1.2.3.4:5,  3.4.5.6:7\r\n\r\n",
-    );
-    row(
-        b"leading",
-        b"GNUTELLA/0.6 503 Busy\r\nX-Try:\r\n 1.2.3.4:5\r\n\r\n",
+    rows(
+        b"two\0X-Try:1.2.3.4:1234,3.4.5.6:3456\r\n\r\n\0\
+        spaces\0X-Try: 1.2.3.4:1234, 3.4.5.6:3456\r\n\r\n\0\
+        comma\0X-Try: 1.2.3.4:1234,\r\n\r\n\0\
+        lines\0X-Try: 1.2.3.4:1234,\r\n 3.4.5.6:3456\r\nx-try: 5.6.7.8:1\r\n\r\n\0\
+        none\0\r\n\0\
+        empty\0X-Try:\r\n\r\n\0\
+        commas\0X-Try: ,, ,1.2.3.4:5,,\r\n\r\n\0\
+        twospaces\0X-Try: 1.2.3.4:5,  3.4.5.6:7\r\n\r\n\0\
+        leading\0X-Try:\r\n 1.2.3.4:5\r\n\r\n\0",
     );
 }
 
 fn numbers() {
-    row(
-        b"port0",
-        b"GNUTELLA/0.6 503 Busy\r\nX-Try: 1.2.3.4:0\r\n\r\n",
-    );
-    row(
-        b"port65535",
-        b"GNUTELLA/0.6 503 Busy\r\nX-Try: 1.2.3.4:65535\r\n\r\n",
-    );
-    row(
-        b"port65536",
-        b"GNUTELLA/0.6 503 Busy\r\nX-Try: 1.2.3.4:65536\r\n\r\n",
-    );
-    row(
-        b"zeros",
-        b"GNUTELLA/0.6 503 Busy\r\nX-Try: 01.002.3.4:00080\r\n\r\n",
-    );
-    row(
-        b"octet256",
-        b"GNUTELLA/0.6 503 Busy\r\nX-Try: 1.2.3.256:5\r\n\r\n",
-    );
-    row(
-        b"digits4",
-        b"GNUTELLA/0.6 503 Busy\r\nX-Try: 0001.2.3.4:5\r\n\r\n",
-    );
-    row(b"three", b"GNUTELLA/0.6 503 Busy\r\nX-Try: 1.2.3:5\r\n\r\n");
-    row(
-        b"five",
-        b"GNUTELLA/0.6 503 Busy\r\nX-Try: 1.2.3.4.5:6\r\n\r\n",
-    );
-    row(
-        b"noport",
-        b"GNUTELLA/0.6 503 Busy\r\nX-Try: 1.2.3.4\r\n\r\n",
-    );
-    row(
-        b"more",
-        b"GNUTELLA/0.6 503 Busy\r\nX-Try: 1.2.3.4:5x\r\n\r\n",
+    rows(
+        b"port0\0X-Try: 1.2.3.4:0\r\n\r\n\0\
+        port65535\0X-Try: 1.2.3.4:65535\r\n\r\n\0\
+        port65536\0X-Try: 1.2.3.4:65536\r\n\r\n\0\
+        zeros\0X-Try: 01.002.3.4:00080\r\n\r\n\0\
+        octet256\0X-Try: 1.2.3.256:5\r\n\r\n\0\
+        digits4\0X-Try: 0001.2.3.4:5\r\n\r\n\0\
+        three\0X-Try: 1.2.3:5\r\n\r\n\0\
+        five\0X-Try: 1.2.3.4.5:6\r\n\r\n\0\
+        noport\0X-Try: 1.2.3.4\r\n\r\n\0\
+        more\0X-Try: 1.2.3.4:5x\r\n\r\n\0",
     );
 }
 
@@ -129,7 +101,7 @@ fn put_pairs(area: &mut [u8], n: usize) -> usize {
         if 500 < at {
             return at;
         }
-        print::put(&mut *area, at, b"1.2.3.4:5,");
+        bytes::put(&mut *area, at, b"1.2.3.4:5,");
         at += 10;
         i += 1;
     }
@@ -139,18 +111,16 @@ fn put_pairs(area: &mut [u8], n: usize) -> usize {
 // So many pairs, and then `last`, in a group.
 fn many(label: &[u8], n: usize, last: &[u8]) {
     let mut area = [0u8; 600];
-    print::put(&mut area, 0, b"GNUTELLA/0.6 503 Busy\r\nX-Try: ");
+    bytes::put(&mut area, 0, b"GNUTELLA/0.6 503 Busy\r\nX-Try: ");
     let at = put_pairs(&mut area, n);
-    print::put(&mut area, at, last);
+    bytes::put(&mut area, at, last);
     row(label, &area);
 }
 
 fn wrote(label: &[u8], r: tryhosts::Wrote, out: &[u8]) {
-    io::write_all(1, b"written ");
+    io::write_all(1, b"written");
     print::word(label);
-    print::space();
     print::number(r.answer as u64);
-    print::space();
     print::hex(out, r.written);
     print::end();
 }

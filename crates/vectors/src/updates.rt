@@ -26,17 +26,11 @@ fn start() -> Case {
 
 fn table_words(t: Table) {
     print::number(t.mark as u64);
-    print::space();
     print::number(t.length as u64);
-    print::space();
     print::number(t.infinity as u64);
-    print::space();
     print::number(t.place as u64);
-    print::space();
     print::number(t.size as u64);
-    print::space();
     print::number(t.bits as u64);
-    print::space();
     print::number(t.at as u64);
 }
 
@@ -46,13 +40,10 @@ fn row_by(label: &[u8], from: Case, ttl: u8, hops: u8, payload: &[u8]) -> Case {
     let mut part = from.part;
     let r = tables::updates::update(before, ttl, hops, payload, &mut part);
     let table = r.table;
-    io::write_all(1, b"update ");
+    io::write_all(1, b"update");
     print::word(label);
-    print::space();
     print::number(r.answer as u64);
-    print::space();
     table_words(table);
-    print::space();
     print::list(&part);
     print::end();
     Case { table, part }
@@ -68,6 +59,9 @@ fn fields(p1: Case) {
     row(b"empty", p1, b"");
     row(b"variant2", p1, b"\x02");
     row(b"long", p1, b"\x00\x04\x00\x00\x00\x08\x00");
+}
+
+fn resets() {
     row(b"room8", start(), b"\x00\x08\x00\x00\x00\x08");
     row(b"room16", start(), b"\x00\x10\x00\x00\x00\x08");
     row(b"length3", start(), b"\x00\x03\x00\x00\x00\x08");
@@ -76,11 +70,14 @@ fn fields(p1: Case) {
     row(b"infinity128", start(), b"\x00\x04\x00\x00\x00\x80");
 }
 
-fn patches(p1: Case) {
+fn patch_fields(p1: Case) {
     row(b"compressor", start(), b"\x01\x01\x01\x01\x04\x09\x09");
     row(b"place0", p1, b"\x01\x00\x01\x00\x04\x09\x09");
     row(b"place2of1", p1, b"\x01\x02\x01\x00\x04\x09\x09");
     row(b"bits5", p1, b"\x01\x01\x01\x00\x05\x09\x09");
+}
+
+fn patch_data(p1: Case) {
     row(b"leftover", p1, b"\x01\x01\x01\x00\x04\x10");
     row(b"past", p1, b"\x01\x01\x01\x00\x04\x00\x00\x00");
     row(b"half", p1, b"\x01\x01\x01\x00\x04\x91\x00");
@@ -95,20 +92,19 @@ fn runs(first: Case) {
     row(b"inside", first, b"\x00\x04\x00\x00\x00\x02");
 }
 
-fn withheld(label: &[u8], c: Case, ttl: u8, shown: &[u8], text: &[u8]) {
+fn withheld(label: &[u8], c: Case, ttl: u8, text: &[u8]) {
     let table = c.table;
     let part = c.part;
-    io::write_all(1, b"withheld ");
+    io::write_all(1, b"withheld");
     print::word(label);
-    print::space();
     print::number(ttl as u64);
-    print::space();
-    print::word(shown);
+    print::shown(text);
     if tables::admission::withheld(table, &part, ttl, text) {
-        io::write_all(1, b" 1\n");
+        print::number(1);
     } else {
-        io::write_all(1, b" 0\n");
+        print::number(0);
     }
+    print::end();
 }
 
 // The table of two entries' distance: Infinity 2, settled by a run of zeros. It has no row of its own.
@@ -128,17 +124,27 @@ fn two() -> Case {
     Case { table, part }
 }
 
-fn withheld_rows(p1: Case, p2: Case, p4: Case, first: Case, none: Case) {
-    withheld(b"P2", p2, 2, b"eb_ebckl", b"eb ebckl");
-    withheld(b"P2", p2, 2, b"ebcklmen", b"ebcklmen");
-    withheld(b"P2", p2, 7, b"", b"");
-    withheld(b"P2", p2, 1, b"eb", b"eb");
-    withheld(b"P2", p2, 0, b"eb", b"eb");
-    withheld(b"P1", p1, 2, b"ebcklmen", b"ebcklmen");
-    withheld(b"first", first, 2, b"ebcklmen", b"ebcklmen");
-    withheld(b"P4", p4, 2, b"ebcklmen", b"ebcklmen");
-    withheld(b"none", none, 2, b"ebcklmen", b"ebcklmen");
-    withheld(b"two", two(), 6, b"eb", b"eb");
+fn withheld_settled(p2: Case) {
+    withheld(b"P2", p2, 2, b"eb ebckl");
+    withheld(b"P2", p2, 2, b"ebcklmen");
+    withheld(b"P2", p2, 7, b"");
+    withheld(b"P2", p2, 1, b"eb");
+    withheld(b"P2", p2, 0, b"eb");
+}
+
+fn withheld_others(p1: Case, first: Case, p4: Case, none: Case) {
+    withheld(b"P1", p1, 2, b"ebcklmen");
+    withheld(b"first", first, 2, b"ebcklmen");
+    withheld(b"P4", p4, 2, b"ebcklmen");
+    withheld(b"none", none, 2, b"ebcklmen");
+    withheld(b"two", two(), 6, b"eb");
+}
+
+// The rows from a table that was reset and patched.
+fn later(p2: Case, p4: Case) {
+    row(b"second", p2, b"\x01\x01\x01\x00\x04\x07\x00");
+    row(b"heal", p4, b"\x01\x01\x01\x00\x04\x00\x00");
+    row(b"reset", p4, b"\x00\x04\x00\x00\x00\x08");
 }
 
 pub fn all() {
@@ -147,12 +153,13 @@ pub fn all() {
     row(b"P3", p1, b"\x01\x01\x01\x00\x08\x00\xF9\x00\xF9");
     let p4 = row(b"P4", p1, b"\x01\x01\x01\x00\x04\x10\x00");
     fields(p1);
+    resets();
     let none = row(b"none", start(), b"\x01\x01\x01\x00\x04\x09\x09");
-    patches(p1);
+    patch_fields(p1);
+    patch_data(p1);
     let first = row(b"first", p1, b"\x01\x01\x02\x00\x04\x09\x09");
     runs(first);
-    row(b"second", p2, b"\x01\x01\x01\x00\x04\x07\x00");
-    row(b"heal", p4, b"\x01\x01\x01\x00\x04\x00\x00");
-    row(b"reset", p4, b"\x00\x04\x00\x00\x00\x08");
-    withheld_rows(p1, p2, p4, first, none);
+    later(p2, p4);
+    withheld_settled(p2);
+    withheld_others(p1, first, p4, none);
 }

@@ -7,13 +7,10 @@ fn number() -> [u8; 16] {
 
 // A row of what was written to the front of `out`.
 fn words(label: &[u8], answer: u8, written: usize, out: &[u8]) {
-    io::write_all(1, b"table ");
+    io::write_all(1, b"table");
     print::word(label);
-    print::space();
     print::number(answer as u64);
-    print::space();
     print::number(written as u64);
-    print::space();
     print::hex(out, written);
     print::end();
 }
@@ -63,12 +60,18 @@ fn refused() {
     fresh(b"entry0", &[0, 1, 1, 1], 8, 9);
     fresh(b"entry9", &[9, 1, 1, 1], 8, 9);
     change(b"old9", &[9, 1, 1, 1], 8, &[8, 1, 1, 1], 8, 9);
+}
+
+fn limits() {
     fresh(b"infinity1", &[1, 1, 1, 1], 1, 9);
     fresh(b"infinity128", &[1, 1, 1, 1], 128, 9);
     change(b"unlike", &[8, 8, 8, 8], 8, &[8, 8, 8, 8], 9, 9);
     change(b"longer", &[8, 8, 8, 8], 8, &[8, 8, 8, 8, 8, 8, 8, 8], 8, 9);
     fresh(b"size0", &[8, 1, 8, 1], 8, 0);
     fresh(b"size4092", &[8, 1, 8, 1], 8, 4092);
+}
+
+fn areas() {
     let mut exact = [0u8; 59];
     fresh_in(b"exact", &[8, 1, 8, 1], 8, 4091, &mut exact);
     let mut short = [0u8; 58];
@@ -76,36 +79,38 @@ fn refused() {
     fresh_in(b"shortbad", &[0, 1, 8, 1], 8, 4091, &mut short[..0]);
 }
 
-fn run_words(entries: usize, bits: u8, size: usize, answer: u8, written: usize) {
-    io::write_all(1, b"run ");
-    print::number(entries as u64);
-    print::space();
+// A long run: every entry 127 goes at 4 bits, every entry 1 at 8.
+fn run(new: &[u8], bits: u8, size: usize) {
+    let mut out = [0u8; 131072];
+    let r = tablewriter::write_table(number(), false, new, 0, new, 127, size, &mut out);
+    io::write_all(1, b"run");
+    print::number(new.len() as u64);
     print::number(bits as u64);
-    print::space();
     print::number(size as u64);
-    print::space();
-    print::number(answer as u64);
-    print::space();
-    print::number(written as u64);
+    print::number(r.answer as u64);
+    print::number(r.written as u64);
     print::end();
 }
 
-// A long run: every entry 127 goes at 4 bits, every entry 1 at 8.
-fn run(new: &[u8], bits: u8, size: usize, out: &mut [u8]) {
-    let r = tablewriter::write_table(number(), false, new, 0, new, 127, size, out);
-    run_words(new.len(), bits, size, r.answer, r.written);
+fn near_runs() {
+    let near = [1u8; 65536];
+    run(&near, 8, 257);
+    run(&near, 8, 258);
+    run(&near, 8, 4091);
+}
+
+fn far_runs() {
+    let far = [127u8; 65536];
+    run(&far, 4, 128);
+    run(&far, 4, 129);
+    run(&[127u8; 4], 4, 1);
 }
 
 pub fn all() {
     accepted();
     refused();
-    let far = [127u8; 65536];
-    let near = [1u8; 65536];
-    let mut out = [0u8; 131072];
-    run(&near, 8, 257, &mut out);
-    run(&near, 8, 258, &mut out);
-    run(&near, 8, 4091, &mut out);
-    run(&far, 4, 128, &mut out);
-    run(&far, 4, 129, &mut out);
-    run(&[127u8; 4], 4, 1, &mut out);
+    limits();
+    areas();
+    near_runs();
+    far_runs();
 }

@@ -3,13 +3,12 @@
 //!     sessions make DIR COUNT SEED     writes DIR/0000, DIR/0001, ..
 //!     sessions show FILE               one line for each event
 
+use lunozhar_reference::header::message;
+use lunozhar_reference::session::{self, file, FILE};
 use std::env;
 use std::fs;
 use std::path::Path;
 use std::process::ExitCode;
-
-/// The most bytes of a session file.
-const FILE: usize = 32_768;
 
 /// A small generator (xorshift), so that a seed gives the same files everywhere.
 struct Random(u64);
@@ -64,14 +63,6 @@ impl Maker {
         number
     }
 
-    fn message(&mut self, number: [u8; 16], kind: u8, ttl: u8, hops: u8, payload: &[u8]) -> Vec<u8> {
-        let mut bytes = number.to_vec();
-        bytes.extend([kind, ttl, hops]);
-        bytes.extend((payload.len() as u32).to_le_bytes());
-        bytes.extend(payload);
-        bytes
-    }
-
     fn ttl(&mut self) -> u8 {
         self.random.pick(&[0, 1, 1, 2, 3, 3, 4, 7, 7, 8, 15, 16, 255])
     }
@@ -100,7 +91,7 @@ impl Maker {
             payload.extend(self.random.bytes(rest));
         }
         let (ttl, hops) = if plain { (7, 0) } else { (self.ttl(), self.hops()) };
-        self.message(number, 0x80, ttl, hops, &payload)
+        message(&number, 0x80, ttl, hops, &payload)
     }
 
     fn hit(&mut self) -> Vec<u8> {
@@ -113,21 +104,21 @@ impl Maker {
         let size = self.random.pick(&[27, 27, 30, 40, 26, 0]);
         let payload = self.random.bytes(size);
         let (ttl, hops) = (self.ttl(), self.hops());
-        self.message(number, 0x81, ttl, hops, &payload)
+        message(&number, 0x81, ttl, hops, &payload)
     }
 
     fn ping(&mut self) -> Vec<u8> {
         let (number, ttl, hops) = (self.number(), self.ttl(), self.hops());
         let size = self.random.below(4) as usize;
         let payload = self.random.bytes(size);
-        self.message(number, 0x00, ttl, hops, &payload)
+        message(&number, 0x00, ttl, hops, &payload)
     }
 
     fn pong(&mut self) -> Vec<u8> {
         let (number, ttl, hops) = (self.number(), self.ttl(), self.hops());
         let size = self.random.pick(&[14, 14, 14, 17, 13, 0]);
         let payload = self.random.bytes(size);
-        self.message(number, 0x01, ttl, hops, &payload)
+        message(&number, 0x01, ttl, hops, &payload)
     }
 
     fn reset(&mut self, line: usize) -> Vec<u8> {
@@ -137,7 +128,7 @@ impl Maker {
         payload.extend(length.to_le_bytes());
         payload.push(infinity);
         self.runs[line] = (1, self.random.below(3) as u8 + 1, self.random.pick(&[4, 8]), length as usize);
-        self.message([1; 16], 0x30, 1, 0, &payload)
+        message(&[1; 16], 0x30, 1, 0, &payload)
     }
 
     /// A PATCH of the line's run, right in most cases: its share of the entries, with small numbers.
@@ -157,15 +148,12 @@ impl Maker {
             payload[at] = payload[at].wrapping_add(1 + self.random.below(3) as u8);
         }
         let (ttl, hops) = if self.random.one_in(30) { (2, 1) } else { (1, 0) };
-        self.message([2; 16], 0x30, ttl, hops, &payload)
+        message(&[2; 16], 0x30, ttl, hops, &payload)
     }
 
     fn event(&mut self, kind: u8, line: u8, message: &[u8]) -> Vec<u8> {
         self.clock = self.clock.wrapping_add(self.random.pick(&[0, 1, 300, 700, 999, 1000, 5000, 16_000]));
-        let mut bytes = vec![kind, line];
-        bytes.extend(self.clock.to_le_bytes());
-        bytes.extend(message);
-        bytes
+        session::event(kind, line, self.clock, message)
     }
 
     fn any_event(&mut self) -> Vec<u8> {
@@ -184,7 +172,7 @@ impl Maker {
             _ => {
                 let kind = self.random.pick(&[0x02, 0x20, 0x40, 0x7F, 0xFF]);
                 let number = self.number();
-                self.message(number, kind, 3, 0, &[1, 2, 3])
+                message(&number, kind, 3, 0, &[1, 2, 3])
             }
         };
         match self.random.below(30) {
@@ -223,21 +211,6 @@ impl Maker {
         }
         events
     }
-}
-
-/// The file of these events.
-fn file(events: &[Vec<u8>]) -> Vec<u8> {
-    let mut at = 8 + 4 * events.len() as u32;
-    let mut bytes = (events.len() as u32).to_le_bytes().to_vec();
-    bytes.extend(at.to_le_bytes());
-    for event in events {
-        at += event.len() as u32;
-        bytes.extend(at.to_le_bytes());
-    }
-    for event in events {
-        bytes.extend(event);
-    }
-    bytes
 }
 
 /// Spoils a file: cut, lengthened, an offset or a count moved, a wrong kind, or too long.

@@ -1,6 +1,6 @@
 //! The rows of the handshake.
 
-use crate::shown;
+use crate::{hex, shown};
 use lunozhar_reference::handshake::{field, read_group, try_pairs, write_busy, write_greeting, write_ok, Kind, Pair};
 use std::io::{self, Write};
 
@@ -17,10 +17,6 @@ fn text(marked: &str) -> Vec<u8> {
         }
     }
     bytes
-}
-
-fn hex(bytes: &[u8]) -> String {
-    shown(&bytes.iter().map(|byte| format!("{byte:02x}")).collect::<String>())
 }
 
 pub fn all(out: &mut impl Write) -> io::Result<()> {

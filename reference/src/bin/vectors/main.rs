@@ -1,5 +1,6 @@
 //! Prints the table of `docs/VECTORS.md`.
 
+mod calls;
 mod handshake;
 
 use lunozhar_reference::hash::place;
@@ -18,6 +19,8 @@ fn main() -> io::Result<()> {
     tables(&mut out)?;
     runs(&mut out)?;
     handshake::all(&mut out)?;
+    calls::cases(&mut out)?;
+    calls::sessions(&mut out)?;
     out.flush()
 }
 
@@ -38,6 +41,11 @@ fn joined<T: Display>(items: impl IntoIterator<Item = T>) -> String {
 /// Bytes written as hexadecimal with spaces.
 fn bytes(text: &str) -> Vec<u8> {
     text.split_whitespace().map(|pair| u8::from_str_radix(pair, 16).expect("hexadecimal byte")).collect()
+}
+
+/// Bytes as a word of a row.
+fn hex(bytes: &[u8]) -> String {
+    shown(&bytes.iter().map(|byte| format!("{byte:02x}")).collect::<String>())
 }
 
 fn places(out: &mut impl Write) -> io::Result<()> {
@@ -203,8 +211,7 @@ fn tables(out: &mut impl Write) -> io::Result<()> {
         let old = old.map(|(entries, infinity)| Entries { entries, infinity });
         let new = Entries { entries: new.0, infinity: new.1 };
         let done = write_table(old, new, &NUMBER, size, &mut area);
-        let hex: String = area[..done.written].iter().map(|byte| format!("{byte:02x}")).collect();
-        writeln!(out, "table {label} {} {} {}", done.answer, done.written, shown(&hex))?;
+        writeln!(out, "table {label} {} {} {}", done.answer, done.written, hex(&area[..done.written]))?;
     }
     Ok(())
 }

@@ -14,13 +14,24 @@ open-event-requires : tie.Need-open-event-requires
 open-event-requires c κs = search needs
 
 returns : tie.Need-returns
-returns c = act-open (c .before .before .before .before .before .before .before .args .s) (c .before .before .before .before .before .before .before .args .route .now) (c .before .before .before .before .before .before .before .args .event .now) (c .before .before .before .line-of .result) (c .before .before .before .line-of .ensures) (c .open-event .result) (c .before .if1 .taken) (c .open-event .ensures)
+returns c =
+    let at-if1 = c .before in
+    let at-line-of = at-if1 .before .before in
+    let start = at-line-of .before .before .before .before in
+    act-open (start .args .s) (start .args .route .now) (start .args .event .now) (at-line-of .line-of .result)
+    (at-line-of .line-of .ensures) (c .open-event .result) (at-if1 .if1 .taken) (c .open-event .ensures)
 
 close-event-requires : tie.Need-close-event-requires
 close-event-requires c κs = search needs
 
 returns-2 : tie.Need-returns-2
-returns-2 c = act-close (c .before .before .before .before .before .before .before .before .args .s) (c .before .before .before .before .before .before .before .before .args .route .now) (c .before .before .before .before .before .before .before .before .args .event .now) (c .before .before .before .before .line-of .result) (c .before .before .before .before .line-of .ensures) (c .close-event .result) (c .before .before .if1 .left) (c .before .if2 .taken) (c .close-event .ensures)
+returns-2 c =
+    let at-if2 = c .before in
+    let at-if1 = at-if2 .before in
+    let at-line-of = at-if1 .before .before in
+    let start = at-line-of .before .before .before .before in
+    act-close (start .args .s) (start .args .route .now) (start .args .event .now) (at-line-of .line-of .result)
+    (at-line-of .line-of .ensures) (c .close-event .result) (at-if1 .if1 .left) (at-if2 .if2 .taken) (c .close-event .ensures)
 
 sub-little4 : tie.Need-sub-little4
 sub-little4 c = search needs
@@ -53,7 +64,17 @@ same-length-2 : tie.Need-same-length-2
 same-length-2 c = search needs
 
 returns-3 : tie.Need-returns-3
-returns-3 c = act-message (c .before .before .before .before .before .before .before .before .before .before .before .before .before .before .before .before .before .args .s) (c .before .before .before .before .before .before .before .before .before .before .before .before .before .before .before .before .before .args .route .now) (c .before .before .before .before .before .before .before .before .before .before .before .before .before .before .before .before .before .args .event .now) (c .before .before .before .before .before .before .before .before .before .before .before .before .before .line-of .result) (c .before .before .before .before .before .before .before .before .before .before .before .before .before .line-of .ensures) (c .before .before .before .before .message-event .result) (c .before .before .before .before .before .before .before .before .before .before .before .if1 .left) (c .before .before .before .before .before .before .before .before .before .before .if2 .left) (c .before .before .before .before .before .before .before .before .little4 .result) _ _ (rw part-tail at (c .before .before .before .before .before .before .before .before .little4 .ensures)) (part-tail 6 (c .before .before .before .before .before .before .before .before .before .before .before .before .before .before .before .before .before .args .event .now)) (c .before .before .before .before .message-event .ensures .0) (c .before .before .before .before .message-event .ensures .1)
+returns-3 c =
+    let at-message-event = c .before .before .before .before in
+    let at-little4 = at-message-event .before .before .before .before in
+    let at-if2 = at-little4 .before .before in
+    let at-if1 = at-if2 .before in
+    let at-line-of = at-if1 .before .before in
+    let start = at-line-of .before .before .before .before in
+    act-message (start .args .s) (start .args .route .now) (start .args .event .now) (at-line-of .line-of .result)
+    (at-line-of .line-of .ensures) (at-message-event .message-event .result) (at-if1 .if1 .left) (at-if2 .if2 .left)
+    (at-little4 .little4 .result) _ _ (rw part-tail at (at-little4 .little4 .ensures)) (part-tail 6 (start .args .event .now))
+    (at-message-event .message-event .ensures .0) (at-message-event .message-event .ensures .1)
 
 pub act-spec : {M : Type 1} → statement M
 act-spec =

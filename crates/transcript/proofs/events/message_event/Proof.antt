@@ -17,7 +17,17 @@ same-length-2 : tie.Need-same-length-2
 same-length-2 c = search needs
 
 returns : tie.Need-returns
-returns c = (message-answered (c .before .before .before .before .before .before .before .before .before .before .before .before .before .args .s) (c .before .before .before .before .before .before .before .before .before .before .before .before .before .args .line) (c .before .before .before .before .before .before .before .before .before .before .before .before .before .args .clock) (c .before .before .before .before .before .before .before .before .before .own-pong .result) (c .before .before .before .before .before .before .before .before .before .before .before .before .before .args .m .now) (length (c .before .before .before .before .before .before .before .before .before .before .before .before .before .args .area .now)) (c .before .before .before .before .before .before .before .before .before .before .before .before .before .args .route .now) (c .before .before .before .before .before .before .before .before .before .own-pong .ensures) (c .before .before .before .before .before .before .before .before .before .before .before .before .before .pre) (c .before .before .before .before .before .before .message .result) (c .before .before .before .before .before .before .message .ensures .0), message-route (c .before .before .before .before .before .before .before .before .before .before .before .before .before .args .s) (c .before .before .before .before .before .before .before .before .before .before .before .before .before .args .line) (c .before .before .before .before .before .before .before .before .before .before .before .before .before .args .clock) (c .before .before .before .before .before .before .before .before .before .own-pong .result) (c .before .before .before .before .before .before .before .before .before .before .before .before .before .args .m .now) (length (c .before .before .before .before .before .before .before .before .before .before .before .before .before .args .area .now)) (c .before .before .before .before .before .before .before .before .before .before .before .before .before .args .route .now) (c .before .before .before .before .before .before .before .before .before .own-pong .ensures) (c .before .before .before .before .before .before .before .before .before .before .before .before .before .pre) _ (c .before .before .before .before .before .before .message .ensures .1 .1))
+returns c =
+    let at-message = c .before .before .before .before .before .before in
+    let at-own-pong = at-message .before .before .before in
+    let start = at-own-pong .before .before .before .before in (
+      message-answered (start .args .s) (start .args .line) (start .args .clock) (at-own-pong .own-pong .result) (start .args .m .now)
+          (length (start .args .area .now)) (start .args .route .now) (at-own-pong .own-pong .ensures) (start .pre) (at-message .message .result)
+          (at-message .message .ensures .0),
+      message-route (start .args .s) (start .args .line) (start .args .clock)
+          (at-own-pong .own-pong .result) (start .args .m .now) (length (start .args .area .now)) (start .args .route .now)
+          (at-own-pong .own-pong .ensures) (start .pre) _ (at-message .message .ensures .1 .1),
+    )
 
 pub message-event-spec : {M : Type 1} → statement M
 message-event-spec =

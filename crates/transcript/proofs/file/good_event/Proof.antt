@@ -34,7 +34,14 @@ shared-slice-read-result : tie.Need-shared-slice-read-result
 shared-slice-read-result c = search needs
 
 returns-3 : tie.Need-returns-3
-returns-3 c = event-kind (c .before .before .before .before .before .before .before .args .file .now) (c .before .before .before .before .before .before .before .args .i) (c .before .before .before .before .before .offset .result) (c .before .before .before .before .offset2 .result) (c .before .before .before .before .before .offset .ensures .0) (c .before .before .before .before .offset2 .ensures .0) (c .before .before .before .if1 .left) (c .before .before .if2 .left)
+returns-3 c =
+    let at-if2 = c .before .before in
+    let at-if1 = at-if2 .before in
+    let at-offset2 = at-if1 .before in
+    let at-offset = at-offset2 .before in
+    let start = at-offset .before .before in
+    event-kind (start .args .file .now) (start .args .i) (at-offset .offset .result) (at-offset2 .offset2 .result)
+    (at-offset .offset .ensures .0) (at-offset2 .offset2 .ensures .0) (at-if1 .if1 .left) (at-if2 .if2 .left)
 
 pub good-event-spec : {M : Type 1} → statement M
 good-event-spec =

@@ -1,73 +1,50 @@
-use lib.ListN.{length-set}
-use Prim.Native.Nat.{_+_}
-use mathlib.Core.Path.{ap, _∙_}
-use Rattle.transcript.proofs.Putting.{Spelling, spelling-start, spelling-back, spelling-on, spelling-room, spelling-end}
+-- The digits are the front of what is spelled, and five at most.
 use native.Mathlib.Omega.{arith}
+use mathlib.Core.Path.{sym}
 use borrow.Author.Needs.{needs}
+use Rattle.digits.proofs.Spelling.{spelled, spelled-size, spelled-room}
 use Rattle.transcript.proofs.put.put_number.Statement.{statement}
 use Rattle.transcript.proofs.put.put_number.Tie as tie
 
-abbrev Inv-loop : tie.InvT-loop
-Inv-loop out₀ at n size m₀ i₀ out m i = Spelling out₀ at n out m i
+spell-requires : tie.Need-spell-requires
+spell-requires c κs = search needs
 
-abbrev μ-loop : tie.MeasureT-loop
-μ-loop out₀ at n size m₀ i₀ out m i = m
+array-share-prefix-bytes : tie.Need-array-share-prefix-bytes
+array-share-prefix-bytes c =
+    let at-spell = c .before .before in
+    let e = at-spell .spell .ensures in
+    omega (arith, e .1, spelled-room (at-spell .before .before .args .n) (e .0) (e .1))
 
-digits-requires : tie.Need-digits-requires Inv-loop μ-loop
-digits-requires c κs = search needs
+slice-aggregate-put-text : tie.Need-slice-aggregate-put-text
+slice-aggregate-put-text c =
+    let at-spell = c .before .before .before in
+    sym (spelled-size (at-spell .before .before .args .n) (at-spell .spell .ensures .0))
 
-add-i : tie.Need-add-i Inv-loop μ-loop
-add-i c = search needs
+put-text-requires : tie.Need-put-text-requires
+put-text-requires c κs =
+    let at-spell = c .before .before .before in
+    let e = at-spell .spell .ensures in
+    omega (arith, e .1, spelled-size (at-spell .before .before .args .n) (e .0), at-spell .before .before .pre)
 
-loop-holds : tie.Need-loop-holds Inv-loop μ-loop
-loop-holds c = spelling-start (c .before .before .args .out .now) (c .before .before .args .at) (c .before .before .args .n) _ (omega arith) (ap (λ k. c .before .before .args .at + k) (c .digits .ensures .0)) (omega arith)
+same-length : tie.Need-same-length
+same-length c = search needs
 
-sub-i : tie.Need-sub-i Inv-loop μ-loop
-sub-i c = spelling-back (c .before .before .before .before .args .out .now) (c .before .before .before .before .args .at) (c .before .before .before .before .args .n) (c .before .loop .out) (c .before .loop .m) (c .before .loop .i) (c .before .loop .inv) (c .loop-test .taken)
-
-last-digit-requires : tie.Need-last-digit-requires Inv-loop μ-loop
-last-digit-requires c κs = search needs
-
-slice-write-out : tie.Need-slice-write-out Inv-loop μ-loop
-slice-write-out c = omega (arith, spelling-back (c .before .before .before .before .before .args .out .now) (c .before .before .before .before .before .args .at) (c .before .before .before .before .before .args .n) (c .before .before .loop .out) (c .before .before .loop .m) (c .before .before .loop .i) (c .before .before .loop .inv) (c .before .loop-test .taken), c .before .before .loop .inv .room)
-
-loop-less : tie.Need-loop-less Inv-loop μ-loop
-loop-less c = search needs
-
-loop-again : tie.Need-loop-again Inv-loop μ-loop
-loop-again c = rw (← c .last-digit .ensures) at (spelling-on (c .before .before .before .before .before .args .out .now) (c .before .before .before .before .before .args .at) (c .before .before .before .before .before .args .n) (c .before .before .loop .out) (c .before .before .loop .m) (c .before .before .loop .i) (c .before .before .loop .inv) (c .before .loop-test .taken))
-
-last-digit-requires-2 : tie.Need-last-digit-requires-2 Inv-loop μ-loop
-last-digit-requires-2 c κs = search needs
-
-slice-write-out-2 : tie.Need-slice-write-out-2 Inv-loop μ-loop
-slice-write-out-2 c = spelling-room (c .before .before .before .before .before .args .out .now) (c .before .before .before .before .before .args .at) (c .before .before .before .before .before .args .n) (c .before .before .loop .out) (c .before .before .loop .m) (c .before .before .loop .i) (c .before .before .loop .inv)
-
-add-result : tie.Need-add-result Inv-loop μ-loop
-add-result c = search needs
-
-same-length : tie.Need-same-length Inv-loop μ-loop
-same-length c = simp length-set (c .before .before .loop .inv .size)
-
-returns : tie.Need-returns Inv-loop μ-loop
-returns c = (rw (← c .last-digit2 .ensures) at (spelling-end (c .before .before .before .before .before .args .out .now) (c .before .before .before .before .before .args .at) (c .before .before .before .before .before .args .n) (c .before .before .loop .out) (c .before .before .loop .m) (c .before .before .loop .i) (c .before .before .loop .inv) (c .before .before .before .digits .result) (omega arith) (c .before .before .before .digits .ensures .0)), omega (arith, c .before .before .before .digits .ensures .1))
+returns : tie.Need-returns
+returns c =
+    let at-put-text = c .before .before in
+    let at-spell = at-put-text .before .before .before .before in
+    let e = at-spell .spell .ensures in
+    let n = at-spell .before .before .args .n in
+    let p = at-put-text .put-text .ensures in
+    (rw (spelled n (e .0)) at p, omega (arith, p .moved, spelled-size n (e .0), e .1))
 
 pub put-number-spec : {M : Type 1} → statement M
 put-number-spec =
     tie.close
     (tie.spec
-    Inv-loop
-    μ-loop
-    digits-requires
-    add-i
-    loop-holds
-    sub-i
-    last-digit-requires
-    slice-write-out
-    loop-less
-    loop-again
-    last-digit-requires-2
-    slice-write-out-2
-    add-result
+    spell-requires
+    array-share-prefix-bytes
+    slice-aggregate-put-text
+    put-text-requires
     same-length
     returns)

@@ -17,7 +17,14 @@ same-length : tie.Need-same-length
 same-length c = search needs
 
 returns-2 : tie.Need-returns-2
-returns-2 c = flag-first (c .before .before .before .before .before .before .before .args .started) (c .before .before .before .before .before .before .before .args .flag) (c .before .before .before .before .before .before .before .args .k) (c .before .before .before .before .before .before .before .args .at) (c .before .before .before .before .before .before .before .args .out .now) (c .before .before .put-byte .last .0) (c .before .before .put-byte .result) (not-false _ (c .before .before .before .before .before .if1 .left)) (not-true _ (c .before .before .before .before .if2 .taken)) (c .before .before .put-byte .ensures)
+returns-2 c =
+    let at-put-byte = c .before .before in
+    let at-if2 = at-put-byte .before .before in
+    let at-if1 = at-if2 .before in
+    let start = at-if1 .before .before in
+    flag-first (start .args .started) (start .args .flag) (start .args .k) (start .args .at) (start .args .out .now)
+    (at-put-byte .put-byte .last .0) (at-put-byte .put-byte .result) (not-false _ (at-if1 .if1 .left)) (not-true _ (at-if2 .if2 .taken))
+    (at-put-byte .put-byte .ensures)
 
 put-byte-requires-2 : tie.Need-put-byte-requires-2
 put-byte-requires-2 c κs = search needs
@@ -32,7 +39,16 @@ same-length-2 : tie.Need-same-length-2
 same-length-2 c = search needs
 
 returns-3 : tie.Need-returns-3
-returns-3 c = flag-further (c .before .before .before .before .before .before .before .before .before .before .before .args .started) (c .before .before .before .before .before .before .before .before .before .before .before .args .flag) (c .before .before .before .before .before .before .before .before .before .before .before .args .k) (c .before .before .before .before .before .before .before .before .before .before .before .args .at) (c .before .before .before .before .before .before .before .before .before .before .before .args .out .now) (c .before .before .before .before .before .before .put-byte2 .last .0) (c .before .before .put-byte3 .last .0) (c .before .before .before .before .before .before .put-byte2 .result) (c .before .before .put-byte3 .result) (not-false _ (c .before .before .before .before .before .before .before .before .before .if1 .left)) (not-false _ (c .before .before .before .before .before .before .before .before .if2 .left)) (c .before .before .before .before .before .before .put-byte2 .ensures) (c .before .before .put-byte3 .ensures) (c .before .before .before .before .before .before .before .before .before .before .before .pre .0)
+returns-3 c =
+    let at-put-byte3 = c .before .before in
+    let at-put-byte2 = at-put-byte3 .before .before .before .before in
+    let at-if2 = at-put-byte2 .before .before in
+    let at-if1 = at-if2 .before in
+    let start = at-if1 .before .before in
+    flag-further (start .args .started) (start .args .flag) (start .args .k) (start .args .at) (start .args .out .now)
+    (at-put-byte2 .put-byte2 .last .0) (at-put-byte3 .put-byte3 .last .0) (at-put-byte2 .put-byte2 .result)
+    (at-put-byte3 .put-byte3 .result) (not-false _ (at-if1 .if1 .left)) (not-false _ (at-if2 .if2 .left)) (at-put-byte2 .put-byte2 .ensures)
+    (at-put-byte3 .put-byte3 .ensures) (start .pre .0)
 
 pub put-flag-spec : {M : Type 1} → statement M
 put-flag-spec =

@@ -25,7 +25,32 @@ same-length : tie.Need-same-length
 same-length c = search needs
 
 returns : tie.Need-returns
-returns c = (row-put (c .before .before .before .before .before .before .before .before .before .before .before .before .before .before .before .before .before .before .before .before .before .before .before .before .before .args .i) (c .before .before .before .before .before .before .before .before .before .before .before .before .before .before .before .before .before .before .before .before .before .before .before .before .before .args .answer) (c .before .before .before .before .before .before .before .before .before .before .before .before .before .before .before .before .before .before .before .before .before .before .before .before .before .args .to) (c .before .before .before .before .before .before .before .before .before .before .before .before .before .before .before .before .before .before .before .before .before .before .before .before .before .args .at) (c .before .before .before .before .before .before .before .before .before .before .before .before .before .before .before .before .before .before .before .before .before .before .before .before .before .args .out .now) (c .before .before .before .before .before .before .before .before .before .before .before .before .before .before .before .before .before .before .before .before .before .before .put-number .last .0) (c .before .before .before .before .before .before .before .before .before .before .before .before .before .before .before .before .before .before .put-byte .last .0) (c .before .before .before .before .before .before .before .before .before .before .before .before .before .before .put-number2 .last .0) (c .before .before .before .before .before .before .before .before .before .before .put-byte2 .last .0) (c .before .before .before .before .before .before .put-sent .last .0) (c .before .before .put-byte3 .last .0) (c .before .before .before .before .before .before .before .before .before .before .before .before .before .before .before .before .before .before .before .before .before .before .put-number .result) (c .before .before .before .before .before .before .before .before .before .before .before .before .before .before .before .before .before .before .put-byte .result) (c .before .before .before .before .before .before .before .before .before .before .before .before .before .before .put-number2 .result) (c .before .before .before .before .before .before .before .before .before .before .put-byte2 .result) (c .before .before .before .before .before .before .put-sent .result) (c .before .before .put-byte3 .result) (c .before .before .before .before .before .before .before .before .before .before .before .before .before .before .before .before .before .before .before .before .before .before .before .before .before .pre) (c .before .before .before .before .before .before .before .before .before .before .before .before .before .before .before .before .before .before .before .before .before .before .put-number .ensures .0) (c .before .before .before .before .before .before .before .before .before .before .before .before .before .before .before .before .before .before .before .before .before .before .put-number .ensures .1) (c .before .before .before .before .before .before .before .before .before .before .before .before .before .before .before .before .before .before .put-byte .ensures) (c .before .before .before .before .before .before .before .before .before .before .before .before .before .before .put-number2 .ensures .0) (c .before .before .before .before .before .before .before .before .before .before .before .before .before .before .put-number2 .ensures .1) (c .before .before .before .before .before .before .before .before .before .before .put-byte2 .ensures) (c .before .before .before .before .before .before .put-sent .ensures .0) (c .before .before .before .before .before .before .put-sent .ensures .1) (c .before .before .put-byte3 .ensures), row-near (c .before .before .before .before .before .before .before .before .before .before .before .before .before .before .before .before .before .before .before .before .before .before .before .before .before .args .i) (c .before .before .before .before .before .before .before .before .before .before .before .before .before .before .before .before .before .before .before .before .before .before .before .before .before .args .answer) (c .before .before .before .before .before .before .before .before .before .before .before .before .before .before .before .before .before .before .before .before .before .before .before .before .before .args .to) (c .before .before .before .before .before .before .before .before .before .before .before .before .before .before .before .before .before .before .before .before .before .before .before .before .before .args .at) (c .before .before .before .before .before .before .before .before .before .before .before .before .before .before .before .before .before .before .before .before .before .before .before .before .before .args .out .now) (c .before .before .before .before .before .before .before .before .before .before .before .before .before .before .before .before .before .before .before .before .before .before .put-number .last .0) (c .before .before .before .before .before .before .before .before .before .before .before .before .before .before .before .before .before .before .put-byte .last .0) (c .before .before .before .before .before .before .before .before .before .before .before .before .before .before .put-number2 .last .0) (c .before .before .before .before .before .before .before .before .before .before .put-byte2 .last .0) (c .before .before .before .before .before .before .put-sent .last .0) (c .before .before .put-byte3 .last .0) (c .before .before .before .before .before .before .before .before .before .before .before .before .before .before .before .before .before .before .before .before .before .before .put-number .result) (c .before .before .before .before .before .before .before .before .before .before .before .before .before .before .before .before .before .before .put-byte .result) (c .before .before .before .before .before .before .before .before .before .before .before .before .before .before .put-number2 .result) (c .before .before .before .before .before .before .before .before .before .before .put-byte2 .result) (c .before .before .before .before .before .before .put-sent .result) (c .before .before .put-byte3 .result) (c .before .before .before .before .before .before .before .before .before .before .before .before .before .before .before .before .before .before .before .before .before .before .before .before .before .pre) (c .before .before .before .before .before .before .before .before .before .before .before .before .before .before .before .before .before .before .before .before .before .before .put-number .ensures .0) (c .before .before .before .before .before .before .before .before .before .before .before .before .before .before .before .before .before .before .before .before .before .before .put-number .ensures .1) (c .before .before .before .before .before .before .before .before .before .before .before .before .before .before .before .before .before .before .put-byte .ensures) (c .before .before .before .before .before .before .before .before .before .before .before .before .before .before .put-number2 .ensures .0) (c .before .before .before .before .before .before .before .before .before .before .before .before .before .before .put-number2 .ensures .1) (c .before .before .before .before .before .before .before .before .before .before .put-byte2 .ensures) (c .before .before .before .before .before .before .put-sent .ensures .0) (c .before .before .before .before .before .before .put-sent .ensures .1) (c .before .before .put-byte3 .ensures))
+returns c =
+    let at-put-byte3 = c .before .before in
+    let at-put-sent = at-put-byte3 .before .before .before .before in
+    let at-put-byte2 = at-put-sent .before .before .before .before in
+    let at-put-number2 = at-put-byte2 .before .before .before .before in
+    let at-put-byte = at-put-number2 .before .before .before .before in
+    let at-put-number = at-put-byte .before .before .before .before in
+    let start = at-put-number .before .before .before in (
+      row-put (start .args .i) (start .args .answer) (start .args .to) (start .args .at) (start .args .out .now)
+          (at-put-number .put-number .last .0) (at-put-byte .put-byte .last .0) (at-put-number2 .put-number2 .last .0)
+          (at-put-byte2 .put-byte2 .last .0) (at-put-sent .put-sent .last .0) (at-put-byte3 .put-byte3 .last .0)
+          (at-put-number .put-number .result) (at-put-byte .put-byte .result) (at-put-number2 .put-number2 .result)
+          (at-put-byte2 .put-byte2 .result) (at-put-sent .put-sent .result) (at-put-byte3 .put-byte3 .result) (start .pre)
+          (at-put-number .put-number .ensures .0) (at-put-number .put-number .ensures .1) (at-put-byte .put-byte .ensures)
+          (at-put-number2 .put-number2 .ensures .0) (at-put-number2 .put-number2 .ensures .1) (at-put-byte2 .put-byte2 .ensures)
+          (at-put-sent .put-sent .ensures .0) (at-put-sent .put-sent .ensures .1) (at-put-byte3 .put-byte3 .ensures),
+      row-near (start .args .i)
+          (start .args .answer) (start .args .to) (start .args .at) (start .args .out .now) (at-put-number .put-number .last .0)
+          (at-put-byte .put-byte .last .0) (at-put-number2 .put-number2 .last .0) (at-put-byte2 .put-byte2 .last .0)
+          (at-put-sent .put-sent .last .0) (at-put-byte3 .put-byte3 .last .0) (at-put-number .put-number .result) (at-put-byte .put-byte .result)
+          (at-put-number2 .put-number2 .result) (at-put-byte2 .put-byte2 .result) (at-put-sent .put-sent .result)
+          (at-put-byte3 .put-byte3 .result) (start .pre) (at-put-number .put-number .ensures .0) (at-put-number .put-number .ensures .1)
+          (at-put-byte .put-byte .ensures) (at-put-number2 .put-number2 .ensures .0) (at-put-number2 .put-number2 .ensures .1)
+          (at-put-byte2 .put-byte2 .ensures) (at-put-sent .put-sent .ensures .0) (at-put-sent .put-sent .ensures .1)
+          (at-put-byte3 .put-byte3 .ensures),
+    )
 
 pub put-row-spec : {M : Type 1} → statement M
 put-row-spec =

@@ -35,13 +35,30 @@ loop-less : tie.Need-loop-less Inv-loop μ-loop
 loop-less c = search needs
 
 loop-again : tie.Need-loop-again Inv-loop μ-loop
-loop-again c = let k : length (c .before .before .before .before .before .before .before .before .args .t3) ≡ 8 = search needs in rw (← c .either .ensures) at (listing-on (c .before .before .before .before .before .before .before .before .args .t3) (c .before .before .before .before .before .before .before .before .args .out .now) (c .before .before .before .before .before .before .before .before .args .at) (c .before .before .before .before .before .before .loop .out) (c .before .before .before .before .before .before .loop .next) (c .before .before .before .before .before .before .loop .started) (c .before .before .before .before .before .before .loop .k) (c .before .before .before .before .before .before .loop .inv) k (c .before .before .before .before .before .before .before .before .pre) (c .before .before .before .put-flag .last .0) (c .before .before .before .put-flag .result) (c .before .before .before .before .before .loop-test .taken) (c .before .before .before .put-flag .ensures))
+loop-again c =
+    let at-put-flag = c .before .before .before in
+    let at-loop-test = at-put-flag .before .before in
+    let turn = at-loop-test .before in
+    let start = turn .before .before in
+    let k : length (start .args .t3) ≡ 8 = search needs in rw (← c .either .ensures) at
+    (listing-on (start .args .t3) (start .args .out .now) (start .args .at) (turn .loop .out) (turn .loop .next) (turn .loop .started)
+    (turn .loop .k) (turn .loop .inv) k (start .pre) (at-put-flag .put-flag .last .0) (at-put-flag .put-flag .result)
+    (at-loop-test .loop-test .taken) (at-put-flag .put-flag .ensures))
 
 same-length : tie.Need-same-length Inv-loop μ-loop
 same-length c = c .before .before .loop .inv .rest .size
 
 returns : tie.Need-returns Inv-loop μ-loop
-returns c = let k : length (c .before .before .before .before .args .t3) ≡ 8 = search needs in (listing-some (c .before .before .before .before .args .t3) (c .before .before .before .before .args .out .now) (c .before .before .before .before .args .at) (c .before .before .loop .out) (c .before .before .loop .next) (c .before .before .loop .started) (c .before .before .loop .k) (c .before .before .loop .inv) k (c .before .before .before .before .pre) (c .before .loop-test .left) (c .if1 .taken), omega (arith, c .before .before .loop .inv .near, c .before .before .loop .inv .within))
+returns c =
+    let at-loop-test = c .before in
+    let turn = at-loop-test .before in
+    let start = turn .before .before in
+    let k : length (start .args .t3) ≡ 8 = search needs in (
+      listing-some (start .args .t3) (start .args .out .now) (start .args .at) (turn .loop .out) (turn .loop .next) (turn .loop .started)
+          (turn .loop .k) (turn .loop .inv) k (start .pre) (at-loop-test .loop-test .left) (c .if1 .taken),
+      omega
+          (arith, turn .loop .inv .near, turn .loop .inv .within),
+    )
 
 put-byte-requires : tie.Need-put-byte-requires Inv-loop μ-loop
 put-byte-requires c κs = omega (arith, c .before .before .before .loop .inv .near, c .before .before .before .loop .inv .rest .size, c .before .before .before .loop .inv .within)
@@ -50,7 +67,19 @@ same-length-2 : tie.Need-same-length-2 Inv-loop μ-loop
 same-length-2 c = search needs
 
 returns-2 : tie.Need-returns-2 Inv-loop μ-loop
-returns-2 c = let k : length (c .before .before .before .before .before .before .before .before .args .t3) ≡ 8 = search needs in (listing-none (c .before .before .before .before .before .before .before .before .args .t3) (c .before .before .before .before .before .before .before .before .args .out .now) (c .before .before .before .before .before .before .before .before .args .at) (c .before .before .before .before .before .before .loop .out) (c .before .before .before .before .before .before .loop .next) (c .before .before .before .before .before .before .loop .started) (c .before .before .before .before .before .before .loop .k) (c .before .before .before .before .before .before .loop .inv) k (c .before .before .before .before .before .before .before .before .pre) (c .before .before .before .before .before .loop-test .left) (c .before .before .before .before .if1 .left) (c .before .before .put-byte .last .0) (c .before .before .put-byte .result) (c .before .before .put-byte .ensures), omega (arith, c .before .before .before .before .before .before .loop .inv .near, c .before .before .before .before .before .before .loop .inv .within, c .before .before .put-byte .ensures .moved))
+returns-2 c =
+    let at-put-byte = c .before .before in
+    let at-if1 = at-put-byte .before .before in
+    let at-loop-test = at-if1 .before in
+    let turn = at-loop-test .before in
+    let start = turn .before .before in
+    let k : length (start .args .t3) ≡ 8 = search needs in (
+      listing-none (start .args .t3) (start .args .out .now) (start .args .at) (turn .loop .out) (turn .loop .next) (turn .loop .started)
+          (turn .loop .k) (turn .loop .inv) k (start .pre) (at-loop-test .loop-test .left) (at-if1 .if1 .left) (at-put-byte .put-byte .last .0)
+          (at-put-byte .put-byte .result) (at-put-byte .put-byte .ensures),
+      omega
+          (arith, turn .loop .inv .near, turn .loop .inv .within, at-put-byte .put-byte .ensures .moved),
+    )
 
 pub put-sent-spec : {M : Type 1} → statement M
 put-sent-spec =

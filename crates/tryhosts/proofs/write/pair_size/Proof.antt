@@ -37,8 +37,8 @@ add-last c = search needs
 add-result : tie.Need-add-result
 add-result c = search needs
 
-digits-requires : tie.Need-digits-requires
-digits-requires c κs = search needs
+size-requires : tie.Need-size-requires
+size-requires c κs = search needs
 
 add-result-2 : tie.Need-add-result-2
 add-result-2 c = search needs
@@ -50,7 +50,7 @@ returns : tie.Need-returns
 returns c =
     let args = c .before .before .before .before .before .before .args in
     let octet-digits = c .before .before .before .before .octet-digits in
-    omega (arith, pair-size 0 (args .p), (octet-digits .ensures .0), (c .before .before .before .octet-digits2 .ensures .0), (c .before .before .octet-digits3 .ensures .0), (c .before .octet-digits4 .ensures .0), (c .digits .ensures .0))
+    omega (arith, pair-size 0 (args .p), (octet-digits .ensures .0), (c .before .before .before .octet-digits2 .ensures .0), (c .before .before .octet-digits3 .ensures .0), (c .before .octet-digits4 .ensures .0), (c .size .ensures .0))
 
 pub pair-size-spec : {M : Type 1} → statement M
 pair-size-spec =
@@ -67,7 +67,7 @@ pair-size-spec =
     octet-digits-requires-4
     add-last
     add-result
-    digits-requires
+    size-requires
     add-result-2
     add-result-3
     returns)

@@ -5,16 +5,16 @@ use Rattle.vectors.proofs.tries.pairs_words.Statement.{statement}
 use Rattle.vectors.proofs.tries.pairs_words.Tie as tie
 
 abbrev Inv-loop : tie.InvT-loop
-Inv-loop found i₀ t6 i = i ≤ 32
+Inv-loop found i₀ i = i ≤ 32
 
 abbrev μ-loop : tie.MeasureT-loop
-μ-loop found i₀ t6 i = 32 - i
+μ-loop found i₀ i = 32 - i
 
-slice-aggregate-write-all : tie.Need-slice-aggregate-write-all Inv-loop μ-loop
-slice-aggregate-write-all c = search needs
+slice-aggregate-word : tie.Need-slice-aggregate-word Inv-loop μ-loop
+slice-aggregate-word c = search needs
 
-write-all-requires : tie.Need-write-all-requires Inv-loop μ-loop
-write-all-requires c κs = search needs
+word-requires : tie.Need-word-requires Inv-loop μ-loop
+word-requires c κs = search needs
 
 loop-holds : tie.Need-loop-holds Inv-loop μ-loop
 loop-holds c = search needs
@@ -22,11 +22,8 @@ loop-holds c = search needs
 returns : tie.Need-returns Inv-loop μ-loop
 returns c = search needs
 
-slice-aggregate-write-all-2 : tie.Need-slice-aggregate-write-all-2 Inv-loop μ-loop
-slice-aggregate-write-all-2 c = search needs
-
-write-all-requires-2 : tie.Need-write-all-requires-2 Inv-loop μ-loop
-write-all-requires-2 c κs = search needs
+between-requires : tie.Need-between-requires Inv-loop μ-loop
+between-requires c κs = search needs
 
 mul-p : tie.Need-mul-p Inv-loop μ-loop
 mul-p c = search needs
@@ -55,12 +52,11 @@ pairs-words-spec =
     (tie.spec
     Inv-loop
     μ-loop
-    slice-aggregate-write-all
-    write-all-requires
+    slice-aggregate-word
+    word-requires
     loop-holds
     returns
-    slice-aggregate-write-all-2
-    write-all-requires-2
+    between-requires
     mul-p
     element-copy-out-p
     pair-words-requires

@@ -1,0 +1,3 @@
+-- How long numbers are in decimal, and how their digits are found.
+pub mod Sizes
+pub mod Spelling

@@ -1,0 +1,3 @@
+-- Laws of the functions to which a station is lent: each calls a function that takes the station by value.
+pub mod Changes
+pub mod Handing

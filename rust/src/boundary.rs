@@ -1,0 +1,124 @@
+//! The calls of the library: the one module with `unsafe` code. Safe functions over slices and references, a function of [`raw`] each.
+//!
+//! The library asks of a caller that pointers are not null and point to as much as their length or type says, and that what it is lent to
+//! write overlaps nothing else. Slices and references are so, empty ones too, and `&mut` borrows of one call are apart. It keeps no pointer.
+#![allow(unsafe_code)]
+
+use crate::raw::{self, Asked, Group, Hosts, Number, Own, Pairs, Station, Tally, Told, Written};
+
+pub(crate) fn fresh(station: &mut Station, route_len: usize) -> u8 {
+    // SAFETY: the reference points to a whole station.
+    unsafe { raw::lunozhar_fresh(station, route_len) }
+}
+
+pub(crate) fn open(station: &mut Station, line: u32) -> u8 {
+    // SAFETY: the reference points to a whole station.
+    unsafe { raw::lunozhar_open(station, line) }
+}
+
+pub(crate) fn close(station: &mut Station, line: u32) -> u8 {
+    // SAFETY: the reference points to a whole station.
+    unsafe { raw::lunozhar_close(station, line) }
+}
+
+pub(crate) fn message(station: &mut Station, line: u32, clock: u32, own: Own, message: &[u8], out: &mut [u8], route: &mut [u8]) -> Told {
+    let (out_len, route_len) = (out.len(), route.len());
+    // SAFETY: each pointer goes with the length of its slice; station, output and route are borrowed apart, and apart from the message.
+    unsafe {
+        raw::lunozhar_message(
+            station,
+            line,
+            clock,
+            own,
+            message.as_ptr(),
+            message.len(),
+            out.as_mut_ptr(),
+            out_len,
+            route.as_mut_ptr(),
+            route_len,
+        )
+    }
+}
+
+pub(crate) fn ask(station: &mut Station, number: Number, text: &[u8], out: &mut [u8], route: &[u8]) -> Told {
+    let out_len = out.len();
+    // SAFETY: each pointer goes with the length of its slice; station and output are borrowed apart, and apart from what is read.
+    unsafe { raw::lunozhar_ask(station, number, text.as_ptr(), text.len(), out.as_mut_ptr(), out_len, route.as_ptr(), route.len()) }
+}
+
+pub(crate) fn in_order(station: &Station) -> bool {
+    // SAFETY: the reference points to a whole station, which is only read.
+    unsafe { raw::lunozhar_in_order(station) }
+}
+
+pub(crate) fn count(tally: &mut Tally, answer: u8) {
+    // SAFETY: the reference points to a whole tally.
+    unsafe { raw::lunozhar_count(tally, answer) }
+}
+
+pub(crate) fn write_table(number: Number, old: Option<(&[u8], u8)>, new: (&[u8], u8), size: usize, out: &mut [u8]) -> Written {
+    let had = old.is_some();
+    let (old, old_infinity) = old.unwrap_or_default();
+    let (new, infinity) = new;
+    let out_len = out.len();
+    // SAFETY: each pointer goes with the length of its slice; the output is borrowed apart from the tables.
+    unsafe {
+        raw::lunozhar_write_table(
+            number,
+            had,
+            old.as_ptr(),
+            old.len(),
+            old_infinity,
+            new.as_ptr(),
+            new.len(),
+            infinity,
+            size,
+            out.as_mut_ptr(),
+            out_len,
+        )
+    }
+}
+
+pub(crate) fn read_group(bytes: &[u8]) -> Group {
+    // SAFETY: the pointer goes with the length of its slice, which is only read.
+    unsafe { raw::lunozhar_read_group(bytes.as_ptr(), bytes.len()) }
+}
+
+pub(crate) fn read_field(bytes: &[u8], name: &[u8], value: &mut [u8]) -> Asked {
+    let value_len = value.len();
+    // SAFETY: each pointer goes with the length of its slice; the value's area is borrowed apart from what is read.
+    unsafe { raw::lunozhar_read_field(bytes.as_ptr(), bytes.len(), name.as_ptr(), name.len(), value.as_mut_ptr(), value_len) }
+}
+
+pub(crate) fn read_hosts(bytes: &[u8]) -> Hosts {
+    // SAFETY: the pointer goes with the length of its slice, which is only read.
+    unsafe { raw::lunozhar_read_hosts(bytes.as_ptr(), bytes.len()) }
+}
+
+pub(crate) fn write_greeting(out: &mut [u8]) -> Written {
+    let out_len = out.len();
+    // SAFETY: the pointer goes with the length of its slice.
+    unsafe { raw::lunozhar_write_greeting(out.as_mut_ptr(), out_len) }
+}
+
+pub(crate) fn write_ok(out: &mut [u8]) -> Written {
+    let out_len = out.len();
+    // SAFETY: the pointer goes with the length of its slice.
+    unsafe { raw::lunozhar_write_ok(out.as_mut_ptr(), out_len) }
+}
+
+pub(crate) fn write_busy(pairs: Pairs, out: &mut [u8]) -> Written {
+    let out_len = out.len();
+    // SAFETY: the pointer goes with the length of its slice.
+    unsafe { raw::lunozhar_write_busy(pairs, out.as_mut_ptr(), out_len) }
+}
+
+pub(crate) fn hash(keyword: &[u8]) -> u32 {
+    // SAFETY: the pointer goes with the length of its slice, which is only read.
+    unsafe { raw::lunozhar_hash(keyword.as_ptr(), keyword.len()) }
+}
+
+pub(crate) fn place(keyword: &[u8], bits: u32) -> u32 {
+    // SAFETY: the pointer goes with the length of its slice, which is only read.
+    unsafe { raw::lunozhar_place(keyword.as_ptr(), keyword.len(), bits) }
+}

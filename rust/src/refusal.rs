@@ -1,0 +1,180 @@
+//! Why a call was refused.
+
+use std::error::Error;
+use std::fmt;
+
+/// Why a call was refused: one variant for each of the core's answer numbers 1 to 18.
+///
+/// A refusal sends nothing and changes nothing, but that a route update refused by [`BadUpdate`](Refusal::BadUpdate),
+/// [`OutOfTurn`](Refusal::OutOfTurn) or [`EntryOutOfRange`](Refusal::EntryOutOfRange) marks its line's table as broken until the next RESET.
+/// A broken table withholds no query.
+#[derive(Clone, Copy, Debug, PartialEq, Eq, Hash, PartialOrd, Ord)]
+#[non_exhaustive]
+#[repr(u8)]
+pub enum Refusal {
+    /// 1: the station's state is not in order.
+    NotInOrder = 1,
+    /// 2: an area is too short, or the route area gives another room than the state's.
+    BadArea = 2,
+    /// 3: the line is over 7, or not open; for opening: already open.
+    BadLine = 3,
+    /// 4: the message or handshake group does not end in the bytes that are there.
+    NotWhole = 4,
+    /// 5: the payload is over 4,096 bytes, or an own query's text over 4,093.
+    TooLong = 5,
+    /// 6: the payload is wrong for its type; an own query's text or a host is wrong.
+    BadPayload = 6,
+    /// 7: the message is no ping, pong, query, query hit or route update.
+    UnknownType = 7,
+    /// 8: TTL or Hops is not allowed.
+    BadTtlOrHops = 8,
+    /// 9: the query's number is remembered.
+    Repeated = 9,
+    /// 10: a hit for no remembered query; the handshake field is absent.
+    NotFound = 10,
+    /// 11: a hit for a query whose line has closed since, even if it is open again.
+    AskerClosed = 11,
+    /// 12: Hops is 255 and would have to rise.
+    HopsFull = 12,
+    /// 13: less than 1,000 ms since the line's last accepted ping.
+    PingTooSoon = 13,
+    /// 14: a field of a route update is not allowed; the table writer's arguments are wrong.
+    BadUpdate = 14,
+    /// 15: a PATCH that is not the next of its run, or does not fit the table.
+    OutOfTurn = 15,
+    /// 16: a PATCH leads an entry outside 1 to Infinity.
+    EntryOutOfRange = 16,
+    /// 17: the handshake group is not understood.
+    BadHandshake = 17,
+    /// 18: no handshake group ends in the first 4,096 bytes.
+    NoGroupEnd = 18,
+}
+
+impl Refusal {
+    /// Every refusal, in the order of the numbers.
+    ///
+    /// ```
+    /// use lunozhar::Refusal;
+    /// assert!(Refusal::ALL.iter().map(|refusal| refusal.number()).eq(1..=18));
+    /// ```
+    pub const ALL: [Refusal; 18] = [
+        Refusal::NotInOrder,
+        Refusal::BadArea,
+        Refusal::BadLine,
+        Refusal::NotWhole,
+        Refusal::TooLong,
+        Refusal::BadPayload,
+        Refusal::UnknownType,
+        Refusal::BadTtlOrHops,
+        Refusal::Repeated,
+        Refusal::NotFound,
+        Refusal::AskerClosed,
+        Refusal::HopsFull,
+        Refusal::PingTooSoon,
+        Refusal::BadUpdate,
+        Refusal::OutOfTurn,
+        Refusal::EntryOutOfRange,
+        Refusal::BadHandshake,
+        Refusal::NoGroupEnd,
+    ];
+
+    /// The answer number, 1 to 18.
+    ///
+    /// ```
+    /// assert_eq!(lunozhar::Refusal::AskerClosed.number(), 11);
+    /// ```
+    pub fn number(self) -> u8 {
+        self as u8
+    }
+
+    /// The refusal with this number; `None` for 0, which is no refusal, and for numbers that the core does not give.
+    ///
+    /// ```
+    /// use lunozhar::Refusal;
+    /// assert_eq!(Refusal::from_number(9), Some(Refusal::Repeated));
+    /// assert_eq!(Refusal::from_number(0), None);
+    /// ```
+    pub fn from_number(number: u8) -> Option<Refusal> {
+        Refusal::ALL.get(usize::from(number).checked_sub(1)?).copied()
+    }
+
+    /// What it means, in a few words.
+    ///
+    /// ```
+    /// assert_eq!(lunozhar::Refusal::PingTooSoon.meaning(), "ping too soon after the last one");
+    /// ```
+    pub fn meaning(self) -> &'static str {
+        match self {
+            Refusal::NotInOrder => "the station's state is not in order",
+            Refusal::BadArea => "an area is too short, or the route area gives another room",
+            Refusal::BadLine => "no such line, or it is not open, or open already",
+            Refusal::NotWhole => "the message or handshake group is not whole",
+            Refusal::TooLong => "the payload or the query's text is too long",
+            Refusal::BadPayload => "the payload, the query's text or a host is wrong",
+            Refusal::UnknownType => "unknown type of message",
+            Refusal::BadTtlOrHops => "TTL or Hops is not allowed",
+            Refusal::Repeated => "the query's number is remembered",
+            Refusal::NotFound => "a hit for no remembered query, or no such handshake field",
+            Refusal::AskerClosed => "the asker's line has closed",
+            Refusal::HopsFull => "Hops is 255 and would have to rise",
+            Refusal::PingTooSoon => "ping too soon after the last one",
+            Refusal::BadUpdate => "a field of the route update is not allowed",
+            Refusal::OutOfTurn => "route update out of turn",
+            Refusal::EntryOutOfRange => "a patch leads an entry outside 1 to Infinity",
+            Refusal::BadHandshake => "handshake not understood",
+            Refusal::NoGroupEnd => "no handshake group ends in 4,096 bytes",
+        }
+    }
+}
+
+impl fmt::Display for Refusal {
+    fn fmt(&self, f: &mut fmt::Formatter<'_>) -> fmt::Result {
+        write!(f, "refused with {}: {}", self.number(), self.meaning())
+    }
+}
+
+impl Error for Refusal {}
+
+/// A refusal of bytes that arrived, with how many of them to skip.
+///
+/// ```
+/// use lunozhar::handshake;
+///
+/// let refused = handshake::field(b"GNUTELLA/0.6 200 OK\r\n\r\n", "X-Try").unwrap_err();
+/// assert_eq!(refused.to_string(), "refused with 10: a hit for no remembered query, or no such handshake field (23 bytes used)");
+/// ```
+#[derive(Clone, Copy, Debug, PartialEq, Eq, Hash)]
+pub struct Refused {
+    /// Why.
+    pub refusal: Refusal,
+    /// How many bytes the message or handshake group took, which is what to skip before the next one. It is 0 where the bytes don't tell that
+    /// (numbers 1 to 5, 17 and 18).
+    pub used: usize,
+}
+
+impl fmt::Display for Refused {
+    fn fmt(&self, f: &mut fmt::Formatter<'_>) -> fmt::Result {
+        write!(f, "{} ({} bytes used)", self.refusal, self.used)
+    }
+}
+
+impl Error for Refused {}
+
+impl From<Refused> for Refusal {
+    fn from(refused: Refused) -> Refusal {
+        refused.refusal
+    }
+}
+
+/// An answer of the core as a result.
+pub(crate) fn checked(answer: u8) -> Result<(), Refusal> {
+    match answer {
+        0 => Ok(()),
+        number => Err(Refusal::from_number(number).expect("the core's answers are 0 to 18")),
+    }
+}
+
+/// The same, with the bytes used.
+pub(crate) fn checked_using(answer: u8, used: usize) -> Result<(), Refused> {
+    checked(answer).map_err(|refusal| Refused { refusal, used })
+}
