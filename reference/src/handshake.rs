@@ -58,37 +58,29 @@ pub struct Pairs {
 /// Where a group ends: the first CR LF that is a line of its own. 4 or 18 if there is none within the first 4,096 bytes.
 fn end(bytes: &[u8]) -> Result<usize, u8> {
     let seen = &bytes[..bytes.len().min(GROUP)];
-    if seen.starts_with(b"\r\n") {
-        return Ok(2);
+    let mut at = 0;
+    while let Some(length) = seen[at..].iter().position(|&byte| byte == b'\n') {
+        at += length + 1;
+        if seen[..at] == *b"\r\n" || seen[..at].ends_with(b"\r\n\r\n") {
+            return Ok(at);
+        }
     }
-    match seen.windows(4).position(|four| four == b"\r\n\r\n") {
-        Some(at) => Ok(at + 4),
-        None if bytes.len() >= GROUP => Err(18),
-        None => Err(4),
-    }
+    Err(if bytes.len() >= GROUP { 18 } else { 4 })
 }
 
-/// The lines of a group whose every CR and LF stands in a CR LF, the empty one at its end left out.
-fn lines(group: &[u8]) -> impl Iterator<Item = &[u8]> {
+/// The lines of a group, the empty one at its end left out. A CR or LF that stands alone ends them with a refusal.
+fn lines(group: &[u8]) -> impl Iterator<Item = Result<&[u8], u8>> {
     let mut rest = &group[..group.len() - 2];
     std::iter::from_fn(move || {
-        let length = rest.iter().position(|&byte| byte == b'\r')?;
-        let line = &rest[..length];
-        rest = &rest[length + 2..];
-        Some(line)
-    })
-}
-
-/// Whether every CR is followed by LF and every LF follows a CR.
-fn paired(group: &[u8]) -> bool {
-    let mut carriage = false;
-    for &byte in group {
-        if carriage != (byte == b'\n') {
-            return false;
+        if rest.is_empty() {
+            return None;
         }
-        carriage = byte == b'\r';
-    }
-    !carriage
+        let length = rest.iter().position(|&byte| byte == b'\r' || byte == b'\n').unwrap_or(rest.len());
+        let (line, after) = rest.split_at(length);
+        let next = after.strip_prefix(b"\r\n");
+        rest = next.unwrap_or(b"");
+        Some(next.map(|_| line).ok_or(17))
+    })
 }
 
 fn blank(byte: u8) -> bool {
@@ -137,82 +129,81 @@ enum Line<'a> {
 }
 
 fn field_line(line: &[u8]) -> Option<Line<'_>> {
-    if line.first().map_or(false, |&byte| blank(byte)) {
-        return Some(Line::More(without_blanks(line)));
+    let length = line.iter().position(|&byte| byte == b':' || blank(byte))?;
+    match line[length] {
+        b':' if length > 0 => Some(Line::Field(&line[..length], without_blanks(&line[length + 1..]))),
+        b':' => None,
+        _ if length == 0 => Some(Line::More(without_blanks(line))),
+        _ => None,
     }
-    let colon = line.iter().position(|&byte| byte == b':')?;
-    let name = &line[..colon];
-    if name.is_empty() || name.iter().any(|&byte| blank(byte)) {
-        return None;
-    }
-    Some(Line::Field(name, without_blanks(&line[colon + 1..])))
 }
 
-/// Reads the group at the start of `bytes`. The refusals are 4, 18 and 17.
-pub fn read_group(bytes: &[u8]) -> Result<Group, u8> {
+/// Reads the group at the start of `bytes` and hands its lines after the first to `each`. The refusals are 4, 18 and 17.
+fn read_lines<'a>(bytes: &'a [u8], mut each: impl FnMut(Line<'a>)) -> Result<Group, u8> {
     let used = end(bytes)?;
-    let group = &bytes[..used];
-    if !paired(group) {
-        return Err(17);
-    }
-    let mut lines = lines(group);
-    let read = lines.next().and_then(|line| first_line(line, used)).ok_or(17)?;
-    let mut fields = 0;
+    let mut lines = lines(&bytes[..used]);
+    let first = lines.next().ok_or(17)??;
+    let read = first_line(first, used).ok_or(17)?;
+    let mut before = false;
     for line in lines {
-        match field_line(line) {
-            Some(Line::Field(..)) => fields += 1,
-            Some(Line::More(_)) if fields > 0 => {}
-            _ => return Err(17),
+        match field_line(line?) {
+            Some(Line::More(_)) if !before => return Err(17),
+            Some(line) => each(line),
+            None => return Err(17),
         }
+        before = true;
     }
     Ok(read)
 }
 
-/// Hands the pieces of a field's joined value to `piece`, in order, and says whether the field is there. The group has been read.
-fn value<'a>(group: &'a [u8], name: &[u8], mut piece: impl FnMut(&'a [u8])) -> bool {
+/// Reads the group at the start of `bytes`. The refusals are 4, 18 and 17.
+pub fn read_group(bytes: &[u8]) -> Result<Group, u8> {
+    read_lines(bytes, |_| ())
+}
+
+/// Reads the group at the start of `bytes`, hands the pieces of a field's joined value to `piece`, in order, and says whether the field is
+/// there.
+fn value<'a>(bytes: &'a [u8], name: &[u8], mut piece: impl FnMut(&'a [u8])) -> Result<(Group, bool), u8> {
     let (mut found, mut inside) = (false, false);
-    for line in lines(group).skip(1) {
-        match field_line(line) {
-            Some(Line::Field(other, value)) => {
-                inside = other.eq_ignore_ascii_case(name);
-                if inside {
-                    if found {
-                        piece(b",");
-                    }
-                    found = true;
-                    piece(value);
+    let read = read_lines(bytes, |line| match line {
+        Line::Field(other, value) => {
+            inside = other.eq_ignore_ascii_case(name);
+            if inside {
+                if found {
+                    piece(b",");
                 }
+                found = true;
+                piece(value);
             }
-            Some(Line::More(more)) if inside => {
-                piece(b" ");
-                piece(more);
-            }
-            _ => {}
         }
-    }
-    found
+        Line::More(more) if inside => {
+            piece(b" ");
+            piece(more);
+        }
+        Line::More(_) => {}
+    })?;
+    Ok((read, found))
 }
 
 /// Writes a field's joined value to `out`. Order: 4 or 18, 17, 10, 2.
 pub fn field(bytes: &[u8], name: &[u8], out: &mut [u8]) -> Field {
     let refused = |answer, used| Field { answer, used, written: 0 };
-    let used = match read_group(bytes) {
-        Ok(group) => group.used,
-        Err(answer) => return refused(answer, 0),
-    };
+    // A joined value is shorter than its group: a comma or a space in it stands for a line's end.
+    let mut joined = [0; GROUP];
     let mut length = 0;
-    if !value(&bytes[..used], name, |piece| length += piece.len()) {
-        return refused(10, used);
-    }
-    if length > out.len() {
-        return refused(2, 0);
-    }
-    let mut written = 0;
-    value(&bytes[..used], name, |piece| {
-        out[written..written + piece.len()].copy_from_slice(piece);
-        written += piece.len();
+    let read = value(bytes, name, |piece| {
+        joined[length..length + piece.len()].copy_from_slice(piece);
+        length += piece.len();
     });
-    Field { answer: 0, used, written }
+    match read {
+        Err(answer) => refused(answer, 0),
+        Ok((Group { used, .. }, false)) => refused(10, used),
+        Ok(_) if length > out.len() => refused(2, 0),
+        Ok((Group { used, .. }, true)) => {
+            out[..length].copy_from_slice(&joined[..length]);
+            Field { answer: 0, used, written: length }
+        }
+    }
 }
 
 /// One address:port item.
@@ -235,21 +226,14 @@ fn pair(item: &[u8]) -> Option<Pair> {
 /// Reads the pairs of the group's X-Try field; none if it has no such field. Order: 4 or 18, 17, 6.
 pub fn try_pairs(bytes: &[u8]) -> Pairs {
     let mut read = Pairs { answer: 0, used: 0, count: 0, pairs: [Pair::default(); PAIRS] };
-    match read_group(bytes) {
-        Ok(group) => read.used = group.used,
-        Err(answer) => {
-            read.answer = answer;
-            return read;
-        }
-    }
-    // A joined value is shorter than its group: a comma or a space in it stands for a line's end.
     let mut joined = [0; GROUP];
-    let mut length = 0;
-    value(&bytes[..read.used], b"X-Try", |piece| {
-        joined[length..length + piece.len()].copy_from_slice(piece);
-        length += piece.len();
-    });
-    for (index, item) in joined[..length].split(|&byte| byte == b',').enumerate() {
+    let asked = field(bytes, b"X-Try", &mut joined);
+    read.used = asked.used;
+    if asked.answer != 0 {
+        read.answer = if asked.answer == 10 { 0 } else { asked.answer };
+        return read;
+    }
+    for (index, item) in joined[..asked.written].split(|&byte| byte == b',').enumerate() {
         let item = if index > 0 { item.strip_prefix(b" ").unwrap_or(item) } else { item };
         if item.is_empty() {
             continue;

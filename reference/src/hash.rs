@@ -1,21 +1,33 @@
 //! The hash of a keyword (document 001, appendix).
 //!
-//! The appendix goes through the keyword one byte at a time and XORs each byte into a rolling 32-bit number; that way is kept here. It
-//! gives what document 01 says of chunks of four bytes, the bytes in little-endian order and the last chunk padded with zeros.
+//! The appendix goes through the keyword one byte at a time and XORs each byte into a rolling 32-bit number. It gives what document 01 says of
+//! chunks of four bytes, in little-endian order and the last padded with zeros: these are taken whole here, and a test holds them to the
+//! appendix's way.
 
 /// The multiplier, `A_INT` of the appendix.
 pub const MULTIPLIER: u32 = 0x4F1B_BCDC;
 
-/// The keyword as one number: its bytes, `A` to `Z` as `a` to `z`, rolled into four byte positions by XOR.
+/// The keyword as one number: its chunks of four bytes, `A` to `Z` as `a` to `z`, joined by XOR.
 #[inline]
 pub fn word(keyword: &[u8]) -> u32 {
-    let mut xor = 0u32;
-    let mut shift = 0u32;
-    for &byte in keyword {
-        xor ^= u32::from(byte.to_ascii_lowercase()) << shift;
-        shift = (shift + 8) & 31;
-    }
-    xor
+    let chunks = keyword.chunks_exact(4);
+    let mut last = [0; 4];
+    last[..chunks.remainder().len()].copy_from_slice(chunks.remainder());
+    let whole = chunks.fold(0, |xor, chunk| xor ^ lowered([chunk[0], chunk[1], chunk[2], chunk[3]]));
+    whole ^ lowered(last)
+}
+
+/// Four bytes in lower case, as a number. A byte's high bit is set in `from_a` if its low seven bits are `A` or more, in `past_z` if they are
+/// more than `Z`; no byte carries into the next.
+#[inline]
+fn lowered(four: [u8; 4]) -> u32 {
+    const ALL: u32 = 0x0101_0101;
+    let bytes = u32::from_le_bytes(four);
+    let seven = bytes & (0x7F * ALL);
+    let from_a = seven + (0x80 - u32::from(b'A')) * ALL;
+    let past_z = seven + (0x7F - u32::from(b'Z')) * ALL;
+    let upper = from_a & !past_z & !bytes & (0x80 * ALL);
+    bytes | (upper >> 2)
 }
 
 /// The keyword's number times the multiplier, modulo 2^32. The top bits of it are the place.
@@ -112,6 +124,23 @@ mod tests {
     #[test]
     fn two_bit_places() {
         check(2, &[("eb", 3), ("ebckl", 1), ("ebcklmen", 0)]);
+    }
+
+    /// The appendix's way: byte by byte, each moved up by eight bits more than the one before, and back to none after the fourth.
+    fn rolled(keyword: &[u8]) -> u32 {
+        let byte = |(index, byte): (usize, &u8)| u32::from(byte.to_ascii_lowercase()) << (index % 4 * 8);
+        keyword.iter().enumerate().map(byte).fold(0, |xor, byte| xor ^ byte)
+    }
+
+    #[test]
+    fn chunks_are_rolled_bytes() {
+        let bytes: Vec<u8> = (0u8..=255).chain((0..=255).rev()).collect();
+        for from in 0..256 {
+            for length in [0, 1, 2, 3, 4, 5, 7, 8, 13, 200, 256] {
+                let keyword = &bytes[from..from + length];
+                assert_eq!(word(keyword), rolled(keyword), "{keyword:?}");
+            }
+        }
     }
 
     #[test]

@@ -24,20 +24,12 @@ impl<'a> Iterator for Keywords<'a> {
 
     #[inline]
     fn next(&mut self) -> Option<Keyword<'a>> {
-        let text = self.text;
-        let mut start = self.at;
-        while start < text.len() && text[start] == b' ' {
-            start += 1;
-        }
-        let mut end = start;
-        while end < text.len() && text[end] != b' ' {
-            end += 1;
-        }
-        self.at = end;
-        if start == end {
-            return None;
-        }
-        Some(Keyword { start, bytes: &text[start..end] })
+        let after = &self.text[self.at..];
+        let start = self.at + after.iter().position(|&byte| byte != b' ')?;
+        let after = &self.text[start..];
+        let length = after.iter().position(|&byte| byte == b' ').unwrap_or(after.len());
+        self.at = start + length;
+        Some(Keyword { start, bytes: &after[..length] })
     }
 }
 

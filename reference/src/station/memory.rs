@@ -1,81 +1,108 @@
 //! The remembered queries, and the test that a state is in order.
 //!
-//! To find a number that is remembered twice in linear time, the test enters every kept number into an index by hash. The same index then
-//! serves the call that asked for the test. The hash has a random key so that no choice of numbers makes it slow.
+//! Whether a number is remembered twice is found in time linear in the kept numbers, by marks: each number marks two of 16,384 places, by bits
+//! that a random number has at random, and only where both are marked already are the kept numbers looked through. The marks then say of
+//! most new numbers that they are not remembered, with no look either.
 
-use super::{Line, State, GONE, LINES, MEMORY};
-use std::collections::hash_map::RandomState;
-use std::hash::{BuildHasher, Hasher};
+use super::{kept, Line, State, GONE, HERE, LINES, MEMORY};
+use std::ops::Range;
 
-const SLOTS: usize = 2 * MEMORY;
-const FREE: u16 = u16::MAX;
+const MARKS: usize = 16_384;
 
-fn random() -> u64 {
-    RandomState::new().build_hasher().finish()
+/// The marks of the kept numbers.
+pub(super) struct Marks([bool; MARKS]);
+
+impl Marks {
+    pub(super) fn new() -> Marks {
+        Marks([false; MARKS])
+    }
+
+    #[inline]
+    fn places(low: u64) -> (usize, usize) {
+        (low as usize % MARKS, (low / MARKS as u64) as usize % MARKS)
+    }
+
+    /// Whether a number with this low half may have been marked.
+    #[inline]
+    fn maybe(&self, low: u64) -> bool {
+        let (one, two) = Marks::places(low);
+        self.0[one] & self.0[two]
+    }
+
+    #[inline]
+    fn mark(&mut self, low: u64) {
+        let (one, two) = Marks::places(low);
+        self.0[one] = true;
+        self.0[two] = true;
+    }
 }
 
-/// The kept places of the memory by the hash of their number, with linear probing.
-pub(super) struct Index {
-    slots: [u16; SLOTS],
-    key: (u64, u64),
+/// The first eight bytes of a number.
+#[inline]
+fn low_half(number: &[u8; 16]) -> u64 {
+    u128::from_le_bytes(*number) as u64
 }
 
-impl Index {
-    fn new() -> Index {
-        thread_local! {
-            static KEY: (u64, u64) = (random(), random());
-        }
-        Index { slots: [FREE; SLOTS], key: KEY.with(|key| *key) }
+/// Which askers fit these lines: an open line, here, gone.
+fn fitting(lines: &[Line; LINES]) -> [bool; 256] {
+    let mut fitting = [false; 256];
+    for (fits, line) in fitting.iter_mut().zip(lines) {
+        *fits = line.open;
     }
-
-    #[inline]
-    fn hash(&self, number: u128) -> usize {
-        let product = u128::from(number as u64 ^ self.key.0) * u128::from((number >> 64) as u64 ^ self.key.1);
-        ((product >> 64) as u64 ^ product as u64) as usize
-    }
-
-    /// The slot where this number is, or else where it would be.
-    #[inline]
-    fn slot(&self, state: &State, number: u128) -> usize {
-        let mut slot = self.hash(number) % SLOTS;
-        while self.slots[slot] != FREE && u128::from_le_bytes(state.numbers[usize::from(self.slots[slot])]) != number {
-            slot = (slot + 1) % SLOTS;
-        }
-        slot
-    }
-
-    /// Enters the number at a place; false if it is there already.
-    #[inline]
-    fn enter(&mut self, state: &State, place: usize) -> bool {
-        let slot = self.slot(state, u128::from_le_bytes(state.numbers[place]));
-        let free = self.slots[slot] == FREE;
-        self.slots[slot] = place as u16;
-        free
-    }
-
-    /// The kept place of a number.
-    #[inline]
-    pub(super) fn find(&self, state: &State, number: &[u8; 16]) -> Option<usize> {
-        let place = self.slots[self.slot(state, u128::from_le_bytes(*number))];
-        (place != FREE).then_some(usize::from(place))
-    }
+    fitting[usize::from(HERE)] = true;
+    fitting[usize::from(GONE)] = true;
+    fitting
 }
 
 impl State {
-    /// The index of the remembered numbers if the state is in order.
-    pub(super) fn index(&self) -> Option<Index> {
-        let (count, next) = (usize::from(self.count), usize::from(self.next));
-        if count > MEMORY || next >= MEMORY || !self.lines.iter().all(|line| line.in_order(self.room)) {
-            return None;
+    /// The kept places, the oldest first.
+    #[inline]
+    fn kept(&self) -> [Range<usize>; 2] {
+        kept(usize::from(self.count), usize::from(self.next), MEMORY)
+    }
+
+    /// Whether the state is in order; if so, the kept numbers are marked.
+    pub(super) fn in_order_marked(&self, marks: &mut Marks) -> bool {
+        let ring = usize::from(self.count) <= MEMORY && usize::from(self.next) < MEMORY;
+        if !ring || !self.lines.iter().all(|line| line.in_order(self.room)) {
+            return false;
         }
-        let mut index = Index::new();
-        for back in 1..=count {
-            let place = (next + MEMORY - back) % MEMORY;
-            if !asker_in_order(&self.lines, self.askers[place]) || !index.enter(self, place) {
-                return None;
+        let fitting = fitting(&self.lines);
+        let mut fit = true;
+        for places in self.kept() {
+            let queries = self.numbers[places.clone()].iter().zip(&self.askers[places.clone()]);
+            for (place, (number, asker)) in places.zip(queries) {
+                let low = low_half(number);
+                if marks.maybe(low) && self.place_of(number) != Some(place) {
+                    return false;
+                }
+                marks.mark(low);
+                fit &= fitting[usize::from(*asker)];
             }
         }
-        Some(index)
+        fit
+    }
+
+    /// The first kept place of a number, from the oldest on.
+    #[inline(never)]
+    fn place_of(&self, number: &[u8; 16]) -> Option<usize> {
+        let low = low_half(number);
+        let among = |places: Range<usize>| {
+            let at = self.numbers[places.clone()].iter().position(|kept| low_half(kept) == low && kept == number)?;
+            Some(places.start + at)
+        };
+        let [older, newer] = self.kept();
+        among(older).or_else(|| among(newer))
+    }
+
+    /// The kept place of a number, given the marks of the kept numbers.
+    #[inline]
+    pub(super) fn find(&self, marks: &Marks, number: &[u8; 16]) -> Option<usize> {
+        if marks.maybe(low_half(number)) {
+            self.place_of(number)
+        } else {
+            None
+        }
     }
 
     /// Remembers a query; the oldest of 512 makes way.
@@ -85,13 +112,5 @@ impl State {
         self.askers[place] = asker;
         self.next = (self.next + 1) % MEMORY as u16;
         self.count = (self.count + 1).min(MEMORY as u16);
-    }
-}
-
-#[inline]
-fn asker_in_order(lines: &[Line; LINES], asker: u8) -> bool {
-    match lines.get(usize::from(asker)) {
-        Some(line) => line.open,
-        None => asker <= GONE,
     }
 }

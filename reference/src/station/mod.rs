@@ -10,7 +10,8 @@ use crate::hash;
 use crate::header::{self, Header, HIT, PING, PONG, QUERY, UPDATE};
 use crate::keywords::keywords;
 use crate::table::{self, Table};
-use memory::Index;
+use memory::Marks;
+use std::ops::Range;
 
 /// Lines of a station.
 pub const LINES: usize = 8;
@@ -136,11 +137,19 @@ impl Line {
     }
 
     fn in_order(&self, room: usize) -> bool {
-        let ring = usize::from(self.pong_count) <= PONGS && usize::from(self.pong_next) < PONGS;
-        ring && (0..PONGS).all(|rank| self.pong(rank).map_or(true, |pong| pong.hops <= REACH))
-            && (self.open || (self.table.mark == table::NONE && self.pong_count == 0 && !self.pinged))
+        let (count, next) = (usize::from(self.pong_count), usize::from(self.pong_next));
+        let ring = count <= PONGS && next < PONGS;
+        ring && kept(count, next, PONGS).into_iter().all(|places| self.pongs[places].iter().all(|pong| pong.hops <= REACH))
+            && (self.open || (self.table.mark == table::NONE && count == 0 && !self.pinged))
             && table_in_order(&self.table, room)
     }
+}
+
+/// The kept places of a ring: those at its end, if any are kept there, and those before `next`. The ring is in order.
+#[inline]
+fn kept(count: usize, next: usize, capacity: usize) -> [Range<usize>; 2] {
+    let before = count.min(next);
+    [capacity - (count - before)..capacity, next - before..next]
 }
 
 fn table_in_order(table: &Table, room: usize) -> bool {
@@ -207,7 +216,7 @@ impl State {
 
     /// Whether the state is in order.
     pub fn in_order(&self) -> bool {
-        self.index().is_some()
+        self.in_order_marked(&mut Marks::new())
     }
 
     /// Opens a line: 0, 1 or 3.
@@ -242,10 +251,10 @@ impl State {
     /// Handles a message that arrived on a line.
     pub fn message(&mut self, line: usize, clock: u32, own: &OwnPong, bytes: &[u8], out: &mut [u8], route: &mut [u8]) -> Handled {
         let refused = |answer| Handled { answer, ..QUIET };
-        let index = match self.index() {
-            Some(index) => index,
-            None => return refused(1),
-        };
+        let mut marks = Marks::new();
+        if !self.in_order_marked(&mut marks) {
+            return refused(1);
+        }
         if !self.areas_fit(out, route) {
             return refused(2);
         }
@@ -267,8 +276,8 @@ impl State {
         let done = match header.kind {
             PING => self.ping(line, clock, own, &header, out),
             PONG => self.pong(line, clock, &header, payload),
-            QUERY => self.query(&index, line, &header, payload, out, route),
-            HIT => self.hit(&index, &header, payload, out),
+            QUERY => self.query(&marks, line, &header, payload, out, route),
+            HIT => self.hit(&marks, &header, payload, out),
             UPDATE => self.update(line, &header, payload, route),
             _ => Err(7),
         };
@@ -281,10 +290,10 @@ impl State {
     /// Sends a query of the station's own.
     pub fn own_query(&mut self, number: &[u8; 16], text: &[u8], out: &mut [u8], route: &[u8]) -> Handled {
         let refused = |answer| Handled { answer, ..QUIET };
-        let index = match self.index() {
-            Some(index) => index,
-            None => return refused(1),
-        };
+        let mut marks = Marks::new();
+        if !self.in_order_marked(&mut marks) {
+            return refused(1);
+        }
         if !self.areas_fit(out, route) {
             return refused(2);
         }
@@ -294,7 +303,7 @@ impl State {
         if text.contains(&0) {
             return refused(6);
         }
-        if index.find(self, number).is_some() {
+        if self.find(&marks, number).is_some() {
             return refused(9);
         }
         self.remember(number, HERE);
@@ -353,13 +362,13 @@ impl State {
         Ok(QUIET)
     }
 
-    fn query(&mut self, index: &Index, line: usize, header: &Header, payload: &[u8], out: &mut [u8], route: &[u8]) -> Result<Handled, u8> {
+    fn query(&mut self, marks: &Marks, line: usize, header: &Header, payload: &[u8], out: &mut [u8], route: &[u8]) -> Result<Handled, u8> {
         let Header { ref number, ttl, hops, .. } = *header;
         let text = query_text(payload).ok_or(6)?;
         if ttl == 0 || ttl > QUERY_TTL || hops >= REACH {
             return Err(8);
         }
-        if index.find(self, number).is_some() {
+        if self.find(marks, number).is_some() {
             return Err(9);
         }
         if hops == 255 {
@@ -379,14 +388,14 @@ impl State {
         Ok(Handled { to, written, ..taken })
     }
 
-    fn hit(&mut self, index: &Index, header: &Header, payload: &[u8], out: &mut [u8]) -> Result<Handled, u8> {
+    fn hit(&mut self, marks: &Marks, header: &Header, payload: &[u8], out: &mut [u8]) -> Result<Handled, u8> {
         if payload.len() < HIT_BYTES {
             return Err(6);
         }
         if header.ttl == 0 {
             return Err(8);
         }
-        let place = index.find(self, &header.number).ok_or(10)?;
+        let place = self.find(marks, &header.number).ok_or(10)?;
         let asker = match self.askers[place] {
             GONE => return Err(11),
             HERE => return Ok(Handled { delivered: true, ..QUIET }),

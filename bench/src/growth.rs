@@ -1,0 +1,48 @@
+//! How cost grows: one thing doubled from row to row.
+
+use crate::inputs::{self, calls, Random};
+use crate::rows;
+use crate::sessions::{Session, World, CLOCK, INFINITY, MEMORY};
+use crate::sides::ROOM;
+
+/// Calls in a list of like messages.
+const LIST: usize = 32;
+
+/// Queries with this text, whose keywords are near, to a warm station.
+fn queries(name: String, keywords: Vec<Vec<u8>>) -> Session {
+    let text = keywords.join(&b' ');
+    let mut world = World::new(11, ROOM, keywords);
+    let setup = world.warm();
+    let list = (0..LIST).map(|_| inputs::query(world.numbers.number(), 5, 1, &text)).collect();
+    Session { name, setup, calls: calls(0, CLOCK, list), expected: |outcome| outcome.to.count_ones() >= 5, units: LIST }
+}
+
+/// A query of one keyword that gets longer.
+pub fn payloads() -> Vec<Session> {
+    let lengths = (3..12).map(|power| 1 << power).chain([4_000]);
+    lengths.map(|length| queries(format!("query, text of {length} bytes"), vec![Random(12).word(length)])).collect()
+}
+
+/// A query of more keywords, seven letters each.
+pub fn keywords() -> Vec<Session> {
+    let mut random = Random(13);
+    let mut more = |count: usize| queries(format!("query, {count} keywords"), (0..count).map(|_| random.word(7)).collect());
+    (0..7).map(|power| more(1 << power)).collect()
+}
+
+/// A run for a longer table.
+pub fn entries() -> Vec<Session> {
+    (10..17).map(|power| rows::run(&format!("PATCH run, {} entries, 4 bits", 1 << power), 1 << power, INFINITY)).collect()
+}
+
+/// A hit for no remembered query, with more queries remembered.
+pub fn remembered() -> Vec<Session> {
+    let unknown = |kept: usize| {
+        let mut world = rows::world(14, 1_024);
+        let setup = world.remembered(kept);
+        let list = (0..LIST).map(|_| inputs::hit(world.random.number(), 5, 1, 100)).collect();
+        let name = format!("hit of no query (10), {kept} remembered");
+        Session { name, setup, calls: calls(0, CLOCK, list), expected: |outcome| outcome.answer == 10, units: LIST }
+    };
+    [0, MEMORY / 8, MEMORY / 4, MEMORY / 2, MEMORY].map(unknown).into()
+}

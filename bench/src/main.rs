@@ -1,0 +1,68 @@
+//! Timings and sizes of the proved core beside the reference, on the same inputs, as tables in markdown.
+//!
+//! `bench` takes a few minutes. `bench --quick` only sees that the two agree and that everything runs. `bench WORD` has the rows with that
+//! word in their names.
+
+mod growth;
+mod inputs;
+mod measure;
+mod proved;
+mod rows;
+mod sessions;
+mod sides;
+mod sizes;
+
+use measure::{Effort, Row};
+use sides::Areas;
+use sizes::Size;
+use std::env;
+
+fn print_head(title: &str) {
+    println!("\n## {title}\n\n| name | proved ns | reference ns | ratio |\n|---|---:|---:|---:|");
+}
+
+fn print_row(row: Row) {
+    let Row { name, proved, reference } = row;
+    println!("| {name} | {proved:.1} | {reference:.1} | {:.2} |", proved / reference);
+}
+
+fn print_sizes() {
+    println!("\n## Sizes\n\n| name | proved bytes | reference bytes | ratio |\n|---|---:|---:|---:|");
+    for Size { name, proved, reference } in sizes::sizes().expect("the programs stand beside this one") {
+        println!("| {name} | {proved} | {reference} | {:.2} |", proved as f64 / reference as f64);
+    }
+}
+
+fn main() {
+    if let [flag, side, levels] = &env::args().skip(1).collect::<Vec<_>>()[..] {
+        if flag == "--stack" {
+            return sizes::try_stack(side, levels);
+        }
+    }
+    let (flags, words): (Vec<_>, Vec<_>) = env::args().skip(1).partition(|argument| argument.starts_with("--"));
+    let effort = if flags.iter().any(|flag| flag == "--quick") { Effort::QUICK } else { Effort::FULL };
+    let wanted = |name: &str| words.iter().all(|word| name.contains(word));
+    let mut areas = Areas::new();
+    print_head("Calls");
+    for session in rows::sessions() {
+        if wanted(&session.name) {
+            print_row(session.row(effort, &mut areas));
+        }
+    }
+    for (name, measure) in rows::FUNCTIONS {
+        if wanted(name) {
+            print_row(measure(name, effort, &mut areas));
+        }
+    }
+    print_head("How cost grows");
+    for list in [growth::payloads(), growth::keywords(), growth::entries(), growth::remembered()] {
+        for session in list {
+            if wanted(&session.name) {
+                print_row(session.row(effort, &mut areas));
+            }
+        }
+    }
+    if words.is_empty() {
+        print_sizes();
+    }
+}
