@@ -10,7 +10,8 @@ use borrow.Author.Tests.{le-leb}
 use Rattle.laws.specs.Bytes.{littleBytes}
 use Rattle.laws.specs.Parts.{over}
 use Rattle.laws.proofs.Over.{rest-front}
-use Rattle.laws.proofs.Writing.{kept-length, stored-next, written-next, lent-part}
+use Rattle.laws.proofs.Over.{over-length}
+use Rattle.laws.proofs.Writing.{stored-next, written-next, lent-part}
 use Rattle.wire.specs.Header.{numberOf, kindOf, sizeOf, payloadOf, header, message, withHeader}
 use Rattle.wire.proofs.HeaderLaws.{header-length}
 use Rattle.protocol.specs.Queries.{ownPayload, ownBytes}
@@ -87,7 +88,7 @@ module _ (number text out : List ℕ) (limit : ℕ) (long : length number ≡ 16
   own-stored mid left e f =
       let b : begun mid ≡ over 0 (head ++ (0 ∷ 0 ∷ [])) out =
       stored-next 23 head (0 ∷ 0 ∷ []) out mid head-long (omega arith) (e ∙ (rw (le-leb 23 (length out) (omega arith)))) in
-      let k : length (begun mid) ≡ length out = ap length b ∙ kept-length 0 (head ++ (0 ∷ 0 ∷ [])) out (omega (arith, begun-long)) in
+      let k : length (begun mid) ≡ length out = ap length b ∙ over-length 0 (head ++ (0 ∷ 0 ∷ [])) out (omega (arith, begun-long)) in
       let t : putMid 25 (length (begun mid) - 25) (begun mid) left ≡ over 0 ((head ++ (0 ∷ 0 ∷ [])) ++ text) out =
       lent-part 25 (length (begun mid) - 25) text (begun mid) left (omega arith) (omega arith) f
       ∙ ap (over 25 text) b

@@ -7,11 +7,9 @@ ghost use Rattle.tables.specs.Tables.{heldIn};
 ghost use Rattle.forwarding.specs.Passing.{passingOf, stops, leftBy};
 use keywords::cut::first_keyword;
 use keywords::hash::hash;
+use tables::SETTLED;
 use tables::Table;
 use tables::admission::is_far;
-
-// The mark of a table that a whole run of updates has settled: no other withholds a query.
-const SETTLED: u8 = 3;
 
 // Whether a message goes to any line.
 pub fn any_line(to: [bool; 8]) -> bool

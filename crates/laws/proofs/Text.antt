@@ -10,10 +10,6 @@ use lib.Seq.{drop-cons, take-all, getD-drop, take-at, drop-drop, drop-append-add
 use Rattle.laws.specs.Parts.{over}
 
 module _ {A : Type 0} where
-  -- the part from a place to the end
-  pub rest-part : (s : List A) (a : ℕ) → take (length s - a) (drop a s) ≡ drop a s
-  rest-part s a = take-all (length s - a) (drop a s) (simp length-drop (omega arith))
-
   -- the first of what is left is the element at the place
   pub head-drop : (s : List A) (i : ℕ) (d : A) → getD (drop i s) 0 d ≡ getD s i d
   head-drop s i d = rw (getD-drop, add-zero)
@@ -21,9 +17,6 @@ module _ {A : Type 0} where
 -- nothing written
 pub over-none : (at : ℕ) (d : List ℕ) → over at [] d ≡ d
 over-none at d = rw add-zero (take-append-drop at d)
-
-pub over-length : (at : ℕ) (a d : List ℕ) → at + length a ≤ length d → length (over at a d) ≡ length d
-over-length at a d h = simp (length-append, length-take, length-drop) (omega arith)
 
 -- a piece, and the next piece behind it
 pub over-append : (at : ℕ) (a b d : List ℕ) → at + length a ≤ length d → over (at + length a) b (over at a d) ≡ over at (a ++ b) d

@@ -13,10 +13,8 @@ use borrow.Rule.Slice.PartMut.{putMid}
 use Rattle.laws.specs.Tests.{any, all}
 use Rattle.laws.specs.Bytes.{little, littleBytes}
 use Rattle.laws.specs.Parts.{over}
-
--- what is written over an area leaves it as long as it was
-pub kept-length : (from : ℕ) (bs area : List ℕ) → from + length bs ≤ length area → length (over from bs area) ≡ length area
-kept-length from bs area h = simp (length-append, length-take, length-drop) (omega arith)
+use Rattle.laws.proofs.Over.{over-length}
+use Rattle.laws.proofs.Passing.{any-from}
 
 -- ys written next to xs
 pub written-next : (n : ℕ) (xs ys area : List ℕ) → length xs ≡ n → over n ys (over 0 xs area) ≡ over 0 (xs ++ ys) area
@@ -34,7 +32,7 @@ pub stored-next : (n : ℕ) (xs ys area mid : List ℕ) → length xs ≡ n → 
     → sets mid n ys ≡ over 0 (xs ++ ys) area
 stored-next n xs ys area mid e h m =
     ap (λ l. sets l n ys) m
-    ∙ sets-eq ys (over 0 xs area) n (rw (kept-length 0 xs area (omega arith)) h)
+    ∙ sets-eq ys (over 0 xs area) n (rw (over-length 0 xs area (omega arith)) h)
     ∙ append-assoc (take n (over 0 xs area)) ys (drop (n + length ys) (over 0 xs area))
     ∙ written-next n xs ys area e
 
@@ -93,9 +91,6 @@ module _ (f : ℕ → Bool) (l : List ℕ) (i : ℕ) where
   all-next : i < length l → all f (drop i l) ≡ f (getD l i 0) && all f (drop (i + 1) l)
   all-next h = ap (all f) (drop-cons l i 0 h) ∙ ap (λ n. f (getD l i 0) && all f (drop n l)) (sym (add-one i))
 
-  any-next : i < length l → any f (drop i l) ≡ f (getD l i 0) || any f (drop (i + 1) l)
-  any-next h = ap (any f) (drop-cons l i 0 h) ∙ ap (λ n. f (getD l i 0) || any f (drop n l)) (sym (add-one i))
-
   pub all-stop : i < length l → f (getD l i 0) ≡ false → all f (drop i l) ≡ false
   all-stop h e = all-next h ∙ ap (λ b. b && all f (drop (i + 1) l)) e
 
@@ -106,10 +101,10 @@ module _ (f : ℕ → Bool) (l : List ℕ) (i : ℕ) where
   all-end h = ap (all f) (drop-of-length-le l h)
 
   pub any-stop : i < length l → f (getD l i 0) ≡ true → any f (drop i l) ≡ true
-  any-stop h e = any-next h ∙ ap (λ b. b || any f (drop (i + 1) l)) e
+  any-stop h e = any-from f l i 0 h ∙ ap (λ b. b || any f (drop (i + 1) l)) e
 
   pub any-on : i < length l → f (getD l i 0) ≡ false → any f (drop i l) ≡ any f (drop (i + 1) l)
-  any-on h e = any-next h ∙ ap (λ b. b || any f (drop (i + 1) l)) e
+  any-on h e = any-from f l i 0 h ∙ ap (λ b. b || any f (drop (i + 1) l)) e
 
   pub any-end : length l ≤ i → any f (drop i l) ≡ false
   any-end h = ap (any f) (drop-of-length-le l h)

@@ -11,7 +11,8 @@ use borrow.Author.Tests.{le-leb, lt-ltb, le-ltb}
 use borrow.Rule.Slice.PartMut.{putMid}
 use Rattle.laws.specs.Bytes.{littleBytes}
 use Rattle.laws.specs.Parts.{over}
-use Rattle.laws.proofs.Writing.{kept-length, written-next, lent-part}
+use Rattle.laws.proofs.Over.{over-length}
+use Rattle.laws.proofs.Writing.{written-next, lent-part}
 use Rattle.wire.specs.Header.{header, message, withHeader}
 use Rattle.wire.proofs.HeaderLaws.{header-length}
 use Rattle.protocol.specs.declared.Pong.{Pong}
@@ -49,7 +50,7 @@ put-message number bytes out mid left ttl hops n b h m l =
     let top : List ℕ = header number pongType ttl hops 14 in
     let long : length top ≡ 23 = header-length number pongType ttl hops bytes n 14 in
     let m′ : mid ≡ over 0 top out = m ∙ rw (le-leb 23 (length out) (omega arith)) in
-    let k : length mid ≡ length out = ap length m′ ∙ kept-length 0 top out (omega arith) in
+    let k : length mid ≡ length out = ap length m′ ∙ over-length 0 top out (omega arith) in
     lent-part 23 (length mid - 23) bytes mid left (omega arith) (omega arith) l
     ∙ ap (over 23 bytes) m′
     ∙ written-next 23 top bytes out long
@@ -167,7 +168,7 @@ module _ (lines : List Line) (l clock : ℕ) (number : List ℕ) (ttl : ℕ) whe
         record {
           few = few;
           turns = omega arith;
-          long = ap length mid ∙ kept-length (37 * s) bs area (omega arith) ∙ g;
+          long = ap length mid ∙ over-length (37 * s) bs area (omega arith) ∙ g;
           bytes =
               ap₂ (λ m a. over m on a) next mid
               ∙ sym (over-split (37 * s) bs on area (omega arith))
@@ -224,7 +225,7 @@ pub both-written : (xs bs both out mid left : List ℕ) (f r : ℕ) → xs ++ bs
     → mid ≡ over 0 xs out → left ≡ over 0 bs (take (length mid - f) (drop f mid))
     → (f + r ≡ length both) × (putMid f (length mid - f) mid left ≡ over 0 both out)
 both-written xs bs both out mid left f r w fa rb room m e =
-    let long : length mid ≡ length out = ap length m ∙ kept-length 0 xs out (omega arith) in
+    let long : length mid ≡ length out = ap length m ∙ over-length 0 xs out (omega arith) in
     let z = ap length w in
     let y = length-append xs bs in (
       omega arith,

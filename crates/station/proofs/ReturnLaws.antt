@@ -37,7 +37,7 @@ use Rattle.forwarding.proofs.LineLaws.{flag-of, each-same}
 use Rattle.forwarding.proofs.TextLaws.{until-stops}
 use Rattle.pinging.specs.Numbers.{pongKept}
 use Rattle.station.specs.declared.acted.Acted.{Acted}
-use Rattle.station.specs.Steps.{quietly, pongActed, timeKept, backTo, pingActed, pingSent, updateActed, updateRoute, hitActed, hitSent, goingTo, queryBy, queryLines, queryActed, querySent, isSent, livesIn, tablesIn}
+use Rattle.station.specs.Steps.{quietly, pickActed, pongActed, timeKept, backTo, pingActed, pingSent, updateActed, updateRoute, hitActed, hitSent, goingTo, queryBy, queryLines, queryActed, querySent, isSent, livesIn, tablesIn}
 use Rattle.station.proofs.StepLaws.{payload-part}
 
 -- ---- numbers
@@ -130,38 +130,44 @@ hit-goes size ttl hops found k e ne =
     let b : eqb hops 255 ≡ false = rw (ne-eqb k 8 ne) at (p .1 .1 .1 .1 .1 .0) in
     record { lives = omega (arith, eqb-false ttl 0 (p .1 .0), eqb-false ttl 1 a); rises = eqb-false hops 255 b }
 
+-- what a step does is picked by its number: where that is not 0, nothing is done, and the area stays
+step-refused : {x : Line} {n : ℕ} (done : Acted) (sent out : List ℕ) {a : ℕ} {r : Acted} → a ≡ n → (a ≡ 0 → ⊥) → r ≡ quietly a x
+    → (r ≡ pickActed (eqb n 0) done (quietly n x)) × (out ≡ over 0 (cond (eqb n 0) sent []) out)
+step-refused {x} {n} done sent out e z er =
+    let t = ne-eqb n 0 (λ y. z (e ∙ y)) in
+    let g : quietly n x ≡ pickActed (eqb n 0) done (quietly n x) = rw t in
+    (er ∙ ap (λ y. quietly y x) e ∙ g, rw t)
+
+-- what is done where nothing is remembered or searched: so much written, to these lines, delivered or not
+abbrev sentAs : Line → ℕ → List Bool → Bool → Acted
+sentAs y w to delivered =
+    record {
+      answer = 0;
+      line = y;
+      remember = false;
+      written = w;
+      to = to;
+      search = false;
+      delivered = delivered;
+      textat = 0;
+      textlen = 0;
+    }
+
 module _ (x : Line) (k size n : ℕ) (bytes out : List ℕ) where
   abbrev HitDone : Acted → List ℕ → Type 0
   HitDone r o = (r ≡ hitActed x n k size) × (o ≡ over 0 (hitSent n k bytes) out)
 
   pub hit-refused : {a : ℕ} {r : Acted} → a ≡ n → (a ≡ 0 → ⊥) → r ≡ quietly a x → HitDone r out
-  hit-refused e z er =
-      let t = ne-eqb n 0 (λ y. z (e ∙ y)) in
-      let g : quietly n x ≡ hitActed x n k size = rw t in
-      (er ∙ ap (λ y. quietly y x) e ∙ g, rw t)
+  hit-refused = step-refused _ _ out
 
-  abbrev hitGone : ℕ → List Bool → Bool → Acted
-  hitGone w to delivered =
-      record {
-        answer = 0;
-        line = x;
-        remember = false;
-        written = w;
-        to = to;
-        search = false;
-        delivered = delivered;
-        textat = 0;
-        textlen = 0;
-      }
-
-  pub hit-here : {a : ℕ} → a ≡ n → a ≡ 0 → k ≡ 8 → HitDone (hitGone 0 nobody true) out
+  pub hit-here : {a : ℕ} → a ≡ n → a ≡ 0 → k ≡ 8 → HitDone (sentAs x 0 nobody true) out
   hit-here e z h =
       let t = eq-eqb n 0 (sym e ∙ z) in
       let u = eq-eqb k 8 h in
       (rw (t, u), rw (t, u))
 
   pub hit-on : {a w : ℕ} {to : List Bool} {o : List ℕ} → a ≡ n → a ≡ 0 → (k ≡ 8 → ⊥) → w ≡ 23 + size → to ≡ onlyTo k → o ≡ over 0 bytes out
-      → HitDone (hitGone w to false) o
+      → HitDone (sentAs x w to false) o
   hit-on e z h ew et eo =
       let t = eq-eqb n 0 (sym e ∙ z) in
       let u = ne-eqb k 8 h in
@@ -257,10 +263,7 @@ module _ (x : Line) (n : ℕ) (to : List Bool) (m out : List ℕ) where
   QueryDone r o = (r ≡ queryActed x n to m) × (o ≡ over 0 (querySent n to m) out)
 
   pub query-refused : {a : ℕ} {r : Acted} → a ≡ n → (a ≡ 0 → ⊥) → r ≡ quietly a x → QueryDone r out
-  query-refused e z er =
-      let t = ne-eqb n 0 (λ y. z (e ∙ y)) in
-      let g : quietly n x ≡ queryActed x n to m = rw t in
-      (er ∙ ap (λ y. quietly y x) e ∙ g, rw t)
+  query-refused = step-refused _ _ out
 
   abbrev queryGone : ℕ → List Bool → ℕ → Acted
   queryGone w ts long =
@@ -325,37 +328,17 @@ module _ (x : Line) (n l clock : ℕ) (probe : Bool) (pongs out : List ℕ) wher
   PingDone r o = (r ≡ pingActed x n l probe clock pongs) × (o ≡ over 0 (pingSent n pongs) out)
 
   pub ping-refused : {a : ℕ} {r : Acted} → a ≡ n → (a ≡ 0 → ⊥) → r ≡ quietly a x → PingDone r out
-  ping-refused e z er =
-      let t = ne-eqb n 0 (λ y. z (e ∙ y)) in
-      let g : quietly n x ≡ pingActed x n l probe clock pongs = rw t in
-      (er ∙ ap (λ y. quietly y x) e ∙ g, rw t)
-
-  abbrev pingGone : Line → ℕ → List Bool → Acted
-  pingGone y w to =
-      record {
-        answer = 0;
-        line = y;
-        remember = false;
-        written = w;
-        to = to;
-        search = false;
-        delivered = false;
-        textat = 0;
-        textlen = 0;
-      }
+  ping-refused = step-refused _ _ out
 
   pub ping-done : {a w : ℕ} {to : List Bool} {y : Line} {o : List ℕ} → a ≡ n → a ≡ 0 → w ≡ length pongs → to ≡ backTo w l → y ≡ timeKept x probe clock
-      → o ≡ over 0 pongs out → PingDone (pingGone y w to) o
+      → o ≡ over 0 pongs out → PingDone (sentAs y w to false) o
   ping-done e z ew et ey eo =
       let t = eq-eqb n 0 (sym e ∙ z) in
       (rw (t, et, ew, ey), rw t eo)
 
 module _ (x : Line) (n hops clock : ℕ) (payload : List ℕ) where
   pub pong-refused : {a : ℕ} {r : Acted} → a ≡ n → (a ≡ 0 → ⊥) → r ≡ quietly a x → r ≡ pongActed x n hops clock payload
-  pong-refused e z er =
-      let t = ne-eqb n 0 (λ y. z (e ∙ y)) in
-      let g : quietly n x ≡ pongActed x n hops clock payload = rw t in
-      er ∙ ap (λ y. quietly y x) e ∙ g
+  pong-refused e z er = step-refused _ [] [] e z er .0
 
   pub pong-done : {a : ℕ} {y : Line} {r : Acted} {part : List ℕ} → a ≡ n → a ≡ 0 → part ≡ payload → y ≡ pongKept x part hops clock → r ≡ quietly 0 y
       → r ≡ pongActed x n hops clock payload

@@ -114,37 +114,33 @@ module _ (bits j : ℕ) (vs old es : List ℕ) (a : Adding bits vs old es j) whe
       ∙ ap (λ l. take j es ++ added bits l (drop j es)) (sym (drop-of-length-le vs h))
       ∙ a .left
 
--- an entry and an 8-bit number whose sum modulo 256 is s: the number fits where s is in range and the sum did not go round
-module _ (infinity v e s : ℕ) (small : infinity < 256) (entry : e < 256) (sum : s ≡ (e + v) % 256) where
+-- an entry and an 8-bit number whose sum modulo 256 is s: the number fits where s is in range and, by the test t, the sum did not go round
+module _ (infinity v e s : ℕ) (small : infinity < 256) (entry : e < 256) (byte : v < 256) (sum : s ≡ (e + v) % 256) where
+  fits-straight : (t : Bool) → (t ≡ true → s + loss 8 v ≡ e + gain 8 v) → (SumWithin 8 infinity v e → t ≡ true)
+      → ((leb 1 s && leb s infinity) && t) ≡ fits 8 infinity v e
+  fits-straight t straight back =
+      same-test ((leb 1 s && leb s infinity) && t) (fits 8 infinity v e)
+      (λ h.
+      let p = both-true (leb 1 s && leb s infinity) t h in
+      let q = both-true (leb 1 s) (leb s infinity) (p .0) in
+      fits-exactly 8 infinity v e .1 (record {
+        low = omega (arith, leb-true 1 s (q .0), straight (p .1));
+        high = omega (arith, leb-true s infinity (q .1), straight (p .1));
+      }))
+      (λ h.
+      let f = fits-exactly 8 infinity v e .0 h in
+      let r = straight (back f) in
+      and-both (and-both (le-leb 1 s (omega arith)) (le-leb s infinity (omega arith))) (back f))
+
   pub fits-adding : v < 128 → ((leb 1 s && leb s infinity) && leb e s) ≡ fits 8 infinity v e
   fits-adding low =
       let g = small-number 8 v low in
-      same-test ((leb 1 s && leb s infinity) && leb e s) (fits 8 infinity v e)
-      (λ h.
-      let t = both-true (leb 1 s && leb s infinity) (leb e s) h in
-      let u = both-true (leb 1 s) (leb s infinity) (t .0) in
-      fits-exactly 8 infinity v e .1 (record {
-        low = omega (arith, leb-true 1 s (u .0), leb-true e s (t .1));
-        high = omega (arith, leb-true s infinity (u .1), leb-true e s (t .1));
-      }))
-      (λ h.
-      let f = fits-exactly 8 infinity v e .0 h in
-      and-both (and-both (le-leb 1 s (omega arith)) (le-leb s infinity (omega arith))) (le-leb e s (omega arith)))
+      fits-straight (leb e s) (λ h. omega (arith, leb-true e s h)) (λ f. le-leb e s (omega arith))
 
-  pub fits-taking : 128 ≤ v → v < 256 → ((leb 1 s && leb s infinity) && ltb s e) ≡ fits 8 infinity v e
-  fits-taking high byte =
+  pub fits-taking : 128 ≤ v → ((leb 1 s && leb s infinity) && ltb s e) ≡ fits 8 infinity v e
+  fits-taking high =
       let g = large-number 8 v high in
-      same-test ((leb 1 s && leb s infinity) && ltb s e) (fits 8 infinity v e)
-      (λ h.
-      let t = both-true (leb 1 s && leb s infinity) (ltb s e) h in
-      let u = both-true (leb 1 s) (leb s infinity) (t .0) in
-      fits-exactly 8 infinity v e .1 (record {
-        low = omega (arith, leb-true 1 s (u .0), ltb-true s e (t .1));
-        high = omega (arith, leb-true s infinity (u .1), ltb-true s e (t .1));
-      }))
-      (λ h.
-      let f = fits-exactly 8 infinity v e .0 h in
-      and-both (and-both (le-leb 1 s (omega arith)) (le-leb s infinity (omega arith))) (lt-ltb s e (omega arith)))
+      fits-straight (ltb s e) (λ h. omega (arith, ltb-true s e h)) (λ f. lt-ltb s e (omega arith))
 
 -- .. and is then the entry with the number added
 pub sum-wraps : (infinity v e : ℕ) → infinity < 256 → v < 256 → fits 8 infinity v e ≡ true → (e + v) % 256 ≡ sumOf 8 v e

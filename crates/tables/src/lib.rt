@@ -12,7 +12,7 @@ const WAITING: u8 = 1;
 
 const RUNNING: u8 = 2;
 
-const SETTLED: u8 = 3;
+pub const SETTLED: u8 = 3;
 
 // The mark of a table after an update that was refused.
 const BROKEN: u8 = 4;

@@ -7,7 +7,8 @@ use native.Mathlib.Omega.{arith}
 use lib.ListN.{length, take, drop}
 use borrow.Rule.Slice.PartMut.{putMid}
 use Rattle.laws.specs.Parts.{over}
-use Rattle.laws.proofs.Writing.{kept-length, written-next, lent-part}
+use Rattle.laws.proofs.Over.{over-length}
+use Rattle.laws.proofs.Writing.{written-next, lent-part}
 use Rattle.wire.proofs.HeaderLaws.{message-length}
 use Rattle.tablewriter.specs.declared.run.Plan.{Plan}
 use Rattle.tablewriter.specs.Writer.{update, resetPayload}
@@ -38,7 +39,7 @@ module _ (number : List ℕ) (p : Plan) (old new : List ℕ) where
       let R = update number (resetPayload (length new) (p .infinity)) in
       let L = leftOf number p 1 (dataBy p old new) in
       let g : length R ≡ 29 = reset-length h in
-      let q : length mid ≡ length out = ap length m ∙ kept-length 0 R out (omega arith) in
+      let q : length mid ≡ length out = ap length m ∙ over-length 0 R out (omega arith) in
       lent-part 29 (length mid - 29) L mid left (omega arith) (omega arith) f
       ∙ ap (over 29 L) m
       ∙ written-next 29 R L out g

@@ -1,15 +1,16 @@
 -- The data of a run: its length, and each byte from the entries it covers.
-use Prim.Native.Nat.{ℕ, zero, suc, _+_, _-_, _*_, _/_, _≤_, _<_}
+use Prim.Native.Nat.{ℕ, zero, suc, _+_, _-_, _*_, _/_, _%_, _≤_, _<_, min}
 use mathlib.Core.Path.{_≡_, refl, sym, ap, ap₂, _∙_}
-use mathlib.Core.Bool.{Bool, true, false, cond, _&&_, and-eq-true-iff}
+use mathlib.Core.Bool.{Bool, true, false, cond, _&&_, and-assoc, and-eq-true-iff}
 use mathlib.Core.List.{List, [], _∷_}
 use native.Mathlib.Omega.{arith}
 use native.Mathlib.Numerals.{add-one}
 use lib.ListN.{length, getD, drop, length-replicate, getD-replicate, drop-of-length-le}
 use lib.Seq.{drop-cons}
 use lib.Dec.{leb}
-use borrow.Author.Tests.{leb-true, leb-false}
+use borrow.Author.Tests.{le-leb, leb-true, leb-false}
 use Rattle.tables.specs.Patch.{packed}
+use Rattle.tables.proofs.TestLaws.{same-test}
 use Rattle.tablewriter.specs.Writer.{baseOf, near, allNear, raw, raws}
 use Rattle.tablewriter.specs.Steps.{rawIn, pairIn, dataLength}
 
@@ -71,12 +72,12 @@ module _ (es bs : List ℕ) (i : ℕ) where
       ap₂ allNear (drop-cons es i 0 h) (drop-cons bs i 0 k)
       ∙ ap (λ n. near (getD es i 0) (getD bs i 0) && allNear (drop n es) (drop n bs)) (sym (add-one i))
 
-  pub near-stop : i < length es → i < length bs → near (getD es i 0) (getD bs i 0) ≡ false → allNear (drop i es) (drop i bs) ≡ false
-  near-stop h k e = near-next h k ∙ ap (λ b. b && allNear (drop (i + 1) es) (drop (i + 1) bs)) e
-
-  pub near-on : i < length es → i < length bs → near (getD es i 0) (getD bs i 0) ≡ true
-      → allNear (drop i es) (drop i bs) ≡ allNear (drop (i + 1) es) (drop (i + 1) bs)
-  near-on h k e = near-next h k ∙ ap (λ b. b && allNear (drop (i + 1) es) (drop (i + 1) bs)) e
+  pub near-more : (good close : Bool) → i < length es → i < length bs → close ≡ near (getD es i 0) (getD bs i 0)
+      → (good && allNear (drop i es) (drop i bs)) ≡ ((good && close) && allNear (drop (i + 1) es) (drop (i + 1) bs))
+  near-more good close h k e =
+      ap (λ t. good && t) (near-next h k)
+      ∙ sym (and-assoc good (near (getD es i 0) (getD bs i 0)) (allNear (drop (i + 1) es) (drop (i + 1) bs)))
+      ∙ rw e refl
 
   pub near-end : length es ≤ i → allNear (drop i es) (drop i bs) ≡ true
   unfolding allNear
@@ -110,33 +111,35 @@ module _ (new base : List ℕ) (like : length base ≡ length new) where
   pub single-at : (j : ℕ) → j < length new → getD (packed 8 (raws 8 new base)) j 0 ≡ rawIn 256 (getD new j 0) (getD base j 0)
   single-at j h = ap (λ l. getD l j 0) (packed-eight (raws 8 new base)) ∙ raws-at 8 new base j like h
 
--- a difference that fits is below 2 to the power of its bits
-raw-by : (full e b : ℕ) (t : Bool) → leb b e ≡ t → e < full + b → b ≤ full + e → cond t (e - b) (full + e - b) < full
-raw-by full e b true h j k = omega (arith, leb-true b e h)
-raw-by full e b false h j k = omega (arith, leb-false b e h)
+-- a test against a sum that was cut at 255, which is as much as a byte can be
+pub capped : (e n r : ℕ) → e < 256 → r ≡ min n 255 → leb e r ≡ leb e n
+capped e n r h c =
+    same-test (leb e r) (leb e n) (λ t. le-leb e n (omega (arith, leb-true e r t))) (λ t. le-leb e r (omega (arith, leb-true e n t)))
 
-pub raw-wide : (e b : ℕ) → e < 256 → b < 256 → rawIn 256 e b < 256
-raw-wide e b h k = raw-by 256 e b (leb b e) refl (omega arith) (omega arith)
+-- a difference taken modulo 256 ..
+pub raw-eight : (e b : ℕ) → e < 256 → b < 256 → (e + 256 - b) % 256 ≡ rawIn 256 e b
+raw-eight e b h k = by (leb b e) refl
+  where
+    by : (t : Bool) → leb b e ≡ t → (e + 256 - b) % 256 ≡ cond t (e - b) (256 + e - b)
+    by true q = omega (arith, leb-true b e q)
+    by false q = omega (arith, leb-false b e q)
 
-module _ (e b : ℕ) (h : near e b ≡ true) where
-  near-bounds : (e ≤ b + 7) × (b ≤ e + 8)
-  near-bounds =
-      let k = and-eq-true-iff (leb e (b + 7)) (leb b (e + 8)) .0 h in
-      (leb-true e (b + 7) (k .0), leb-true b (e + 8) (k .1))
+-- .. and one in -8..7 modulo 16
+raw-four : (e b m n : ℕ) → near e b ≡ true → m ≡ e % 16 → n ≡ b % 16 → (m + 16 - n) % 16 ≡ rawIn 16 e b
+raw-four e b m n h p q = by (leb b e) refl (leb-true e (b + 7) (k .0)) (leb-true b (e + 8) (k .1))
+  where
+    k : (leb e (b + 7) ≡ true) × (leb b (e + 8) ≡ true)
+    k = and-eq-true-iff (leb e (b + 7)) (leb b (e + 8)) .0 h
 
-  pub near-raw : b ≤ 16 + e
-  near-raw = omega (arith, near-bounds .1)
+    by : (t : Bool) → leb b e ≡ t → e ≤ b + 7 → b ≤ e + 8 → (m + 16 - n) % 16 ≡ cond t (e - b) (16 + e - b)
+    by true t up down = omega (arith, leb-true b e t)
+    by false t up down = omega (arith, leb-false b e t)
 
-  pub raw-small : rawIn 16 e b < 16
-  raw-small = raw-by 16 e b (leb b e) refl (omega (arith, near-bounds .0)) near-raw
-
--- the same at entry i, b being what its difference is taken from
-module _ (new base : List ℕ) (like : length base ≡ length new) (all : allNear new base ≡ true) (i b : ℕ) (h : i < length new) (e : b ≡ getD base i 0) where
-  close-at : near (getD new i 0) b ≡ true
-  close-at = rw e (near-at new base i like h all)
-
-  pub base-below : b ≤ 16 + getD new i 0
-  base-below = near-raw (getD new i 0) b close-at
-
-  pub raw-below : (r : ℕ) → r ≡ rawIn 16 (getD new i 0) b → r < 16
-  raw-below r k = rw k (raw-small (getD new i 0) b close-at)
+-- two such differences, of entries e and f from b and d, which are read as the numbers x and y
+pub pair-raw : (e f b d x y r s : ℕ) → e < 256 → b < 256 → near e b ≡ true → near f d ≡ true → x ≡ e + 256 * f → y ≡ b + 256 * d
+    → r ≡ (x % 16 + 16 - y % 16) % 16 → s ≡ (x / 256 % 16 + 16 - y / 256 % 16) % 16
+    → r * 16 + s ≡ rawIn 16 e b * 16 + rawIn 16 f d
+pair-raw e f b d x y r s h k n m p q u v =
+    ap₂ (λ r s. r * 16 + s)
+    (u ∙ raw-four e b (x % 16) (y % 16) n (omega arith) (omega arith))
+    (v ∙ raw-four f d (x / 256 % 16) (y / 256 % 16) m (omega arith) (omega arith))

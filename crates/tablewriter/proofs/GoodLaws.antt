@@ -1,14 +1,15 @@
 -- Tables and a data size that may be written, in plain numbers.
-use Prim.Native.Nat.{ℕ, zero, suc, _≤_, _<_}
+use Prim.Native.Nat.{ℕ, zero, suc, _+_, _≤_, _<_}
 use mathlib.Core.Path.{_≡_, refl, sym, ap, _∙_}
 use mathlib.Core.Logic.{_↔_}
 use mathlib.Core.Bool.{Bool, true, false, _&&_, _||_, false≢true, and-eq-true-iff}
 use mathlib.Core.List.{List, [], _∷_}
 use native.Mathlib.Omega.{arith}
 use lib.Dec.{leb, eqb}
-use lib.ListN.{length, getD}
+use lib.ListN.{length, getD, drop}
 use borrow.Author.Tests.{leb-true, le-leb, eqb-true, eq-eqb}
 use Rattle.laws.specs.Tests.{any, all}
+use Rattle.laws.proofs.Writing.{all-stop, all-on}
 use Rattle.tables.specs.Tables.{goodLength, goodInfinity, lengths}
 use Rattle.tablewriter.specs.Writer.{inRange, goodTable}
 use Rattle.tablewriter.specs.Steps.{mayWrite}
@@ -25,6 +26,13 @@ among f n (m ∷ ms) h k = go (eqb n m) refl (among f n ms)
 length-bound : (n : ℕ) → goodLength n ≡ true → n ≤ 65536
 unfolding goodLength
 length-bound n h = leb-true n 65536 (among (λ k. leb k 65536) n lengths h refl)
+
+-- a test of every element, with those before element i tested, once that one is tested too
+pub all-more : (f : ℕ → Bool) (l : List ℕ) (i : ℕ) (good fit : Bool) → i < length l → fit ≡ f (getD l i 0)
+    → (good && all f (drop i l)) ≡ ((good && fit) && all f (drop (i + 1) l))
+all-more f l i false fit h e = refl
+all-more f l i true true h e = all-on f l i h (sym e)
+all-more f l i true false h e = all-stop f l i h (sym e)
 
 -- a table with a length and an Infinity that a RESET may carry, and each entry in 1..Infinity
 pub record GoodTable (es : List ℕ) (infinity : ℕ) : Type 0 where

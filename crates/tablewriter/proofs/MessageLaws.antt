@@ -8,7 +8,8 @@ use lib.Seq.{sets}
 use borrow.Rule.Slice.PartMut.{putMid}
 use Rattle.laws.specs.Bytes.{littleBytes}
 use Rattle.laws.specs.Parts.{over}
-use Rattle.laws.proofs.Writing.{kept-length, written-next, stored-next, lent-part}
+use Rattle.laws.proofs.Over.{over-length}
+use Rattle.laws.proofs.Writing.{written-next, stored-next, lent-part}
 use Rattle.wire.specs.Header.{header, message, withHeader}
 use Rattle.wire.proofs.HeaderLaws.{header-length, header-room, message-stored}
 use Rattle.tablewriter.specs.declared.run.Plan.{Plan}
@@ -37,7 +38,7 @@ module _ (number : List ℕ) (long : length number ≡ 16) (out mid : List ℕ) 
       let g : length (H ++ five) ≡ 28 = length-append H five ∙ ap (λ x. x + 5) (header-length number 0x30 1 0 [] long (5 + n)) in
       let s : all ≡ over 0 (H ++ five) out =
       a ∙ stored-next 23 H five out mid (header-length number 0x30 1 0 [] long (5 + n)) (omega arith) (m ∙ header-room number 0x30 1 0 (5 + n) out r) in
-      let q : length all ≡ length out = ap length s ∙ kept-length 0 (H ++ five) out (omega arith) in
+      let q : length all ≡ length out = ap length s ∙ over-length 0 (H ++ five) out (omega arith) in
       let z : 5 + n ≡ length (patchPayload place (p .count) bits d) = omega arith in
       lent-part 28 (length all - 28) d all left (omega arith) (omega arith) f
       ∙ ap (over 28 d) s

@@ -9,7 +9,7 @@ use borrow.Author.Tests.{eqb-true}
 use lib.ListN.{length, drop}
 use Rattle.laws.specs.Bytes.{littleBytes}
 use Rattle.laws.specs.Parts.{over}
-use Rattle.laws.proofs.Writing.{kept-length}
+use Rattle.laws.proofs.Over.{over-length}
 use Rattle.laws.proofs.Chunks.{Each, each-append, each-take, each-drop, little-bytes}
 use Rattle.wire.specs.Header.{message, routeUpdate}
 use Rattle.tables.proofs.PatchFacts.{Width, four, eight, Below, packed-bytes}
@@ -121,5 +121,5 @@ module _ (number : List ℕ) (had : Bool) (old : List ℕ) (oldInfinity : ℕ) (
       go : (t : Bool) → eqb answer 0 ≡ t → length (over 0 (cond t bytes []) out) ≡ length out
       go true q =
           let room : length bytes ≤ length out = room-passed number had old oldInfinity new infinity size (length out) (eqb-true answer 0 q) in
-          kept-length 0 bytes out (omega arith)
+          over-length 0 bytes out (omega arith)
       go false q = refl

@@ -8,7 +8,8 @@ use lib.ListN.{length, take, drop, length-append, length-take, length-drop}
 use lib.Seq.{take-all, drop-drop, length-take-le}
 use borrow.Rule.Slice.PartMut.{putMid}
 use Rattle.laws.specs.Parts.{over}
-use Rattle.laws.proofs.Writing.{kept-length, written-next, lent-part, take-min, drop-min, take-through, drop-through}
+use Rattle.laws.proofs.Over.{over-length}
+use Rattle.laws.proofs.Writing.{written-next, lent-part, take-min, drop-min, take-through, drop-through}
 use Rattle.wire.proofs.HeaderLaws.{message-length}
 use Rattle.tablewriter.specs.declared.run.Plan.{Plan}
 use Rattle.tablewriter.specs.Writer.{chunks, partsOf, runFrom, joined, patchPayload}
@@ -110,5 +111,5 @@ module _ (number : List ℕ) (sixteen : length number ≡ 16) (p : Plan) (some :
               ∙ ap (over at message-here) (v .bytes)
               ∙ written-next at (take at (leftOf number p 1 d)) message-here start (length-take-le at (leftOf number p 1 d) (v .here))
               ∙ ap (λ x. over 0 x start) (sym (ap (λ x. take x (leftOf number p 1 d)) s ∙ take-through at (leftOf number p 1 d) message-here _ now-left));
-          long = ap length w ∙ kept-length at message-here out (omega (arith, here-length)) ∙ v .long;
+          long = ap length w ∙ over-length at message-here out (omega (arith, here-length)) ∙ v .long;
         }

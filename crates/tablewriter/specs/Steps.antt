@@ -22,6 +22,10 @@ mayWrite had old oldInfinity new infinity size =
 abbrev pub rawIn : ℕ → ℕ → ℕ → ℕ
 rawIn full e b = cond (leb b e) (e - b) (full + e - b)
 
+-- entries i and i + 1 as one number, the first in its low byte
+abbrev pub pairOf : List ℕ → ℕ → ℕ
+pairOf es i = getD es i 0 + 256 * getD es (i + 1) 0
+
 -- the differences of entries i and i + 1 in one byte
 abbrev pub pairIn : List ℕ → List ℕ → ℕ → ℕ
 pairIn new base i = rawIn 16 (getD new i 0) (getD base i 0) * 16 + rawIn 16 (getD new (i + 1) 0) (getD base (i + 1) 0)

@@ -3,11 +3,11 @@ use crate::good::base_at;
 use crate::run::Plan;
 ghost use mathlib.Core.Path.{_≡_};
 ghost use mathlib.Core.Bool.{true};
-ghost use Prim.Native.Nat.{_+_, _*_, _≤_, _<_};
+ghost use Prim.Native.Nat.{_+_, _-_, _*_, _%_, _≤_, _<_};
 ghost use lib.ListN.{length, getD, take, drop};
 ghost use Rattle.laws.specs.Parts.{over};
 ghost use Rattle.tablewriter.specs.Writer.{allNear};
-ghost use Rattle.tablewriter.specs.Steps.{Sound, rawIn, pairIn, baseBy, dataBy, dataLength};
+ghost use Rattle.tablewriter.specs.Steps.{Sound, rawIn, pairOf, pairIn, baseBy, dataBy, dataLength};
 
 // How many bytes of data n entries take.
 pub(crate) fn data_length(small: bool, n: usize) -> usize
@@ -19,15 +19,43 @@ pub(crate) fn data_length(small: bool, n: usize) -> usize
     n
 }
 
-// The difference e - b; `full` is 2 to the power of its bits.
-fn raw(full: u32, e: u8, b: u8) -> u32
-    requires { ⌜ (full ≤ 256) × (b ≤ full + e) ⌝ }
-    ensures { λ r. ⌜ r ≡ rawIn full e b ⌝ }
+fn wide(x: u8) -> u16
+    ensures { λ r. ⌜ (r ≡ x) × (r < 256) ⌝ }
 {
-    if b <= e {
-        return (e - b) as u32;
+    x as u16
+}
+
+// The difference e - b in 8 bits.
+fn difference(e: u8, b: u8) -> u8
+    ensures { λ r. ⌜ r ≡ rawIn 256 e b ⌝ }
+{
+    ((wide(e) + 256 - wide(b)) % 256) as u8
+}
+
+// Entries i and i + 1 as one number, the first in its low byte: they are read at once.
+fn pair_at(entries: &[u8], i: usize) -> u16
+    requires { ⌜ i + 1 < length (now entries) ⌝ }
+    ensures { λ r. ⌜ r ≡ pairOf (now (entries .entry)) i ⌝ }
+{
+    wide(entries[i]) + 256 * wide(entries[i + 1])
+}
+
+// What the differences of entries i and i + 1 are taken from, as one number.
+fn base_pair<'a>(plan: Plan, old: &'a [u8], new: &'a [u8], i: usize) -> u16
+    requires { ⌜ (length (baseBy plan (now old) (now new)) ≡ length (now new)) × (i + 1 < length (now new)) ⌝ }
+    ensures { λ r. ⌜ (r ≡ pairOf (baseBy plan (now (old .entry)) (now (new .entry))) i) × (getD (baseBy plan (now (old .entry)) (now (new .entry))) i 0 < 256) ⌝ }
+{
+    if plan.had {
+        return pair_at(old, i);
     }
-    full + (e as u32) - (b as u32)
+    wide(plan.infinity) + 256 * wide(plan.infinity)
+}
+
+// The last four bits of e - b.
+fn low_bits(e: u16, b: u16) -> u16
+    ensures { λ r. ⌜ r ≡ (e % 16 + 16 - b % 16) % 16 ⌝ }
+{
+    (e % 16 + 16 - b % 16) % 16
 }
 
 // The differences of entries i and i + 1 in one byte, the first in its first four bits.
@@ -35,10 +63,9 @@ fn pair_byte<'a>(plan: Plan, old: &'a [u8], new: &'a [u8], i: usize) -> u8
     requires { ⌜ (length (baseBy plan (now old) (now new)) ≡ length (now new)) × (allNear (now new) (baseBy plan (now old) (now new)) ≡ true) × (i + 1 < length (now new)) ⌝ }
     ensures { λ r. ⌜ r ≡ pairIn (now (new .entry)) (baseBy plan (now (old .entry)) (now (new .entry))) i ⌝ }
 {
-    let next = i + 1;
-    let b0 = base_at(plan.had, old, plan.infinity, new, i);
-    let b1 = base_at(plan.had, old, plan.infinity, new, next);
-    (raw(16, new[i], b0) * 16 + raw(16, new[next], b1)) as u8
+    let e = pair_at(new, i);
+    let b = base_pair(plan, old, new, i);
+    (low_bits(e, b) * 16 + low_bits(e / 256, b / 256)) as u8
 }
 
 // Byte j of the run's data.
@@ -50,7 +77,7 @@ fn data_byte<'a>(plan: Plan, old: &'a [u8], new: &'a [u8], j: usize) -> u8
         return pair_byte(plan, old, new, 2 * j);
     }
     let b = base_at(plan.had, old, plan.infinity, new, j);
-    raw(256, new[j], b) as u8
+    difference(new[j], b)
 }
 
 // n bytes of the run's data, from byte `from` on, stand at the front of the part.

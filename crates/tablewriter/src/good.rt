@@ -1,7 +1,7 @@
 // Whether tables may be written, and whether their differences are small.
 ghost use mathlib.Core.Path.{_≡_};
 ghost use mathlib.Core.Bool.{true};
-ghost use Prim.Native.Nat.{_<_};
+ghost use Prim.Native.Nat.{_+_, _<_, min};
 ghost use lib.ListN.{length, getD};
 ghost use Rattle.laws.specs.Tests.{all};
 ghost use Rattle.tables.specs.Tables.{goodLength};
@@ -41,22 +41,19 @@ fn good_length(n: usize) -> bool
     false
 }
 
-// Every entry is in 1..Infinity.
+// Every entry is in 1..Infinity. No way out before the end: the turns are alike.
 fn in_range(entries: &[u8], infinity: u8) -> bool
     ensures { λ r. ⌜ r ≡ all (inRange infinity) (now (entries .entry)) ⌝ }
 {
+    let mut good = true;
     let mut i = 0;
     while i < entries.len() {
         let e = entries[i];
-        if e < 1 {
-            return false;
-        }
-        if infinity < e {
-            return false;
-        }
+        let within = (1 <= e) & (e <= infinity);
+        good = good & within;
         i += 1;
     }
-    true
+    good
 }
 
 // A table that may be written: its length and Infinity are good, and its entries in range.
@@ -76,14 +73,21 @@ fn good_table(entries: &[u8], infinity: u8) -> bool
     in_range(entries, infinity)
 }
 
+// The sum, or 255 where it is more.
+fn capped_sum(x: u8, more: u8) -> u8
+    ensures { λ r. ⌜ r ≡ min (x + more) 255 ⌝ }
+{
+    if x <= 255 - more {
+        return x + more;
+    }
+    255
+}
+
 // The difference of two entries lies in -8..7.
 fn is_near(e: u8, b: u8) -> bool
     ensures { λ r. ⌜ r ≡ near e b ⌝ }
 {
-    if (b as u32) + 7 < (e as u32) {
-        return false;
-    }
-    (b as u32) <= (e as u32) + 8
+    (e <= capped_sum(b, 7)) & (b <= capped_sum(e, 8))
 }
 
 // What the difference of entry i is taken from: the old table's entry, or Infinity where there is no old table.
@@ -97,21 +101,20 @@ pub(crate) fn base_at<'a>(had: bool, old: &'a [u8], infinity: u8, new: &'a [u8],
     infinity
 }
 
-// Every difference lies in -8..7.
+// Every difference lies in -8..7. No way out before the end: the turns are alike.
 pub(crate) fn all_near<'a>(had: bool, old: &'a [u8], infinity: u8, new: &'a [u8]) -> bool
     requires { ⌜ length (baseOf had (now old) (now new) infinity) ≡ length (now new) ⌝ }
     ensures { λ r. ⌜ r ≡ allNear (now (new .entry)) (baseOf had (now (old .entry)) (now (new .entry)) infinity) ⌝ }
 {
+    let mut good = true;
     let mut i = 0;
     while i < new.len() {
         let b = base_at(had, old, infinity, new, i);
         let close = is_near(new[i], b);
-        if !close {
-            return false;
-        }
+        good = good & close;
         i += 1;
     }
-    true
+    good
 }
 
 // The tables and the data size may be written.

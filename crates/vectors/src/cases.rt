@@ -9,16 +9,6 @@ struct World {
     route: [u8; 32],
 }
 
-fn own_pong() -> Own {
-    Own {
-        port: 6346,
-        address: [127, 0, 0, 1],
-        files: 0,
-        kilobytes: 0,
-        calls: true,
-    }
-}
-
 // A fresh station whose lines 0 and 1 are open.
 fn opened() -> World {
     let route = [0u8; 32];
@@ -31,20 +21,19 @@ fn opened() -> World {
     World { state, route }
 }
 
-// Line 1's mark and its four entries.
-fn table_words(state: Station, route: [u8; 32]) {
-    let line = state.lines[1];
-    let table = line.table;
-    print::number(table.mark as u64);
-    print::list(&route[4..8]);
-}
-
-// A message of a line, its row, and what it leaves.
+// A message of a line, its row with line 1's mark and four entries after it, and what it leaves.
 fn row(label: &[u8], w: World, line: u32, m: &[u8]) -> World {
     let before = w.state;
     let mut route = w.route;
     let mut out = [0u8; 4119];
-    let done = station::calls::message(before, line, 0, own_pong(), m, &mut out, &mut route);
+    let own = Own {
+        port: 6346,
+        address: [127, 0, 0, 1],
+        files: 0,
+        kilobytes: 0,
+        calls: true,
+    };
+    let done = station::calls::message(before, line, 0, own, m, &mut out, &mut route);
     io::write_all(1, b"case");
     print::word(label);
     print::number(done.answer as u64);
@@ -53,7 +42,10 @@ fn row(label: &[u8], w: World, line: u32, m: &[u8]) -> World {
     print::flags(to);
     print::flag(done.search);
     let state = done.state;
-    table_words(state, route);
+    let neighbour = state.lines[1];
+    let table = neighbour.table;
+    print::number(table.mark as u64);
+    print::list(&route[4..8]);
     print::hex(&out, done.written);
     print::end();
     World { state, route }

@@ -15,12 +15,7 @@ fn row_in(label: &[u8], name: &[u8], group: &[u8], area: &mut [u8]) {
     print::end();
 }
 
-fn row(label: &[u8], name: &[u8], group: &[u8]) {
-    let mut area = [0u8; 64];
-    row_in(label, name, group, &mut area);
-}
-
-// A row for the label, the name and the group that stand here in the table; where the next ones stand.
+// A row for the label, the name and the group that stand here in the table, into an area of 64 bytes; where the next ones stand.
 fn row_at(table: &[u8], at: usize) -> usize
     requires { ⌜ at ≤ length (now table) ⌝ }
     ensures { λ r. ⌜ (at < r) × (r ≤ length (now (table .entry)) + 1) ⌝ }
@@ -36,7 +31,13 @@ fn row_at(table: &[u8], at: usize) -> usize
     }
     let group = second + 1;
     let end = bytes::word_end(table, group, 0);
-    row(&table[at..first], &table[name..second], &table[group..end]);
+    let mut area = [0u8; 64];
+    row_in(
+        &table[at..first],
+        &table[name..second],
+        &table[group..end],
+        &mut area,
+    );
     end + 1
 }
 
@@ -85,5 +86,5 @@ pub fn all() {
         colon\0A\0GNUTELLA/0.6 200 OK\r\nA: x:y\r\n\r\n\0",
     );
     areas();
-    row(b"unread", b"A", b"GNUTELLA/0.6 200 OK\r\nA: x\r\nB\r\n\r\n");
+    rows(b"unread\0A\0GNUTELLA/0.6 200 OK\r\nA: x\r\nB\r\n\r\n\0");
 }

@@ -31,48 +31,6 @@ fn rows(table: &[u8]) {
     }
 }
 
-fn starts() {
-    rows(
-        b"client\0GNUTELLA CONNECT/0.6\r\nUser-Agent: BearShare/1.0\r\nPong-Caching: 0.1\r\nGGEP: 0.5\r\n\r\n\0\
-        server\0GNUTELLA/0.6 200 OK\r\nUser-Agent: BearShare/1.0\r\nPong-Caching: 0.1\r\nGGEP: 0.5\r\nPrivate-Data: 5ef89a\r\n\r\n\0\
-        last\0GNUTELLA/0.6 200 OK\r\nPrivate-Data: a04fce\r\n\r\n\0\
-        behind\0GNUTELLA/0.6 200 OK\r\n\r\nmore\0\
-        nothing\0\0\
-        bare\0\r\n\0\
-        xyz\0XYZ\0\
-        xyzend\0XYZ\r\n\r\n\0",
-    );
-}
-
-fn versions() {
-    rows(
-        b"v010\0GNUTELLA CONNECT/0.10\r\n\r\n\0\
-        v000006\0GNUTELLA CONNECT/000.006\r\n\r\n\0\
-        v05\0GNUTELLA CONNECT/0.5\r\n\r\n\0\
-        v10\0GNUTELLA CONNECT/1.0\r\n\r\n\0\
-        v00006\0GNUTELLA CONNECT/0.0006\r\n\r\n\0\
-        v06x\0GNUTELLA CONNECT/0.6 \r\n\r\n\0\
-        lower\0gnutella connect/0.6\r\n\r\n\0",
-    );
-}
-
-fn others() {
-    rows(
-        b"nocode\0GNUTELLA/0.6\r\n\r\n\0\
-        code20\0GNUTELLA/0.6 20 OK\r\n\r\n\0\
-        code2000\0GNUTELLA/0.6 2000\r\n\r\n\0\
-        notext\0GNUTELLA/0.6 503\r\n\r\n\0\
-        emptytext\0GNUTELLA/0.6 503 \r\n\r\n\0\
-        nocolon\0GNUTELLA/0.6 200 OK\r\nPrivate-Data\r\n\r\n\0\
-        noname\0GNUTELLA/0.6 200 OK\r\n: x\r\n\r\n\0\
-        blankname\0GNUTELLA/0.6 200 OK\r\nA b: x\r\n\r\n\0\
-        goeson\0GNUTELLA/0.6 200 OK\r\n x\r\n\r\n\0\
-        lonecr\0GNUTELLA/0.6 200 OK\r\nA: x\ry\r\n\r\n\0\
-        lonelf\0GNUTELLA/0.6 200 OK\r\nA: x\ny\r\n\r\n\0\
-        crend\0GNUTELLA/0.6 200 OK\r\nA: x\r\r\n\r\n\0",
-    );
-}
-
 // A greeting with one field, whose CR and LF stand at place n, twice, as far as the area reaches.
 fn long(label: &[u8], area: &mut [u8], n: usize) {
     bytes::put(&mut *area, 0, b"GNUTELLA CONNECT/0.6\r\nA: ");
@@ -94,8 +52,38 @@ fn longs() {
 }
 
 pub fn all() {
-    starts();
-    versions();
-    others();
+    rows(
+        b"client\0GNUTELLA CONNECT/0.6\r\nUser-Agent: BearShare/1.0\r\nPong-Caching: 0.1\r\nGGEP: 0.5\r\n\r\n\0\
+        server\0GNUTELLA/0.6 200 OK\r\nUser-Agent: BearShare/1.0\r\nPong-Caching: 0.1\r\nGGEP: 0.5\r\nPrivate-Data: 5ef89a\r\n\r\n\0\
+        last\0GNUTELLA/0.6 200 OK\r\nPrivate-Data: a04fce\r\n\r\n\0\
+        behind\0GNUTELLA/0.6 200 OK\r\n\r\nmore\0\
+        nothing\0\0\
+        bare\0\r\n\0\
+        xyz\0XYZ\0\
+        xyzend\0XYZ\r\n\r\n\0",
+    );
+    rows(
+        b"v010\0GNUTELLA CONNECT/0.10\r\n\r\n\0\
+        v000006\0GNUTELLA CONNECT/000.006\r\n\r\n\0\
+        v05\0GNUTELLA CONNECT/0.5\r\n\r\n\0\
+        v10\0GNUTELLA CONNECT/1.0\r\n\r\n\0\
+        v00006\0GNUTELLA CONNECT/0.0006\r\n\r\n\0\
+        v06x\0GNUTELLA CONNECT/0.6 \r\n\r\n\0\
+        lower\0gnutella connect/0.6\r\n\r\n\0",
+    );
+    rows(
+        b"nocode\0GNUTELLA/0.6\r\n\r\n\0\
+        code20\0GNUTELLA/0.6 20 OK\r\n\r\n\0\
+        code2000\0GNUTELLA/0.6 2000\r\n\r\n\0\
+        notext\0GNUTELLA/0.6 503\r\n\r\n\0\
+        emptytext\0GNUTELLA/0.6 503 \r\n\r\n\0\
+        nocolon\0GNUTELLA/0.6 200 OK\r\nPrivate-Data\r\n\r\n\0\
+        noname\0GNUTELLA/0.6 200 OK\r\n: x\r\n\r\n\0\
+        blankname\0GNUTELLA/0.6 200 OK\r\nA b: x\r\n\r\n\0\
+        goeson\0GNUTELLA/0.6 200 OK\r\n x\r\n\r\n\0\
+        lonecr\0GNUTELLA/0.6 200 OK\r\nA: x\ry\r\n\r\n\0\
+        lonelf\0GNUTELLA/0.6 200 OK\r\nA: x\ny\r\n\r\n\0\
+        crend\0GNUTELLA/0.6 200 OK\r\nA: x\r\r\n\r\n\0",
+    );
     longs();
 }

@@ -2,20 +2,17 @@
 use crate::bytes;
 use crate::print;
 
-fn row(bits: u32, keyword: &[u8]) {
-    io::write_all(1, b"place");
-    print::number(bits as u64);
-    print::word(keyword);
-    print::number(keywords::hash::place(keyword, bits) as u64);
-    print::end();
-}
-
 // A row for each keyword of the table.
 fn rows(bits: u32, table: &[u8]) {
     let mut at = 0;
     while at < table.len() {
         let end = bytes::word_end(table, at, 0);
-        row(bits, &table[at..end]);
+        let keyword = &table[at..end];
+        io::write_all(1, b"place");
+        print::number(bits as u64);
+        print::word(keyword);
+        print::number(keywords::hash::place(keyword, bits) as u64);
+        print::end();
         at = end + 1;
     }
 }
@@ -35,9 +32,9 @@ pub fn all() {
     );
     rows(10, b"3nja9\03NJA9\03nJa9\0");
     rows(2, b"eb\0ebckl\0ebcklmen\0");
-    row(0, b"ebckl");
-    row(1, b"ebckl");
-    row(31, b"ebckl");
-    row(32, b"ebckl");
-    row(33, b"ebckl");
+    rows(0, b"ebckl\0");
+    rows(1, b"ebckl\0");
+    rows(31, b"ebckl\0");
+    rows(32, b"ebckl\0");
+    rows(33, b"ebckl\0");
 }

@@ -22,8 +22,8 @@ fn session(label: &[u8], file: &[u8]) {
     rows(label, &out[..n]);
 }
 
-// Document 01's six events.
-fn six() {
+pub fn all() {
+    // Document 01's six events.
     session(
         b"six",
         b"\x06\0\0\0\x20\0\0\0\x26\0\0\0\x2c\0\0\0\x4f\0\0\0\x73\0\0\0\x9b\0\0\0\xc3\0\0\0\
@@ -34,10 +34,7 @@ fn six() {
         \x02\0\0\0\0\0the query number\x80\x03\x01\x0b\0\0\0\0\0eb ebckl\0\
         \x02\0\0\0\0\0the query number\x80\x03\x01\x0b\0\0\0\0\0eb ebckl\0",
     );
-}
-
-// A hit that goes back, one with TTL 1, and one that answers no query.
-fn hits() {
+    // A hit that goes back, one with TTL 1, and one that answers no query.
     session(
         b"hits",
         b"\x06\0\0\0\x20\0\0\0\x26\0\0\0\x2c\0\0\0\x54\0\0\0\x8c\0\0\0\xc4\0\0\0\xfc\0\0\0\
@@ -48,10 +45,7 @@ fn hits() {
         \x02\x01\0\0\0\0the query number\x81\x01\0\x1b\0\0\0twenty-seven bytes of a hit\
         \x02\x01\0\0\0\0no query of ours\x81\x02\0\x1b\0\0\0twenty-seven bytes of a hit",
     );
-}
-
-// A hit for a query whose line has closed and opened again since.
-fn late() {
+    // A hit for a query whose line has closed and opened again since.
     session(
         b"late",
         b"\x06\0\0\0\x20\0\0\0\x26\0\0\0\x2c\0\0\0\x54\0\0\0\x5a\0\0\0\x60\0\0\0\x98\0\0\0\
@@ -62,10 +56,7 @@ fn late() {
         \0\0\0\0\0\0\
         \x02\x01\0\0\0\0the query number\x81\x02\0\x1b\0\0\0twenty-seven bytes of a hit",
     );
-}
-
-// Pings of 999 and of 1,000 milliseconds later, by a clock that went round.
-fn clock() {
+    // Pings of 999 and of 1,000 milliseconds later, by a clock that went round.
     session(
         b"clock",
         b"\x04\0\0\0\x18\0\0\0\x1e\0\0\0\x3b\0\0\0\x58\0\0\0\x75\0\0\0\
@@ -74,10 +65,7 @@ fn clock() {
         \x02\0\xe7\x02\0\0number of a ping\0\x07\0\0\0\0\0\
         \x02\0\xe8\x02\0\0number of a ping\0\x07\0\0\0\0\0",
     );
-}
-
-// A query that a table withholds, and one after a spoiled PATCH.
-fn spoiled() {
+    // A query that a table withholds, and one after a spoiled PATCH.
     session(
         b"spoiled",
         b"\x07\0\0\0\x24\0\0\0\x2a\0\0\0\x30\0\0\0\x53\0\0\0\x77\0\0\0\x9f\0\0\0\xc3\0\0\0\xeb\0\0\0\
@@ -89,14 +77,7 @@ fn spoiled() {
         \x02\x01\0\0\0\0update of line 1\x30\x01\0\x07\0\0\0\x01\x01\x01\0\x04\x10\0\
         \x02\0\0\0\0\0of another query\x80\x03\x01\x0b\0\0\0\0\0ebcklmen\0",
     );
-}
-
-pub fn all() {
-    six();
-    hits();
-    late();
-    clock();
-    spoiled();
+    // Files that are not good, and one of no event.
     session(
         b"kind3",
         b"\x02\0\0\0\x10\0\0\0\x16\0\0\0\x1c\0\0\0\

@@ -17,7 +17,8 @@ fn each(text: &[u8], show: bool) -> u64 {
             return count;
         }
         if show {
-            start_of(count, at + start);
+            print::between(0 < count);
+            io::print_decimal(1, (at + start) as u64);
         }
         if count < 1000 {
             count += 1;
@@ -25,11 +26,6 @@ fn each(text: &[u8], show: bool) -> u64 {
         at += end;
     }
     count
-}
-
-fn start_of(before: u64, at: usize) {
-    print::between(0 < before);
-    io::print_decimal(1, at as u64);
 }
 
 fn row(text: &[u8]) {

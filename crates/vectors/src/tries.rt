@@ -64,35 +64,6 @@ fn rows(table: &[u8]) {
     }
 }
 
-fn lists() {
-    rows(
-        b"two\0X-Try:1.2.3.4:1234,3.4.5.6:3456\r\n\r\n\0\
-        spaces\0X-Try: 1.2.3.4:1234, 3.4.5.6:3456\r\n\r\n\0\
-        comma\0X-Try: 1.2.3.4:1234,\r\n\r\n\0\
-        lines\0X-Try: 1.2.3.4:1234,\r\n 3.4.5.6:3456\r\nx-try: 5.6.7.8:1\r\n\r\n\0\
-        none\0\r\n\0\
-        empty\0X-Try:\r\n\r\n\0\
-        commas\0X-Try: ,, ,1.2.3.4:5,,\r\n\r\n\0\
-        twospaces\0X-Try: 1.2.3.4:5,  3.4.5.6:7\r\n\r\n\0\
-        leading\0X-Try:\r\n 1.2.3.4:5\r\n\r\n\0",
-    );
-}
-
-fn numbers() {
-    rows(
-        b"port0\0X-Try: 1.2.3.4:0\r\n\r\n\0\
-        port65535\0X-Try: 1.2.3.4:65535\r\n\r\n\0\
-        port65536\0X-Try: 1.2.3.4:65536\r\n\r\n\0\
-        zeros\0X-Try: 01.002.3.4:00080\r\n\r\n\0\
-        octet256\0X-Try: 1.2.3.256:5\r\n\r\n\0\
-        digits4\0X-Try: 0001.2.3.4:5\r\n\r\n\0\
-        three\0X-Try: 1.2.3:5\r\n\r\n\0\
-        five\0X-Try: 1.2.3.4.5:6\r\n\r\n\0\
-        noport\0X-Try: 1.2.3.4\r\n\r\n\0\
-        more\0X-Try: 1.2.3.4:5x\r\n\r\n\0",
-    );
-}
-
 // n pairs `1.2.3.4:5`, each with a comma, behind the name of the field; where the last of them ends.
 fn put_pairs(area: &mut [u8], n: usize) -> usize {
     let mut at: usize = 30;
@@ -125,29 +96,16 @@ fn wrote(label: &[u8], r: tryhosts::Wrote, out: &[u8]) {
     print::end();
 }
 
-fn pair(a: u8, b: u8, c: u8, d: u8, port: u16) -> Pair {
-    Pair {
-        address: [a, b, c, d],
-        port,
-    }
-}
-
-fn one(p: Pair) -> Pairs {
-    let mut pairs = [pair(0, 0, 0, 0, 0); 32];
-    pairs[0] = p;
-    Pairs { count: 1, pairs }
-}
-
-fn two(p: Pair, q: Pair) -> Pairs {
-    let mut pairs = [pair(0, 0, 0, 0, 0); 32];
-    pairs[0] = p;
-    pairs[1] = q;
-    Pairs { count: 2, pairs }
-}
-
-fn none() -> Pairs {
-    let pairs = [pair(0, 0, 0, 0, 0); 32];
-    Pairs { count: 0, pairs }
+// The first `count` of two pairs.
+fn first_of(count: usize, first: Pair, second: Pair) -> Pairs {
+    let zero = Pair {
+        address: [0, 0, 0, 0],
+        port: 0,
+    };
+    let mut pairs = [zero; 32];
+    pairs[0] = first;
+    pairs[1] = second;
+    Pairs { count, pairs }
 }
 
 fn busy(label: &[u8], pairs: Pairs, out: &mut [u8]) {
@@ -166,30 +124,62 @@ fn ok(label: &[u8], out: &mut [u8]) {
 }
 
 fn writes() {
+    let near = Pair {
+        address: [1, 2, 3, 4],
+        port: 5,
+    };
+    let last = Pair {
+        address: [1, 2, 3, 4],
+        port: 65535,
+    };
+    let far = Pair {
+        address: [255, 0, 10, 100],
+        port: 80,
+    };
+    let bad = Pair {
+        address: [1, 2, 3, 4],
+        port: 0,
+    };
     let mut out = [0u8; 128];
     greeting(b"greeting", &mut out);
     ok(b"ok", &mut out);
-    busy(b"busy", none(), &mut out);
-    busy(b"busy1", one(pair(1, 2, 3, 4, 5)), &mut out);
-    busy(
-        b"busy2",
-        two(pair(1, 2, 3, 4, 65535), pair(255, 0, 10, 100, 80)),
-        &mut out,
-    );
-    busy(b"port0", one(pair(1, 2, 3, 4, 0)), &mut out);
+    busy(b"busy", first_of(0, near, far), &mut out);
+    busy(b"busy1", first_of(1, near, far), &mut out);
+    busy(b"busy2", first_of(2, last, far), &mut out);
+    busy(b"port0", first_of(1, bad, far), &mut out);
     let mut most = [0u8; 23];
     greeting(b"greetingshort", &mut most);
     let mut less = [0u8; 22];
     ok(b"okshort", &mut less);
     let mut more = [0u8; 24];
-    busy(b"busyshort", none(), &mut more);
-    let mut empty = [0u8; 1];
-    busy(b"port0short", one(pair(1, 2, 3, 4, 0)), &mut empty[..0]);
+    busy(b"busyshort", first_of(0, near, far), &mut more);
+    busy(b"port0short", first_of(1, bad, far), &mut more[..0]);
 }
 
 pub fn all() {
-    lists();
-    numbers();
+    rows(
+        b"two\0X-Try:1.2.3.4:1234,3.4.5.6:3456\r\n\r\n\0\
+        spaces\0X-Try: 1.2.3.4:1234, 3.4.5.6:3456\r\n\r\n\0\
+        comma\0X-Try: 1.2.3.4:1234,\r\n\r\n\0\
+        lines\0X-Try: 1.2.3.4:1234,\r\n 3.4.5.6:3456\r\nx-try: 5.6.7.8:1\r\n\r\n\0\
+        none\0\r\n\0\
+        empty\0X-Try:\r\n\r\n\0\
+        commas\0X-Try: ,, ,1.2.3.4:5,,\r\n\r\n\0\
+        twospaces\0X-Try: 1.2.3.4:5,  3.4.5.6:7\r\n\r\n\0\
+        leading\0X-Try:\r\n 1.2.3.4:5\r\n\r\n\0",
+    );
+    rows(
+        b"port0\0X-Try: 1.2.3.4:0\r\n\r\n\0\
+        port65535\0X-Try: 1.2.3.4:65535\r\n\r\n\0\
+        port65536\0X-Try: 1.2.3.4:65536\r\n\r\n\0\
+        zeros\0X-Try: 01.002.3.4:00080\r\n\r\n\0\
+        octet256\0X-Try: 1.2.3.256:5\r\n\r\n\0\
+        digits4\0X-Try: 0001.2.3.4:5\r\n\r\n\0\
+        three\0X-Try: 1.2.3:5\r\n\r\n\0\
+        five\0X-Try: 1.2.3.4.5:6\r\n\r\n\0\
+        noport\0X-Try: 1.2.3.4\r\n\r\n\0\
+        more\0X-Try: 1.2.3.4:5x\r\n\r\n\0",
+    );
     many(b"many32", 31, b"1.2.3.4:5\r\n\r\n");
     many(b"many33", 32, b"1.2.3.4:5\r\n\r\n");
     many(b"bad33", 32, b"1.2.3.4:0\r\n\r\n");

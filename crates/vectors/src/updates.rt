@@ -59,9 +59,6 @@ fn fields(p1: Case) {
     row(b"empty", p1, b"");
     row(b"variant2", p1, b"\x02");
     row(b"long", p1, b"\x00\x04\x00\x00\x00\x08\x00");
-}
-
-fn resets() {
     row(b"room8", start(), b"\x00\x08\x00\x00\x00\x08");
     row(b"room16", start(), b"\x00\x10\x00\x00\x00\x08");
     row(b"length3", start(), b"\x00\x03\x00\x00\x00\x08");
@@ -70,14 +67,11 @@ fn resets() {
     row(b"infinity128", start(), b"\x00\x04\x00\x00\x00\x80");
 }
 
-fn patch_fields(p1: Case) {
+fn patches(p1: Case) {
     row(b"compressor", start(), b"\x01\x01\x01\x01\x04\x09\x09");
     row(b"place0", p1, b"\x01\x00\x01\x00\x04\x09\x09");
     row(b"place2of1", p1, b"\x01\x02\x01\x00\x04\x09\x09");
     row(b"bits5", p1, b"\x01\x01\x01\x00\x05\x09\x09");
-}
-
-fn patch_data(p1: Case) {
     row(b"leftover", p1, b"\x01\x01\x01\x00\x04\x10");
     row(b"past", p1, b"\x01\x01\x01\x00\x04\x00\x00\x00");
     row(b"half", p1, b"\x01\x01\x01\x00\x04\x91\x00");
@@ -140,26 +134,19 @@ fn withheld_others(p1: Case, first: Case, p4: Case, none: Case) {
     withheld(b"two", two(), 6, b"eb");
 }
 
-// The rows from a table that was reset and patched.
-fn later(p2: Case, p4: Case) {
-    row(b"second", p2, b"\x01\x01\x01\x00\x04\x07\x00");
-    row(b"heal", p4, b"\x01\x01\x01\x00\x04\x00\x00");
-    row(b"reset", p4, b"\x00\x04\x00\x00\x00\x08");
-}
-
 pub fn all() {
     let p1 = row(b"P1", start(), b"\x00\x04\x00\x00\x00\x08");
     let p2 = row(b"P2", p1, b"\x01\x01\x01\x00\x04\x09\x09");
     row(b"P3", p1, b"\x01\x01\x01\x00\x08\x00\xF9\x00\xF9");
     let p4 = row(b"P4", p1, b"\x01\x01\x01\x00\x04\x10\x00");
     fields(p1);
-    resets();
     let none = row(b"none", start(), b"\x01\x01\x01\x00\x04\x09\x09");
-    patch_fields(p1);
-    patch_data(p1);
+    patches(p1);
     let first = row(b"first", p1, b"\x01\x01\x02\x00\x04\x09\x09");
     runs(first);
-    later(p2, p4);
+    row(b"second", p2, b"\x01\x01\x01\x00\x04\x07\x00");
+    row(b"heal", p4, b"\x01\x01\x01\x00\x04\x00\x00");
+    row(b"reset", p4, b"\x00\x04\x00\x00\x00\x08");
     withheld_settled(p2);
     withheld_others(p1, first, p4, none);
 }

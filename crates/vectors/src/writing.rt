@@ -5,30 +5,10 @@ fn number() -> [u8; 16] {
     [0, 1, 2, 3, 4, 5, 6, 7, 8, 9, 10, 11, 12, 13, 14, 15]
 }
 
-// A row of what was written to the front of `out`.
-fn words(label: &[u8], answer: u8, written: usize, out: &[u8]) {
-    io::write_all(1, b"table");
-    print::word(label);
-    print::number(answer as u64);
-    print::number(written as u64);
-    print::hex(out, written);
-    print::end();
-}
-
-// From no table.
-fn fresh_in(label: &[u8], new: &[u8], infinity: u8, size: usize, out: &mut [u8]) {
-    let r = tablewriter::write_table(number(), false, new, 0, new, infinity, size, &mut *out);
-    words(label, r.answer, r.written, out);
-}
-
-fn fresh(label: &[u8], new: &[u8], infinity: u8, size: usize) {
-    let mut out = [0u8; 400];
-    fresh_in(label, new, infinity, size, &mut out);
-}
-
-// From an old table.
-fn change_in<'a>(
+// An update from an old table, or from none where `had` is false, into `out`.
+fn row_in<'a>(
     label: &[u8],
+    had: bool,
     old: &'a [u8],
     was: u8,
     new: &'a [u8],
@@ -36,13 +16,23 @@ fn change_in<'a>(
     size: usize,
     out: &mut [u8],
 ) {
-    let r = tablewriter::write_table(number(), true, old, was, new, infinity, size, &mut *out);
-    words(label, r.answer, r.written, out);
+    let r = tablewriter::write_table(number(), had, old, was, new, infinity, size, &mut *out);
+    io::write_all(1, b"table");
+    print::word(label);
+    print::number(r.answer as u64);
+    print::number(r.written as u64);
+    print::hex(out, r.written);
+    print::end();
+}
+
+fn fresh(label: &[u8], new: &[u8], infinity: u8, size: usize) {
+    let mut out = [0u8; 400];
+    row_in(label, false, new, 0, new, infinity, size, &mut out);
 }
 
 fn change<'a>(label: &[u8], old: &'a [u8], was: u8, new: &'a [u8], infinity: u8, size: usize) {
     let mut out = [0u8; 400];
-    change_in(label, old, was, new, infinity, size, &mut out);
+    row_in(label, true, old, was, new, infinity, size, &mut out);
 }
 
 fn accepted() {
@@ -60,9 +50,6 @@ fn refused() {
     fresh(b"entry0", &[0, 1, 1, 1], 8, 9);
     fresh(b"entry9", &[9, 1, 1, 1], 8, 9);
     change(b"old9", &[9, 1, 1, 1], 8, &[8, 1, 1, 1], 8, 9);
-}
-
-fn limits() {
     fresh(b"infinity1", &[1, 1, 1, 1], 1, 9);
     fresh(b"infinity128", &[1, 1, 1, 1], 128, 9);
     change(b"unlike", &[8, 8, 8, 8], 8, &[8, 8, 8, 8], 9, 9);
@@ -73,16 +60,42 @@ fn limits() {
 
 fn areas() {
     let mut exact = [0u8; 59];
-    fresh_in(b"exact", &[8, 1, 8, 1], 8, 4091, &mut exact);
+    row_in(
+        b"exact",
+        false,
+        &[8, 1, 8, 1],
+        0,
+        &[8, 1, 8, 1],
+        8,
+        4091,
+        &mut exact,
+    );
     let mut short = [0u8; 58];
-    fresh_in(b"short", &[8, 1, 8, 1], 8, 4091, &mut short);
-    fresh_in(b"shortbad", &[0, 1, 8, 1], 8, 4091, &mut short[..0]);
+    row_in(
+        b"short",
+        false,
+        &[8, 1, 8, 1],
+        0,
+        &[8, 1, 8, 1],
+        8,
+        4091,
+        &mut short,
+    );
+    row_in(
+        b"shortbad",
+        false,
+        &[0, 1, 8, 1],
+        0,
+        &[0, 1, 8, 1],
+        8,
+        4091,
+        &mut short[..0],
+    );
 }
 
 // A long run: every entry 127 goes at 4 bits, every entry 1 at 8.
-fn run(new: &[u8], bits: u8, size: usize) {
-    let mut out = [0u8; 131072];
-    let r = tablewriter::write_table(number(), false, new, 0, new, 127, size, &mut out);
+fn run(new: &[u8], bits: u8, size: usize, out: &mut [u8]) {
+    let r = tablewriter::write_table(number(), false, new, 0, new, 127, size, out);
     io::write_all(1, b"run");
     print::number(new.len() as u64);
     print::number(bits as u64);
@@ -92,25 +105,21 @@ fn run(new: &[u8], bits: u8, size: usize) {
     print::end();
 }
 
-fn near_runs() {
+fn runs() {
+    let mut out = [0u8; 131072];
     let near = [1u8; 65536];
-    run(&near, 8, 257);
-    run(&near, 8, 258);
-    run(&near, 8, 4091);
-}
-
-fn far_runs() {
+    run(&near, 8, 257, &mut out);
+    run(&near, 8, 258, &mut out);
+    run(&near, 8, 4091, &mut out);
     let far = [127u8; 65536];
-    run(&far, 4, 128);
-    run(&far, 4, 129);
-    run(&[127u8; 4], 4, 1);
+    run(&far, 4, 128, &mut out);
+    run(&far, 4, 129, &mut out);
+    run(&[127u8; 4], 4, 1, &mut out);
 }
 
 pub fn all() {
     accepted();
     refused();
-    limits();
     areas();
-    near_runs();
-    far_runs();
+    runs();
 }

@@ -2,7 +2,7 @@ use mathlib.Core.Path.{sym, _∙_}
 use borrow.Author.Needs.{needs}
 use lib.ListN.{length, drop-of-length-le}
 use lib.Seq.{drop-length}
-use Rattle.laws.proofs.Text.{rest-part}
+use Rattle.laws.proofs.Parts.{part-tail}
 use Rattle.handshake.proofs.text.after.Statement.{statement}
 use Rattle.handshake.proofs.text.after.Tie as tie
 use Rattle.handshake.proofs.text.after.Reads as reads
@@ -27,12 +27,12 @@ part-result-end-2 : tie.Need-part-result-end-2
 part-result-end-2 c = search needs
 
 returns : tie.Need-returns
-returns c = rest-part (c .before .before .args .s .now) (c .before .before .args .at)
+returns c = part-tail (c .before .before .args .at) (c .before .before .args .s .now)
 
 returns-2 : tie.Need-returns-2
 returns-2 c =
     let s = c .before .before .args .s .now in
-    rest-part s (length s) ∙ drop-length s ∙ sym (drop-of-length-le s (c .before .if1 .left))
+    part-tail (length s) s ∙ drop-length s ∙ sym (drop-of-length-le s (c .before .if1 .left))
 
 pub after-spec : {M : Type 1} → statement M
 after-spec =

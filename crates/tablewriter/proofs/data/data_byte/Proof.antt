@@ -1,9 +1,7 @@
-use Prim.Native.Nat.{_<_}
 use mathlib.Core.Path.{ap, sym, _∙_}
 use native.Mathlib.Omega.{arith}
 use lib.ListN.{getD}
 use Rattle.tablewriter.specs.Steps.{rawIn}
-use Rattle.tablewriter.proofs.DataLaws.{raw-wide}
 use Rattle.tablewriter.proofs.PlanLaws.{small-length, small-at, wide-length, wide-at}
 use borrow.Author.Needs.{needs}
 use Rattle.tablewriter.proofs.data.data_byte.Statement.{statement}
@@ -33,31 +31,20 @@ base-at-requires c κs =
     let p = c .before .before .before .pre in
     (p .0 .like, omega (arith, wide-length (x .plan) (x .old .now) (x .new .now) (p .0) (c .if1 .left)))
 
-shared-slice-read-raw : tie.Need-shared-slice-read-raw
-shared-slice-read-raw c =
+shared-slice-read-difference : tie.Need-shared-slice-read-difference
+shared-slice-read-difference c =
     let x = c .before .before .before .before .before .args in
     let p = c .before .before .before .before .before .pre in
     omega (arith, wide-length (x .plan) (x .old .now) (x .new .now) (p .0) (c .before .before .if1 .left))
 
-raw-requires : tie.Need-raw-requires
-raw-requires c κs = search needs
-
-cast-result : tie.Need-cast-result
-cast-result c =
-    let x = c .before .before .before .before .before .before .args in
-    let p = c .before .before .before .before .before .before .pre in
-    let e = getD (x .new .now) (x .j) 0 in
-    let b = c .before .before .base-at .result in
-    let f : e < 256 = omega (arith, c .before .shared-slice-known3 .given (x .j)) in
-    let g : b < 256 = omega (arith, c .before .before .base-at) in
-    let r : c .raw .result < 256 = rw (c .raw .ensures) (raw-wide e b f g) in
-    omega arith
+difference-requires : tie.Need-difference-requires
+difference-requires c κs = search needs
 
 returns-2 : tie.Need-returns-2
 returns-2 c =
     let x = c .before .before .before .before .before .before .args in
     let p = c .before .before .before .before .before .before .pre in
-    c .raw .ensures
+    c .difference .ensures
     ∙ ap (rawIn 256 (getD (x .new .now) (x .j) 0)) (c .before .before .base-at .ensures)
     ∙ sym (wide-at (x .plan) (x .old .now) (x .new .now) (p .0) (c .before .before .before .if1 .left) (x .j) (p .1))
 
@@ -69,7 +56,6 @@ data-byte-spec =
     pair-byte-requires
     returns
     base-at-requires
-    shared-slice-read-raw
-    raw-requires
-    cast-result
+    shared-slice-read-difference
+    difference-requires
     returns-2)

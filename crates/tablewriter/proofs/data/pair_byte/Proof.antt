@@ -1,90 +1,61 @@
-use Prim.Native.Nat.{_+_, _*_, _<_}
-use mathlib.Core.Path.{ap, ap₂, _∙_}
+use Prim.Native.Nat.{_+_}
 use native.Mathlib.Omega.{arith}
 use lib.ListN.{getD}
-use Rattle.tablewriter.specs.Steps.{rawIn, baseBy}
-use Rattle.tablewriter.proofs.DataLaws.{base-below, raw-below}
+use Rattle.tablewriter.specs.Steps.{baseBy}
+use Rattle.tablewriter.proofs.DataLaws.{near-at, pair-raw}
 use borrow.Author.Needs.{needs}
 use Rattle.tablewriter.proofs.data.pair_byte.Statement.{statement}
 use Rattle.tablewriter.proofs.data.pair_byte.Tie as tie
 
-add-next : tie.Need-add-next
-add-next c = search needs
+pair-at-requires : tie.Need-pair-at-requires
+pair-at-requires c κs = search needs
 
-base-at-requires : tie.Need-base-at-requires
-base-at-requires c κs = search needs
+base-pair-requires : tie.Need-base-pair-requires
+base-pair-requires c κs = search needs
 
-base-at-requires-2 : tie.Need-base-at-requires-2
-base-at-requires-2 c κs = search needs
-
-shared-slice-read-raw : tie.Need-shared-slice-read-raw
-shared-slice-read-raw c = search needs
-
-raw-requires : tie.Need-raw-requires
-raw-requires c κs =
-    let x = c .before .before .before .before .before .args in
-    let p = c .before .before .before .before .before .pre in
-    let base = baseBy (x .plan) (x .old .now) (x .new .now) in
-    let b = c .before .before .base-at in
-    (omega arith, base-below (x .new .now) base (p .0) (p .1) (x .i) (b .result) (omega arith) (b .ensures))
+low-bits-requires : tie.Need-low-bits-requires
+low-bits-requires c κs = search needs
 
 mul-result : tie.Need-mul-result
-mul-result c =
-    let x = c .before .before .before .before .before .before .args in
-    let p = c .before .before .before .before .before .before .pre in
-    let base = baseBy (x .plan) (x .old .now) (x .new .now) in
-    let b = c .before .before .before .base-at in
-    omega (arith, raw-below (x .new .now) base (p .0) (p .1) (x .i) (b .result) (omega arith) (b .ensures) (c .raw .result) (c .raw .ensures))
+mul-result c = search needs
 
-shared-slice-read-raw-2 : tie.Need-shared-slice-read-raw-2
-shared-slice-read-raw-2 c = search needs
-
-raw-requires-2 : tie.Need-raw-requires-2
-raw-requires-2 c κs =
-    let x = c .before .before .before .before .before .before .before .args in
-    let p = c .before .before .before .before .before .before .before .pre in
-    let base = baseBy (x .plan) (x .old .now) (x .new .now) in
-    let b = c .before .before .before .base-at2 in
-    (omega arith, base-below (x .new .now) base (p .0) (p .1) (x .i + 1) (b .result) (omega arith) (b .ensures))
-
-small : (c : tie.After-raw2) → c .before .before .raw .result * 16 + c .raw2 .result < 256
-small c =
-    let x = c .before .before .before .before .before .before .before .before .args in
-    let p = c .before .before .before .before .before .before .before .before .pre in
-    let base = baseBy (x .plan) (x .old .now) (x .new .now) in
-    let b = c .before .before .before .before .before .base-at in
-    let d = c .before .before .before .before .base-at2 in
-    omega (
-      arith,
-      raw-below (x .new .now) base (p .0) (p .1) (x .i) (b .result) (omega arith) (b .ensures) (c .before .before .raw .result) (c .before .before .raw .ensures),
-      raw-below (x .new .now) base (p .0) (p .1) (x .i + 1) (d .result) (omega arith) (d .ensures) (c .raw2 .result) (c .raw2 .ensures),
-    )
+low-bits-requires-2 : tie.Need-low-bits-requires-2
+low-bits-requires-2 c κs = search needs
 
 add-result : tie.Need-add-result
-add-result c = omega (arith, small c)
+add-result c = search needs
 
 cast-result : tie.Need-cast-result
-cast-result c = omega (arith, small c)
+cast-result c = search needs
 
 returns : tie.Need-returns
 returns c =
-    let x = c .before .before .before .before .before .before .before .before .args in
-    ap₂ (λ r s. r * 16 + s)
-    (c .before .before .raw .ensures ∙ ap (rawIn 16 (getD (x .new .now) (x .i) 0)) (c .before .before .before .before .before .base-at .ensures))
-    (c .raw2 .ensures ∙ ap (rawIn 16 (getD (x .new .now) (x .i + 1) 0)) (c .before .before .before .before .base-at2 .ensures))
+    let x = c .before .before .before .before .before .before .args in
+    let p = c .before .before .before .before .before .before .pre in
+    let new = x .new .now in
+    let base = baseBy (x .plan) (x .old .now) new in
+    let e = c .before .before .before .pair-at in
+    let b = c .before .before .base-pair in
+    pair-raw (getD new (x .i) 0) (getD new (x .i + 1) 0) (getD base (x .i) 0) (getD base (x .i + 1) 0)
+    (e .result) (b .result) (c .before .low-bits .result) (c .low-bits2 .result)
+    (omega (arith, c .before .before .before .before .shared-slice-known2 .given (x .i)))
+    (b .ensures .1)
+    (near-at new base (x .i) (p .0) (omega arith) (p .1))
+    (near-at new base (x .i + 1) (p .0) (omega arith) (p .1))
+    (e .ensures)
+    (b .ensures .0)
+    (c .before .low-bits .ensures)
+    (c .low-bits2 .ensures)
 
 pub pair-byte-spec : {M : Type 1} → statement M
 pair-byte-spec =
     tie.close
     (tie.spec
-    add-next
-    base-at-requires
-    base-at-requires-2
-    shared-slice-read-raw
-    raw-requires
+    pair-at-requires
+    base-pair-requires
+    low-bits-requires
     mul-result
-    shared-slice-read-raw-2
-    raw-requires-2
+    low-bits-requires-2
     add-result
     cast-result
     returns)

@@ -1,21 +1,21 @@
 use Prim.Native.Nat.{_≤_, _-_}
 use mathlib.Core.Path.{_≡_, refl, sym, ap, _∙_}
+use mathlib.Core.Bool.{_&&_, and-true}
 use native.Mathlib.Omega.{arith}
 use lib.ListN.{length, drop, getD}
-use borrow.Author.Tests.{not-true, not-false}
 use Rattle.tablewriter.specs.Writer.{baseOf, near, allNear}
-use Rattle.tablewriter.proofs.DataLaws.{near-stop, near-on, near-end}
+use Rattle.tablewriter.proofs.DataLaws.{near-more, near-end}
 use borrow.Author.Needs.{needs}
 use Rattle.tablewriter.proofs.good.all_near.Statement.{statement}
 use Rattle.tablewriter.proofs.good.all_near.Tie as tie
 
 abbrev Inv-loop : tie.InvT-loop
-Inv-loop had old infinity new i₀ i =
+Inv-loop had old infinity new good₀ i₀ good i =
     (i ≤ length new)
-    × (allNear new (baseOf had old new infinity) ≡ allNear (drop i new) (drop i (baseOf had old new infinity)))
+    × (allNear new (baseOf had old new infinity) ≡ (good && allNear (drop i new) (drop i (baseOf had old new infinity))))
 
 abbrev μ-loop : tie.MeasureT-loop
-μ-loop had old infinity new i₀ i = length new - i
+μ-loop had old infinity new good₀ i₀ good i = length new - i
 
 loop-holds : tie.Need-loop-holds Inv-loop μ-loop
 loop-holds c = (omega arith, refl)
@@ -29,15 +29,6 @@ shared-slice-read-is-near c = search needs
 is-near-requires : tie.Need-is-near-requires Inv-loop μ-loop
 is-near-requires c κs = search needs
 
-returns : tie.Need-returns Inv-loop μ-loop
-returns c =
-    let x = c .before .before .before .before .before .before .before .before .args in
-    let i = c .before .before .before .before .before .loop .i in
-    sym
-    (c .before .before .before .before .before .loop .inv .1
-    ∙ near-stop (x .new .now) (baseOf (x .had) (x .old .now) (x .new .now) (x .infinity)) i (omega arith) (omega arith)
-    (ap (near (getD (x .new .now) i 0)) (sym (c .before .before .before .base-at .ensures)) ∙ sym (c .before .is-near .ensures) ∙ not-true _ (c .if1 .taken)))
-
 add-i : tie.Need-add-i Inv-loop μ-loop
 add-i c = search needs
 
@@ -46,18 +37,22 @@ loop-less c = search needs
 
 loop-again : tie.Need-loop-again Inv-loop μ-loop
 loop-again c =
-    let x = c .before .before .before .before .before .before .before .before .args in
-    let i = c .before .before .before .before .before .loop .i in (
+    let x = c .before .before .before .before .before .before .before .args in
+    let l = c .before .before .before .before .loop in (
       omega arith,
-      c .before .before .before .before .before .loop .inv .1
-          ∙ near-on (x .new .now) (baseOf (x .had) (x .old .now) (x .new .now) (x .infinity)) i (omega arith) (omega arith)
-          (ap (near (getD (x .new .now) i 0)) (sym (c .before .before .before .base-at .ensures)) ∙ sym (c .before .is-near .ensures) ∙ not-false _ (c .if1 .left)),
+      l .inv .1
+          ∙ near-more (x .new .now) (baseOf (x .had) (x .old .now) (x .new .now) (x .infinity)) (l .i) (l .good) (c .is-near .result) (omega arith) (omega arith)
+          (c .is-near .ensures ∙ ap (near (getD (x .new .now) (l .i) 0)) (c .before .before .base-at .ensures)),
     )
 
-returns-2 : tie.Need-returns-2 Inv-loop μ-loop
-returns-2 c =
+returns : tie.Need-returns Inv-loop μ-loop
+returns c =
     let x = c .before .before .before .before .args in
-    sym (c .before .loop .inv .1 ∙ near-end (x .new .now) (baseOf (x .had) (x .old .now) (x .new .now) (x .infinity)) (c .before .loop .i) (omega arith))
+    let l = c .before .loop in
+    sym
+    (l .inv .1
+    ∙ ap (λ t. l .good && t) (near-end (x .new .now) (baseOf (x .had) (x .old .now) (x .new .now) (x .infinity)) (l .i) (omega arith))
+    ∙ and-true (l .good))
 
 pub all-near-spec : {M : Type 1} → statement M
 all-near-spec =
@@ -69,8 +64,7 @@ all-near-spec =
     base-at-requires
     shared-slice-read-is-near
     is-near-requires
-    returns
     add-i
     loop-less
     loop-again
-    returns-2)
+    returns)

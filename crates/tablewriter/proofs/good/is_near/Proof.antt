@@ -1,19 +1,23 @@
-use borrow.Author.Tests.{lt-leb, le-leb}
+use mathlib.Core.Path.{ap₂}
+use mathlib.Core.Bool.{_&&_}
+use Prim.Native.Nat.{_+_}
+use Rattle.tablewriter.proofs.DataLaws.{capped}
 use borrow.Author.Needs.{needs}
 use Rattle.tablewriter.proofs.good.is_near.Statement.{statement}
 use Rattle.tablewriter.proofs.good.is_near.Tie as tie
 
-add-if1 : tie.Need-add-if1
-add-if1 c = search needs
+capped-sum-requires : tie.Need-capped-sum-requires
+capped-sum-requires c κs = search needs
+
+capped-sum-requires-2 : tie.Need-capped-sum-requires-2
+capped-sum-requires-2 c κs = search needs
 
 returns : tie.Need-returns
-returns c = simp (lt-leb _ _ (c .if1 .taken))
-
-add-result : tie.Need-add-result
-add-result c = search needs
-
-returns-2 : tie.Need-returns-2
-returns-2 c = simp (le-leb _ _ (c .if1 .left))
+returns c =
+    let x = c .before .before .args in
+    ap₂ _&&_
+    (capped (x .e) (x .b + 7) (c .before .capped-sum .result) (search needs) (c .before .capped-sum .ensures))
+    (capped (x .b) (x .e + 8) (c .capped-sum2 .result) (search needs) (c .capped-sum2 .ensures))
 
 pub is-near-spec : {M : Type 1} → statement M
-is-near-spec = tie.close (tie.spec add-if1 returns add-result returns-2)
+is-near-spec = tie.close (tie.spec capped-sum-requires capped-sum-requires-2 returns)

@@ -1,4 +1,4 @@
--- `vectors::texts::each`: the place is within the text, and moves on with each keyword.
+-- The place is within the text, and moves on with each keyword.
 use Prim.Native.Nat.{_≤_, _-_}
 use lib.ListN.{length}
 use borrow.Author.Needs.{needs}
@@ -35,11 +35,14 @@ sub-if2 c = search needs
 returns-2 : tie.Need-returns-2 Inv-loop μ-loop
 returns-2 c = search needs
 
-add-start-of : tie.Need-add-start-of Inv-loop μ-loop
-add-start-of c = search needs
+between-requires : tie.Need-between-requires Inv-loop μ-loop
+between-requires c κs = search needs
 
-start-of-requires : tie.Need-start-of-requires Inv-loop μ-loop
-start-of-requires c κs = search needs
+add-print-decimal : tie.Need-add-print-decimal Inv-loop μ-loop
+add-print-decimal c = search needs
+
+print-decimal-requires : tie.Need-print-decimal-requires Inv-loop μ-loop
+print-decimal-requires c κs = search needs
 
 add-count : tie.Need-add-count Inv-loop μ-loop
 add-count c = search needs
@@ -70,8 +73,9 @@ each-spec =
     returns
     sub-if2
     returns-2
-    add-start-of
-    start-of-requires
+    between-requires
+    add-print-decimal
+    print-decimal-requires
     add-count
     add-at
     loop-less

@@ -1,0 +1,200 @@
+//! Random cases. A call is made for the state it meets, so that it goes far: the next PATCH of a run, a hit for a query that is remembered.
+
+mod groups;
+mod messages;
+mod start;
+mod tables;
+
+use crate::call::Call;
+use crate::case::Start;
+use crate::field::Area;
+use crate::random::Random;
+use lunozhar::raw::{Own, Station};
+
+/// Line numbers that no station has.
+const NO_LINES: [u32; 8] = [8, 9, 10, 15, 16, 255, 0x8000_0000, u32::MAX];
+
+pub struct Maker {
+    random: Random,
+    clock: u32,
+    /// Whether the start is damaged; then few calls will do.
+    damaged: bool,
+}
+
+impl Maker {
+    /// The maker of one case.
+    pub fn of_case(seed: u64, case: u64) -> Maker {
+        let mut random = Random::of_case(seed, case);
+        let late = u32::MAX - random.below(20_000) as u32;
+        let clock = random.number() as u32;
+        let clock = random.pick(&[0, 1_000_000, late, clock]);
+        Maker { clock, damaged: random.one_in(2), random }
+    }
+
+    /// How many calls the case has.
+    pub fn length(&mut self) -> usize {
+        let most = if self.damaged { 3 } else { self.random.pick(&[4, 10, 40, 80]) };
+        1 + self.random.below(most)
+    }
+
+    /// A state; one in two is put out of order, or nearly so.
+    pub fn start(&mut self) -> Start {
+        let mut start = start::start(&mut self.random, self.clock);
+        if self.damaged {
+            start::damage(&mut self.random, &mut start.station);
+            if self.random.one_in(4) {
+                start::damage(&mut self.random, &mut start.station);
+            }
+        }
+        start
+    }
+
+    /// A call for this state and route area.
+    pub fn call(&mut self, station: &Station, route: &[u8]) -> Call {
+        if self.damaged && self.random.one_in(2) {
+            return Call::InOrder {};
+        }
+        if route.len() < 32 && self.random.one_in(4) {
+            return Call::Fresh { route: start::fresh_route(&mut self.random) };
+        }
+        if station.lines.iter().all(|line| !line.live) && self.random.one_in(3) {
+            return Call::Open { line: self.line(station, false) };
+        }
+        match self.random.below(200) {
+            0 | 1 => Call::Fresh { route: start::fresh_route(&mut self.random) },
+            2..=12 => Call::Open { line: self.line(station, false) },
+            13..=17 => Call::Close { line: self.line(station, true) },
+            18..=23 => Call::InOrder {},
+            24..=28 => Call::Count { answer: self.some_answer() },
+            29..=38 => self.ask(station, route),
+            39..=43 => tables::write_table(&mut self.random),
+            44 => tables::round_trip(&mut self.random),
+            45..=67 => groups::call(&mut self.random),
+            68..=71 => Call::Hash { keyword: self.keyword() },
+            72..=75 => Call::Place { keyword: self.keyword(), bits: self.bits() },
+            _ => self.message(station, route),
+        }
+    }
+
+    fn bits(&mut self) -> u32 {
+        if self.random.one_in(20) {
+            self.random.pick(&[64, 255, 256, u32::MAX])
+        } else {
+            self.random.below(41) as u32
+        }
+    }
+
+    fn some_answer(&mut self) -> u8 {
+        let any = self.random.byte();
+        self.random.pick(&[0, 1, 9, 17, 18, 19, any])
+    }
+
+    /// A line, mostly one that is open or not as asked for.
+    fn line(&mut self, station: &Station, open: bool) -> u32 {
+        if self.random.one_in(20) {
+            return self.random.pick(&NO_LINES);
+        }
+        let any = self.random.below(8);
+        let wanted = (0..8).map(|step| (any + step) % 8).find(|&line| station.lines[line].live == open);
+        if self.random.one_in(20) {
+            any as u32
+        } else {
+            wanted.unwrap_or(any) as u32
+        }
+    }
+
+    /// The next clock: mostly a little later, also back, round, or anywhere.
+    fn tick(&mut self) -> u32 {
+        let steps = [0, 0, 0, 1, 300, 700, 998, 999, 1_000, 1_001, 5_000, 14_999, 15_000];
+        self.clock = match self.random.below(40) {
+            0 => self.random.number() as u32,
+            1 => self.clock.wrapping_sub(self.random.pick(&steps)),
+            _ => self.clock.wrapping_add(self.random.pick(&steps)),
+        };
+        self.clock
+    }
+
+    fn own(&mut self) -> Own {
+        let address = (self.random.number() as u32).to_le_bytes();
+        let (port, files, kilobytes) = (self.random.number() as u16, self.random.number() as u32, self.random.number() as u32);
+        Own { port, address, files, kilobytes, calls: self.random.one_in(2) }
+    }
+
+    /// An output area, mostly long enough.
+    fn output(&mut self) -> Area {
+        let length = if self.random.one_in(30) { self.random.pick(&[0, 4118]) } else { self.random.pick(&[4119, 4119, 4119, 5000]) };
+        Area { length, seed: self.random.number(), top: 0 }
+    }
+
+    /// Mostly the case's own route area, else one that may give another room.
+    fn lent_route(&mut self, route: &[u8]) -> Option<Area> {
+        if !self.random.one_in(30) {
+            return None;
+        }
+        let length = route.len();
+        let near = [length, length + 1, length + 7, length + 8, length.saturating_sub(1), length.saturating_sub(8)];
+        let length = if self.random.one_in(2) { self.random.pick(&near) } else { self.random.pick(&[0, 31, 32, 33, 64]) };
+        Some(Area { length, seed: self.random.number(), top: self.random.pick(&[0, 8]) })
+    }
+
+    fn keyword(&mut self) -> Vec<u8> {
+        let length = self.random.pick(&[0, 1, 2, 3, 4, 5, 7, 8, 9, 31, 200]);
+        if self.random.one_in(2) {
+            self.random.bytes(length)
+        } else {
+            (0..length).map(|_| self.random.pick(b"abcxyzABCXYZ059-@[`{")).collect()
+        }
+    }
+}
+
+#[cfg(test)]
+mod tests {
+    use super::*;
+    use crate::case::Case;
+    use crate::run::{Counts, Runner};
+    use crate::second::Reference;
+
+    fn counted(cases: u64) -> Counts {
+        let mut counts = Counts::default();
+        for case in 0..cases {
+            let mut maker = Maker::of_case(2, case);
+            let mut runner = Runner::<Reference, Reference>::begin(&maker.start());
+            for _ in 0..maker.length() {
+                let call = maker.call(runner.station(), runner.route());
+                runner.step(&call, &mut counts).expect("one implementation agrees with itself");
+            }
+        }
+        counts
+    }
+
+    /// A generator that never meets an answer is a poor one.
+    #[test]
+    fn every_answer_is_met() {
+        let Counts { all, kinds } = counted(1_000);
+        for (answer, times) in all.answers.iter().enumerate() {
+            assert!(times * 20_000 > 100 * all.calls, "answer {answer}: {times} of {}", all.calls);
+        }
+        assert!(kinds.len() >= 24, "{kinds:?}");
+    }
+
+    #[test]
+    fn a_seed_gives_the_same_case() {
+        let made = |case| {
+            let mut maker = Maker::of_case(4, case);
+            let start = maker.start();
+            let route = start.route.bytes();
+            let calls = (0..maker.length()).map(|_| maker.call(&start.station, &route)).collect();
+            Case { start, calls }
+        };
+        assert_eq!(made(9), made(9));
+        assert_ne!(made(9), made(10));
+    }
+
+    #[test]
+    fn starts_in_order_and_not() {
+        let orders: Vec<bool> =
+            (0..400).map(|case| crate::convert::station_from_raw(&Maker::of_case(6, case).start().station).unwrap().in_order()).collect();
+        let good = orders.iter().filter(|&&order| order).count();
+        assert!((200..350).contains(&good), "{good} of 400");
+    }
+}

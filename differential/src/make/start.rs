@@ -1,0 +1,228 @@
+//! Random states, in order and not, and their route areas.
+
+use crate::case::{Start, ZERO};
+use crate::field::Area;
+use crate::random::Random;
+use lunozhar::raw::{Line, Pong, Station, Table, Tally};
+
+/// The lengths that a table may have.
+const LENGTHS: [u32; 15] = [4, 8, 16, 32, 64, 128, 256, 512, 1024, 2048, 4096, 8192, 16384, 32768, 65536];
+
+/// A route area: mostly small, also too short, seldom the largest that tables can use.
+pub fn route(random: &mut Random) -> Area {
+    let length = match random.below(200) {
+        0 => 8 * 65_536,
+        1 => 8 * 65_536 + 5,
+        2..=12 => 16_384,
+        13..=16 => random.pick(&[0, 7, 31, 31]),
+        _ => random.pick(&[32, 33, 39, 40, 64, 64, 71, 128, 300, 512, 2048]),
+    };
+    Area { length, seed: random.number() | 1, top: random.pick(&[0, 2, 7, 8, 8, 8, 127]) }
+}
+
+/// A route area for a fresh state, one in five too short.
+pub fn fresh_route(random: &mut Random) -> Area {
+    let given = route(random);
+    let length = if random.one_in(5) { random.pick(&[0, 7, 8, 24, 31]) } else { given.length };
+    Area { length, ..given }
+}
+
+/// Those of them that fit a room.
+pub fn lengths(room: usize) -> &'static [u32] {
+    let fit = LENGTHS.iter().take_while(|&&length| length as usize <= room).count();
+    &LENGTHS[..fit]
+}
+
+/// A start, in order.
+pub fn start(random: &mut Random, clock: u32) -> Start {
+    let route = route(random);
+    let mut start = Start { station: Box::new(ZERO), tally: tally(random), route };
+    let station = &mut *start.station;
+    station.room = room(random, route.length);
+    for line in &mut station.lines {
+        *line = some_line(random, station.room, clock);
+    }
+    memory(random, station);
+    start
+}
+
+fn room(random: &mut Random, length: usize) -> usize {
+    let right = if length < 32 { random.pick(&[0, length / 8]) } else { length / 8 };
+    if random.one_in(40) {
+        random.pick(&[0, 3, 4, right + 1, right.saturating_sub(1), 65_536, usize::MAX])
+    } else {
+        right
+    }
+}
+
+fn tally(random: &mut Random) -> Tally {
+    let mut counts = [0; 19];
+    if random.one_in(2) {
+        counts.iter_mut().for_each(|count| *count = random.pick(&[0, 1, 77, u32::MAX - 1, u32::MAX]));
+    }
+    Tally { counts }
+}
+
+/// A line in order. Places that are not kept, and what a closed line may have besides, are anything.
+fn some_line(random: &mut Random, room: usize, clock: u32) -> Line {
+    let live = !random.one_in(3);
+    if random.one_in(8) {
+        return Line { live, ..ZERO.lines[0] };
+    }
+    let (pongcount, pongnext) = (if live { random.pick(&[0, 1, 3, 9, 10]) } else { 0 }, random.below(10));
+    let mut pongs = [Pong { bytes: [0; 14], hops: 0, clock: 0 }; 10];
+    for (place, pong) in pongs.iter_mut().enumerate() {
+        let kept = (pongnext + 9 - place) % 10 < pongcount;
+        random.fill(&mut pong.bytes);
+        pong.hops = if kept { random.pick(&[0, 1, 3, 6, 7]) } else { random.byte() };
+        pong.clock = clock.wrapping_sub(random.pick(&[0, 1, 1_000, 13_000, 14_999, 15_000, 15_001, u32::MAX]));
+    }
+    let pingtime = clock.wrapping_sub(random.pick(&[0, 1, 500, 999, 1_000, 1_001, 20_000, u32::MAX]));
+    Line { live, pinged: live && random.one_in(2), pingtime, pongcount, pongnext, pongs, table: some_table(random, room, live) }
+}
+
+fn some_table(random: &mut Random, room: usize, live: bool) -> Table {
+    let byte = random.byte();
+    let junk = Table {
+        mark: if live { random.pick(&[0, 0, 4]) } else { 0 },
+        length: random.number() as u32,
+        infinity: byte,
+        place: byte,
+        size: byte,
+        bits: byte,
+        at: random.number() as u32,
+    };
+    let lengths = lengths(room);
+    if !live || lengths.is_empty() || random.one_in(4) {
+        return junk;
+    }
+    let infinity = random.pick(&[2, 7, 8, 8, 8, 127]);
+    let length = random.pick(lengths);
+    let mark = random.pick(&[1, 2, 2, 3, 3, 3]);
+    if mark != 2 {
+        return Table { mark, length, infinity, place: 1, at: 0, ..junk };
+    }
+    let size = random.pick(&[2, 2, 3, 4, 255]);
+    let place = if size == 2 { 2 } else { 2 + random.below(usize::from(size) - 1) as u8 };
+    let at = random.pick(&[0, 1, length / 2, length - 2, length]);
+    Table { mark, length, infinity, place, size, bits: random.pick(&[4, 8]), at }
+}
+
+/// A number of a query: random, small, or like others in many bits.
+pub fn number(random: &mut Random) -> [u8; 16] {
+    let any = u128::from(random.number()) << 64 | u128::from(random.number());
+    let number = match random.below(8) {
+        0 => any & 0xFFFF,
+        1 => any << 64,
+        2 => (any & 0xFFFF_FFF0_0000_0000) | 5,
+        _ => any,
+    };
+    number.to_le_bytes()
+}
+
+pub fn put_number(station: &mut Station, place: usize, number: [u8; 16]) {
+    let number = u128::from_le_bytes(number);
+    station.lo[place] = number as u64;
+    station.hi[place] = (number >> 64) as u64;
+}
+
+/// A place of the memory by its age, 0 for the newest.
+pub fn place_of(station: &Station, age: usize) -> usize {
+    (station.next + 2 * 512 - 1 - age) % 512
+}
+
+/// The ring of remembered queries, turned anywhere. Kept places have numbers of their own, the others copies of these or anything.
+fn memory(random: &mut Random, station: &mut Station) {
+    let some = random.below(513);
+    station.count = random.pick(&[0, 1, 2, 5, 40, some, 511, 512]);
+    station.next = random.pick(&[0, 1, 511, some % 512]);
+    let open: Vec<u8> = (0..8).filter(|&line| station.lines[usize::from(line)].live).collect();
+    let mut seen = std::collections::HashSet::new();
+    for age in 0..512 {
+        let place = place_of(station, age);
+        let mut made = number(random);
+        if age < station.count {
+            while !seen.insert(made) {
+                random.fill(&mut made);
+            }
+            station.asker[place] = match random.below(4) {
+                0 => 8,
+                1 => 9,
+                _ if open.is_empty() => 8,
+                _ => random.pick(&open),
+            };
+        } else {
+            if station.count > 0 && random.one_in(4) {
+                let kept = place_of(station, random.below(station.count));
+                made = crate::convert::number_of(station.lo[kept], station.hi[kept]);
+            }
+            station.asker[place] = random.byte();
+        }
+        put_number(station, place, made);
+    }
+}
+
+/// Puts one thing out of order, or just inside of what is in order.
+pub fn damage(random: &mut Random, station: &mut Station) {
+    let age = random.below(station.count.clamp(1, 512));
+    let place = place_of(station, age);
+    let byte = random.byte();
+    match random.below(12) {
+        0 => station.count = random.pick(&[512, 513, 600, 65_535]),
+        1 => station.next = random.pick(&[511, 512, 1_000, 65_535]),
+        2 | 3 => {
+            let other = place_of(station, random.below(512));
+            (station.lo[place], station.hi[place]) = (station.lo[other], station.hi[other]);
+        }
+        4 | 5 => station.asker[place] = random.pick(&[0, 3, 7, 8, 9, 10, 255, byte]),
+        6 | 7 => {
+            let line = random.below(8);
+            damage_pongs(random, &mut station.lines[line]);
+        }
+        8 => {
+            let line = random.below(8);
+            close_badly(random, &mut station.lines[line]);
+        }
+        _ => {
+            let (any, room) = (random.below(8), station.room);
+            let with_table = (0..8).map(|step| (any + step) % 8).find(|&line| (1..=3).contains(&station.lines[line].table.mark));
+            damage_table(random, &mut station.lines[with_table.unwrap_or(any)].table, room);
+        }
+    }
+}
+
+fn damage_pongs(random: &mut Random, line: &mut Line) {
+    let (any, newest) = (random.below(10), (line.pongnext + 9) % 10);
+    match random.below(4) {
+        0 => line.pongcount = random.pick(&[10, 11, 11, 255]),
+        1 => line.pongnext = random.pick(&[9, 10, 10, 255]),
+        2 => line.pongs[any].hops = random.pick(&[7, 8, 255]),
+        _ => line.pongs[newest].hops = random.pick(&[7, 8, 255]),
+    }
+}
+
+/// A closed line that may have kept something.
+fn close_badly(random: &mut Random, line: &mut Line) {
+    line.live = false;
+    (line.pinged, line.pongcount, line.table.mark) = (false, 0, 0);
+    match random.below(4) {
+        0 => line.pinged = true,
+        1 => line.pongcount = 1,
+        2 => line.table.mark = random.pick(&[1, 2, 3, 4]),
+        _ => {}
+    }
+}
+
+fn damage_table(random: &mut Random, table: &mut Table, room: usize) {
+    let beyond = room.saturating_mul(2).clamp(4, 65_536).next_power_of_two() as u32;
+    match random.below(8) {
+        0 => table.mark = random.pick(&[1, 2, 3, 4, 5, 255]),
+        1 => table.length = random.pick(&[0, 2, 3, 4, 6, 12, 131_072, 0x8000_0000]),
+        2 => table.length = beyond,
+        3 => table.infinity = random.pick(&[0, 1, 2, 127, 128, 255]),
+        4 => table.place = random.pick(&[0, 1, 2, table.size, table.size.wrapping_add(1)]),
+        5 => table.size = random.pick(&[0, 1, table.place, table.place.wrapping_sub(1)]),
+        6 => table.bits = random.pick(&[0, 3, 4, 5, 8, 9]),
+        _ => table.at = random.pick(&[0, 1, table.length, table.length.wrapping_add(1), u32::MAX]),
+    }
+}

@@ -1,0 +1,64 @@
+//! One of the two implementations that are compared, and what a call gives.
+
+use crate::call::Call;
+use crate::case::Start;
+use lunozhar::raw::{Asked, Group, Hosts, Station, Tally, Told, Written};
+
+/// An implementation with a state and a tally of its own.
+pub trait Side {
+    fn begin(start: &Start) -> Self;
+    /// Does a call with this output area and this route area.
+    fn run(&mut self, call: &Call, out: &mut [u8], route: &mut [u8]) -> Outcome;
+    fn station(&self) -> Station;
+    fn tally(&self) -> Tally;
+}
+
+/// What a call gives back by value.
+#[derive(Clone, Debug, PartialEq, Eq)]
+pub enum Outcome {
+    Nothing,
+    Answer(u8),
+    Flag(bool),
+    Number(u32),
+    Told(Told),
+    Written(Written),
+    Group(Group),
+    Asked(Asked),
+    Hosts(Box<Hosts>),
+    /// The implementation panicked.
+    Panicked(String),
+}
+
+impl Outcome {
+    /// The answer number, of a call that gives one.
+    pub fn answer(&self) -> Option<u8> {
+        match self {
+            Outcome::Answer(answer) => Some(*answer),
+            Outcome::Told(told) => Some(told.answer),
+            Outcome::Written(written) => Some(written.answer),
+            Outcome::Group(group) => Some(group.answer),
+            Outcome::Asked(asked) => Some(asked.answer),
+            Outcome::Hosts(hosts) => Some(hosts.answer),
+            _ => None,
+        }
+    }
+
+    /// Every field by name.
+    pub fn fields(&self) -> Vec<(&'static str, String)> {
+        macro_rules! named {
+            ($of:expr; $($field:ident)*) => { vec![$((stringify!($field), format!("{:?}", $of.$field))),*] };
+        }
+        match self {
+            Outcome::Told(told) => named!(told; answer used written to search delivered textat textlen),
+            Outcome::Written(written) => named!(written; answer written),
+            Outcome::Group(group) => named!(group; answer used kind major minor code),
+            Outcome::Asked(asked) => named!(asked; answer used written),
+            Outcome::Hosts(hosts) => {
+                let mut fields = named!(hosts; answer used);
+                fields.extend(named!(hosts.pairs; count pairs));
+                fields
+            }
+            plain => vec![("result", format!("{plain:?}"))],
+        }
+    }
+}
