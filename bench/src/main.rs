@@ -1,6 +1,6 @@
-//! Timings and sizes of the proved core beside the reference, on the same inputs, as tables in markdown.
+//! Timings and sizes of the proved core beside the reference, on the same inputs: prints the tables of `docs/BENCHMARKS.md`.
 //!
-//! `bench` takes a few minutes. `bench --quick` only sees that the two agree and that everything runs. `bench WORD` has the rows with that
+//! `bench` takes about two minutes. `bench --quick` only sees that the two agree and that everything runs. `bench WORD` has the rows with that
 //! word in their names.
 
 mod growth;
@@ -16,9 +16,16 @@ use measure::{Effort, Row};
 use sides::Areas;
 use sizes::Size;
 use std::env;
+use std::env::consts::{ARCH, OS};
+use std::thread;
 
-fn print_head(title: &str) {
-    println!("\n## {title}\n\n| name | proved ns | reference ns | ratio |\n|---|---:|---:|---:|");
+fn print_machine() {
+    let cores = thread::available_parallelism().map_or(1, usize::from);
+    println!("## Measured\n\n`cargo run --release --offline` in `bench/`, on {cores} cores, {ARCH} {OS}.");
+}
+
+fn print_head(title: &str, unit: &str) {
+    println!("\n### {title}\n\n| name | proved {unit} | reference {unit} | ratio |\n|---|---:|---:|---:|");
 }
 
 fn print_row(row: Row) {
@@ -27,7 +34,7 @@ fn print_row(row: Row) {
 }
 
 fn print_sizes() {
-    println!("\n## Sizes\n\n| name | proved bytes | reference bytes | ratio |\n|---|---:|---:|---:|");
+    print_head("Sizes", "bytes");
     for Size { name, proved, reference } in sizes::sizes().expect("the programs stand beside this one") {
         println!("| {name} | {proved} | {reference} | {:.2} |", proved as f64 / reference as f64);
     }
@@ -43,7 +50,8 @@ fn main() {
     let effort = if flags.iter().any(|flag| flag == "--quick") { Effort::QUICK } else { Effort::FULL };
     let wanted = |name: &str| words.iter().all(|word| name.contains(word));
     let mut areas = Areas::new();
-    print_head("Calls");
+    print_machine();
+    print_head("Calls", "ns");
     for session in rows::sessions() {
         if wanted(&session.name) {
             print_row(session.row(effort, &mut areas));
@@ -54,7 +62,7 @@ fn main() {
             print_row(measure(name, effort, &mut areas));
         }
     }
-    print_head("How cost grows");
+    print_head("How cost grows", "ns");
     for list in [growth::payloads(), growth::keywords(), growth::entries(), growth::remembered()] {
         for session in list {
             if wanted(&session.name) {

@@ -85,8 +85,7 @@ pub struct World {
     pub tables: Vec<Vec<u8>>,
 }
 
-/// The seed of the numbers of queries, remembered and new. A test in order looks through the kept numbers where a number has both its marks from
-/// others: with random numbers through 249 of 512 on average, with these and up to 80 new ones through 282 to 202.
+/// The seed of the numbers of queries, remembered and new.
 const NUMBERS: u64 = 157;
 /// Lines whose tables know none of the keywords, so that they withhold most queries.
 const STRANGERS: [usize; 2] = [3, 6];

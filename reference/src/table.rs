@@ -150,10 +150,10 @@ const BLOCK: usize = 128;
 fn unpacked(data: &[u8]) -> [u8; 2 * BLOCK] {
     let mut numbers = [0; 2 * BLOCK];
     for (pair, &byte) in numbers.chunks_exact_mut(2).zip(data) {
-        pair[0] = ((byte as i8) >> 4) as u8;
-        pair[1] = (((byte << 4) as i8) >> 4) as u8;
+        let byte = u16::from(byte);
+        pair.copy_from_slice(&((byte << 8 | byte >> 4) & 0x0F0F).to_le_bytes());
     }
-    numbers
+    numbers.map(|number| (number ^ 8).wrapping_sub(8))
 }
 
 /// Whether every 8-bit number leads its entry to 1..Infinity.

@@ -1,39 +1,31 @@
 //! The remembered queries, and the test that a state is in order.
 //!
-//! Whether a number is remembered twice is found in time linear in the kept numbers, by marks: each number marks two of 16,384 places, by bits
-//! that a random number has at random, and only where both are marked already are the kept numbers looked through. The marks then say of
-//! most new numbers that they are not remembered, with no look either.
+//! Whether a number is remembered twice is found in time linear in the kept numbers, by marks: 1,024 words, of which each joins by OR the low
+//! halves of the kept numbers that have the same low ten bits. A number with a bit that its word lacks is not kept, and of random numbers
+//! nearly all have one; only for the others are the kept numbers looked through.
 
-use super::{kept, Line, State, GONE, HERE, LINES, MEMORY};
+use super::{kept, Line, State, GONE, LINES, MEMORY};
 use std::ops::Range;
 
-const MARKS: usize = 16_384;
+const WORDS: usize = 1_024;
 
 /// The marks of the kept numbers.
-pub(super) struct Marks([bool; MARKS]);
+pub(super) struct Marks([u64; WORDS]);
 
 impl Marks {
     pub(super) fn new() -> Marks {
-        Marks([false; MARKS])
-    }
-
-    #[inline]
-    fn places(low: u64) -> (usize, usize) {
-        (low as usize % MARKS, (low / MARKS as u64) as usize % MARKS)
+        Marks([0; WORDS])
     }
 
     /// Whether a number with this low half may have been marked.
     #[inline]
     fn maybe(&self, low: u64) -> bool {
-        let (one, two) = Marks::places(low);
-        self.0[one] & self.0[two]
+        low & !self.0[low as usize % WORDS] == 0
     }
 
     #[inline]
     fn mark(&mut self, low: u64) {
-        let (one, two) = Marks::places(low);
-        self.0[one] = true;
-        self.0[two] = true;
+        self.0[low as usize % WORDS] |= low;
     }
 }
 
@@ -43,15 +35,11 @@ fn low_half(number: &[u8; 16]) -> u64 {
     u128::from_le_bytes(*number) as u64
 }
 
-/// Which askers fit these lines: an open line, here, gone.
-fn fitting(lines: &[Line; LINES]) -> [bool; 256] {
-    let mut fitting = [false; 256];
-    for (fits, line) in fitting.iter_mut().zip(lines) {
-        *fits = line.open;
-    }
-    fitting[usize::from(HERE)] = true;
-    fitting[usize::from(GONE)] = true;
-    fitting
+/// Whether all askers fit these lines: each is an open line, here or gone.
+fn fitting(askers: &[u8], lines: &[Line; LINES]) -> bool {
+    let known = askers.iter().fold(true, |all, &asker| all & (asker <= GONE));
+    let mut closed = (0u8..).zip(lines).filter(|(_, line)| !line.open);
+    known && closed.all(|(line, _)| !askers.contains(&line))
 }
 
 impl State {
@@ -67,20 +55,19 @@ impl State {
         if !ring || !self.lines.iter().all(|line| line.in_order(self.room)) {
             return false;
         }
-        let fitting = fitting(&self.lines);
-        let mut fit = true;
         for places in self.kept() {
-            let queries = self.numbers[places.clone()].iter().zip(&self.askers[places.clone()]);
-            for (place, (number, asker)) in places.zip(queries) {
+            if !fitting(&self.askers[places.clone()], &self.lines) {
+                return false;
+            }
+            for (place, number) in places.clone().zip(&self.numbers[places]) {
                 let low = low_half(number);
                 if marks.maybe(low) && self.place_of(number) != Some(place) {
                     return false;
                 }
                 marks.mark(low);
-                fit &= fitting[usize::from(*asker)];
             }
         }
-        fit
+        true
     }
 
     /// The first kept place of a number, from the oldest on.
