@@ -1,79 +1,76 @@
--- The Bloom filter: two marks for each number that was passed.
+-- The filter: a number that was passed has left every bit of its first half in its word.
 use mathlib.Core.Path.{_≡_, refl, sym, _∙_}
-use mathlib.Core.Bool.{Bool, true, false, _&&_}
+use mathlib.Core.Bool.{Bool, true, false}
 use mathlib.Core.List.{List, [], _∷_}
-use Prim.Native.Nat.{ℕ, zero, suc, _/_, _%_}
+use Prim.Native.Nat.{ℕ, _+_, _*_, _/_, _%_, max}
 use native.Mathlib.Omega.{arith}
+use lib.Arith.{bin-ind}
+use lib.Bits.{bitOr, or-step, or-comm, or-self}
 use lib.Dec.{eqb}
-use lib.ListN.{length, getD, set, replicate, length-set, length-replicate}
-use lib.Seq.{getD-set-same}
-use borrow.Author.Tests.{eqb-true}
+use lib.ListN.{length, set}
+use lib.Seq.{getD-set-same, getD-set-other}
+use borrow.Author.Tests.{eqb-true, eqb-false, eq-eqb}
 use Rattle.laws.specs.Tests.{any, all}
 use Rattle.laws.proofs.Truth.{both-left, both-right, both-true, all-more}
 use Rattle.protocol.specs.Memory.{Query}
-use Rattle.memory.specs.Order.{sameAs}
+use Rattle.memory.specs.Order.{sameAs, wordOf, marked}
 
--- the two places of a number whose first half is a
-abbrev pub first : ℕ → ℕ
-first a = a % 16384
+-- three numbers joined, by their lowest bits and the rest
+or-three : (w a b : ℕ) → bitOr (bitOr w a) b ≡ bitOr (bitOr (w / 2) (a / 2)) (b / 2) * 2 + max (max (w % 2) (a % 2)) (b % 2)
+or-three w a b =
+    let e = or-step w a in
+    let h : bitOr w a / 2 ≡ bitOr (w / 2) (a / 2) = omega (arith, e) in
+    let m : bitOr w a % 2 ≡ max (w % 2) (a % 2) = omega (arith, e) in
+    or-step (bitOr w a) b ∙ rw (h, m)
 
-abbrev pub second : ℕ → ℕ
-second a = a / 16384 % 16384
+or-swap : (w a b : ℕ) → bitOr (bitOr w a) b ≡ bitOr (bitOr w b) a
+or-swap =
+    bin-ind (λ (n : ℕ). (a b : ℕ) → bitOr (bitOr n a) b ≡ bitOr (bitOr n b) a) or-comm
+    (λ n ih a b.
+    let m : max (max (n % 2) (a % 2)) (b % 2) ≡ max (max (n % 2) (b % 2)) (a % 2) = omega arith in
+    or-three n a b ∙ rw (ih (a / 2) (b / 2), m) (sym (or-three n b a)))
 
-abbrev pub marked : List Bool → Query → Bool
-marked seen q = getD seen (first (q .number .lo)) false && getD seen (second (q .number .lo)) false
+or-again : (w a : ℕ) → bitOr (bitOr w a) a ≡ bitOr w a
+or-again w a = rw (or-comm w a) (or-swap a w a ∙ rw (or-self a))
 
-pub record Marked (seen : List Bool) (qs : List Query) : Type 0 where
-  pub size : length seen ≡ 16384
-  pub has : all (marked seen) qs ≡ true
+-- the filter after one number more
+abbrev pub joined : List ℕ → Query → List ℕ
+joined filter q = set filter (q .number .lo % 1024) (bitOr (wordOf filter q) (q .number .lo))
 
-pub marked-none : Marked (replicate 16384 false) []
-marked-none = record { size = length-replicate 16384 false; has = refl }
+module _ (filter : List ℕ) (q : Query) (size : length filter ≡ 1024) where
+  word-same : wordOf (joined filter q) q ≡ bitOr (wordOf filter q) (q .number .lo)
+  word-same = getD-set-same filter (q .number .lo % 1024) (bitOr (wordOf filter q) (q .number .lo)) 0 (omega (arith, size))
 
-stays : (l : List Bool) (k j : ℕ) → getD l j false ≡ true → getD (set l k true) j false ≡ true
-stays [] k j h = h
-stays (x ∷ l) zero zero h = refl
-stays (x ∷ l) zero (suc j) h = h
-stays (x ∷ l) (suc k) zero h = h
-stays (x ∷ l) (suc k) (suc j) h = stays l k j h
+  marked-same : marked (joined filter q) q ≡ true
+  marked-same = rw word-same (eq-eqb _ _ (or-again (wordOf filter q) (q .number .lo)))
 
-marked-stays : (seen : List Bool) (k : ℕ) (q : Query) → marked seen q ≡ true → marked (set seen k true) q ≡ true
-marked-stays seen k q e =
-    both-true _ _ (stays seen k (first (q .number .lo)) (both-left _ _ e))
-    (stays seen k (second (q .number .lo)) (both-right (getD seen (first (q .number .lo)) false) _ e))
+  marked-stays : (x : Query) → marked filter x ≡ true → marked (joined filter q) x ≡ true
+  marked-stays x e = by (eqb (x .number .lo % 1024) (q .number .lo % 1024)) refl
+    where
+      by : (t : Bool) → eqb (x .number .lo % 1024) (q .number .lo % 1024) ≡ t → marked (joined filter q) x ≡ true
+      by false p =
+          rw (getD-set-other filter (q .number .lo % 1024) (x .number .lo % 1024) (bitOr (wordOf filter q) (q .number .lo)) 0 (eqb-false _ _ p)) e
+      by true p =
+          let s : x .number .lo % 1024 ≡ q .number .lo % 1024 = eqb-true _ _ p in
+          let w : bitOr (wordOf filter q) (x .number .lo) ≡ wordOf filter q = rw s at (eqb-true (bitOr (wordOf filter x) (x .number .lo)) (wordOf filter x) e) in
+          rw (s, word-same) (eq-eqb _ _ (or-swap (wordOf filter q) (q .number .lo) (x .number .lo) ∙ rw w))
 
--- one number more
-pub marked-more : {seen : List Bool} {qs : List Query} (q : Query) → Marked seen qs
-    → Marked (set (set seen (first (q .number .lo)) true) (second (q .number .lo)) true) (q ∷ qs)
-marked-more {seen} {qs} q m =
-    let a = q .number .lo in
-    let s = set seen (first a) true in
-    let z : length s ≡ 16384 = rw length-set (m .size) in
-    record {
-      size = rw length-set z;
-      has = both-true _ _
-          (both-true _ _
-          (stays s (second a) (first a) (getD-set-same seen (first a) true false (omega (arith, m .size))))
-          (getD-set-same s (second a) true false (omega arith)))
-          (all-more (marked seen) (marked (set s (second a) true))
-          (λ x e. marked-stays s (second a) x (marked-stays seen (first a) x e)) qs (m .has));
-    }
+  -- one number more
+  pub marked-more : (qs : List Query) → all (marked filter) qs ≡ true → all (marked (joined filter q)) (q ∷ qs) ≡ true
+  marked-more qs e = both-true _ _ marked-same (all-more (marked filter) (marked (joined filter q)) marked-stays qs e)
 
--- a number without both marks was not passed
-no-same : (seen : List Bool) (q x : Query) → marked seen x ≡ true → marked seen q ≡ false → sameAs q x ≡ false
-no-same seen q x e d = by (eqb (x .number .lo) (q .number .lo)) refl
-  where
-    by : (t : Bool) → eqb (x .number .lo) (q .number .lo) ≡ t → sameAs q x ≡ false
-    by false p = rw p
-    by true p =
-        let s : x .number .lo ≡ q .number .lo = eqb-true _ _ p in
-        let z : true ≡ false = sym (rw s at e) ∙ d in
-        cc
+-- a number with a bit that its word lacks was not passed
+module _ (filter : List ℕ) (q : Query) (new : marked filter q ≡ false) where
+  no-same : (x : Query) → marked filter x ≡ true → sameAs q x ≡ false
+  no-same x e = by (eqb (x .number .lo) (q .number .lo)) refl
+    where
+      by : (t : Bool) → eqb (x .number .lo) (q .number .lo) ≡ t → sameAs q x ≡ false
+      by false p = rw p
+      by true p =
+          let s : x .number .lo ≡ q .number .lo = eqb-true _ _ p in
+          let z : true ≡ false = sym (rw s at e) ∙ new in
+          cc
 
-unmet : (seen : List Bool) (q : Query) → marked seen q ≡ false → (qs : List Query) → all (marked seen) qs ≡ true → any (sameAs q) qs ≡ false
-unmet seen q d [] e = refl
-unmet seen q d (x ∷ xs) e =
-    rw (no-same seen q x (both-left _ _ e) d) (unmet seen q d xs (both-right (marked seen x) _ e))
-
-pub marked-not : {seen : List Bool} {qs : List Query} (q : Query) → Marked seen qs → marked seen q ≡ false → any (sameAs q) qs ≡ false
-marked-not {seen} {qs} q m d = unmet seen q d qs (m .has)
+  pub unmarked-new : (qs : List Query) → all (marked filter) qs ≡ true → any (sameAs q) qs ≡ false
+  unmarked-new [] e = refl
+  unmarked-new (x ∷ xs) e = rw (no-same x (both-left _ _ e)) (unmarked-new xs (both-right (marked filter x) _ e))

@@ -1,58 +1,41 @@
--- The test of order, from the oldest query on: each query is tested against those that were passed.
-use mathlib.Core.Path.{_≡_, refl}
-use mathlib.Core.Bool.{Bool, true, false, not, _&&_, _||_, and-false}
-use mathlib.Core.List.{List, [], _∷_}
-use Prim.Native.Nat.{ℕ, zero, suc, _+_, _≤_, _<_}
-use native.Mathlib.Omega.{arith}
+-- The test of order put together: the ring fits, the askers fit, and no number stands twice.
+use mathlib.Core.Path.{_≡_, refl, sym, _∙_}
+use mathlib.Core.Bool.{Bool, true, false, _&&_, and-true, and-false}
+use mathlib.Core.List.{List}
+use Prim.Native.Nat.{ℕ}
+use lib.Dec.{leb, ltb}
 use lib.ListN.{length, getD}
-use Rattle.laws.specs.Tests.{any, all}
-use Rattle.protocol.specs.Memory.{Query, Found, Absent, At, later, pickFound, find, noTwice}
-use Rattle.memory.specs.Queries.{queriesBefore, looked}
-use Rattle.memory.specs.Order.{placeBefore, sameAs, sound}
-use Rattle.memory.proofs.PlaceLaws.{place-none, place-back}
+use borrow.Author.Tests.{le-leb, lt-ltb}
+use Rattle.laws.specs.Tests.{all}
+use Rattle.laws.specs.Ring.{placesBefore, ringFits}
+use Rattle.laws.proofs.Refusals.{all-map}
+use Rattle.protocol.specs.Memory.{noTwice}
+use Rattle.memory.specs.Queries.{queriesBefore, queriesIn, askerFitsIn, memoryInOrder}
+use Rattle.memory.proofs.QueryLaws.{fits-count, fits-next, kept-all}
 
--- found is what some query has
-pub found-any : (qs : List Query) (q : Query) → looked (find qs (q .number)) .found ≡ any (sameAs q) qs
-unfolding find
-found-any [] q = refl
-found-any (x ∷ xs) q = by (sameAs q x) (find xs (q .number)) (found-any xs q)
-  where
-    by : (t : Bool) (f : Found) → looked f .found ≡ any (sameAs q) xs → looked (pickFound t (At 0 (x .asker)) (later f)) .found ≡ (t || any (sameAs q) xs)
-    by true f e = refl
-    by false Absent e = e
-    by false (At n k) e = e
+first-two : (x y z : Bool) → (x && y) ≡ false → (x && (y && z)) ≡ false
+first-two true true z e = cc
+first-two true false z e = refl
+first-two false y z e = refl
 
-rest-false : (a n f l : Bool) → (n && l) ≡ false → ((a && n) && (f && l)) ≡ false
-rest-false false n f l e = refl
-rest-false true false f l e = refl
-rest-false true true false l e = refl
-rest-false true true true l e = e
+module _ (lo hi asker : List ℕ) (next count : ℕ) (live : List Bool) where
+  pub order-unfit : ringFits (length lo) next count ≡ false → memoryInOrder lo hi asker next count live ≡ false
+  unfolding memoryInOrder
+  order-unfit f =
+      first-two (leb count (length lo)) (ltb next (length lo))
+      (noTwice (queriesIn lo hi asker next count) && (all (λ q. askerFitsIn live (q .asker)) (queriesIn lo hi asker next count) && true)) f
 
-module _ (marks : List Bool) (q : Query) (qs : List Query) where
-  -- one query more
-  pub sound-more : sound marks qs ≡ true → any (sameAs q) qs ≡ false → getD marks (q .asker) false ≡ true → sound marks (q ∷ qs) ≡ true
-  unfolding sound noTwice
-  sound-more e m f = rw (m, f) e
+  module _ (same : length asker ≡ length lo) (fits : ringFits (length lo) next count ≡ true) where
+    abbrev askers : Bool
+    askers = all (λ p. askerFitsIn live (getD asker p 0)) (placesBefore (length asker) next count)
 
-  pub sound-met : any (sameAs q) qs ≡ true → sound marks (q ∷ qs) ≡ false
-  unfolding sound noTwice
-  sound-met m = rw m
+    order-fit : memoryInOrder lo hi asker next count live ≡ (noTwice (queriesBefore lo hi asker next count) && askers)
+    unfolding memoryInOrder
+    order-fit =
+        rw (kept-all lo hi asker next count fits, le-leb count (length lo) (fits-count (length lo) next count fits), lt-ltb next (length lo) (fits-next (length lo) next count fits), and-true, all-map, same)
 
-  pub sound-unfit : getD marks (q .asker) false ≡ false → sound marks (q ∷ qs) ≡ false
-  unfolding sound noTwice
-  sound-unfit f = rw f (and-false (not (any (sameAs q) qs) && noTwice qs))
+    pub order-unasked : askers ≡ false → memoryInOrder lo hi asker next count live ≡ false
+    order-unasked e = order-fit ∙ rw e (and-false (noTwice (queriesBefore lo hi asker next count)))
 
-  sound-tail : sound marks qs ≡ false → sound marks (q ∷ qs) ≡ false
-  unfolding sound noTwice
-  sound-tail e = rest-false (not (any (sameAs q) qs)) (noTwice qs) (getD marks (q .asker) false) (all (λ x. getD marks (x .asker) false) qs) e
-
--- where the oldest are not sound, neither are all
-module _ (marks : List Bool) (lo hi asker : List ℕ) (next : ℕ) (inside : next < length lo) where
-  pub sound-all : (k j n : ℕ) → n ≡ k + j → k ≤ length lo → sound marks (queriesBefore lo hi asker (placeBefore (length lo) next k) j) ≡ false
-      → sound marks (queriesBefore lo hi asker next n) ≡ false
-  sound-all zero j n s h e =
-      let d : n ≡ j = omega arith in
-      rw d (rw (place-none (length lo) next inside) at e)
-  sound-all (suc k) j n s h e =
-      sound-all k (suc j) n (omega arith) (omega arith)
-      (rw (place-back (length lo) next inside k (omega arith)) (sound-tail marks _ _ e))
+    pub order-asked : askers ≡ true → noTwice (queriesBefore lo hi asker next count) ≡ memoryInOrder lo hi asker next count live
+    order-asked e = sym (order-fit ∙ rw e (and-true (noTwice (queriesBefore lo hi asker next count))))

@@ -3,10 +3,10 @@ use mathlib.Core.Path.{sym, ap, _∙_}
 use borrow.Author.Needs.{needs}
 use Rattle.memory.specs.Queries.{queryIn, queriesBefore}
 use Rattle.memory.specs.declared.search.Looked.{Looked}
-use Rattle.memory.proofs.OrderLaws.{found-any}
+use Rattle.memory.proofs.NumberLaws.{found-any}
 use Rattle.memory.proofs.QueryLaws.{within-fits, kept-all}
-use Rattle.memory.proofs.order.met.Statement.{statement}
-use Rattle.memory.proofs.order.met.Tie as tie
+use Rattle.memory.proofs.numbers.met.Statement.{statement}
+use Rattle.memory.proofs.numbers.met.Tie as tie
 
 mul-find : tie.Need-mul-find
 mul-find c = search needs

@@ -1,0 +1,68 @@
+-- `good` is the test of the bytes passed.
+use Prim.Native.Nat.{_-_, _≤_}
+use mathlib.Core.Path.{_≡_, refl, sym, ap, ap₂, _∙_}
+use mathlib.Core.Bool.{_&&_}
+use native.Mathlib.Numerals.{add-one}
+use lib.ListN.{length, take}
+use lib.Seq.{take-all}
+use borrow.Author.Needs.{needs}
+use Rattle.laws.specs.Tests.{all}
+use Rattle.memory.specs.Order.{fitsBeside}
+use Rattle.memory.proofs.AskerLaws.{all-suc}
+use Rattle.memory.proofs.askers.fit_beside.Statement.{statement}
+use Rattle.memory.proofs.askers.fit_beside.Tie as tie
+
+abbrev Inv-loop : tie.InvT-loop
+Inv-loop part line good₀ i₀ good i = (i ≤ length part) × (good ≡ all (fitsBeside line) (take i part))
+
+abbrev μ-loop : tie.MeasureT-loop
+μ-loop part line good₀ i₀ good i = length part - i
+
+loop-holds : tie.Need-loop-holds Inv-loop μ-loop
+loop-holds c = (search needs, refl)
+
+shared-slice-read-fits-beside : tie.Need-shared-slice-read-fits-beside Inv-loop μ-loop
+shared-slice-read-fits-beside c = search needs
+
+fits-beside-requires : tie.Need-fits-beside-requires Inv-loop μ-loop
+fits-beside-requires c κs = search needs
+
+both-requires : tie.Need-both-requires Inv-loop μ-loop
+both-requires c κs = search needs
+
+add-i : tie.Need-add-i Inv-loop μ-loop
+add-i c = search needs
+
+loop-less : tie.Need-loop-less Inv-loop μ-loop
+loop-less c = search needs
+
+loop-again : tie.Need-loop-again Inv-loop μ-loop
+loop-again c =
+    let a = c .before .before .before .before .before .before .args in
+    let l = c .before .before .before .before .loop in (
+      search needs,
+      c .both .ensures
+          ∙ ap₂ _&&_ (l .inv .1) (c .before .fits-beside .ensures)
+          ∙ rw add-one (sym (all-suc (fitsBeside (a .line)) (a .part .now) (l .i) (search needs))),
+    )
+
+returns : tie.Need-returns Inv-loop μ-loop
+returns c =
+    let a = c .before .before .before .args in
+    let l = c .before .loop in
+    l .inv .1 ∙ ap (all (fitsBeside (a .line))) (take-all (l .i) (a .part .now) (search needs))
+
+pub fit-beside-spec : {M : Type 1} → statement M
+fit-beside-spec =
+    tie.close
+    (tie.spec
+    Inv-loop
+    μ-loop
+    loop-holds
+    shared-slice-read-fits-beside
+    fits-beside-requires
+    both-requires
+    add-i
+    loop-less
+    loop-again
+    returns)
