@@ -26,7 +26,7 @@ fn slices_in_order<'a>(
     no_twice(lo, hi, asker, next, count)
 }
 
-// `live` says which lines are open.
+// `live` says which lines are open. The second clause tells a caller's proof the length of what it lends.
 pub fn in_order<'a>(
     lo: &'a [u64; 512],
     hi: &'a [u64; 512],
@@ -36,6 +36,7 @@ pub fn in_order<'a>(
     live: [bool; 8],
 ) -> bool
     ensures { λ r. ⌜ r ≡ memoryInOrder (now (lo .entry)) (now (hi .entry)) (now (asker .entry)) next count live ⌝ }
+    ensures { λ _. ⌜ length (now (lo .entry)) ≡ 512 ⌝ }
 {
     slices_in_order(lo, hi, asker, next, count, live)
 }

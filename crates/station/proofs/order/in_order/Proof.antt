@@ -2,7 +2,6 @@
 use mathlib.Core.Path.{sym, ap, _∙_}
 use mathlib.Core.Bool.{_&&_}
 use native.Mathlib.Omega.{arith}
-use denote.Ref.{now}
 use borrow.Author.Tests.{not-true, not-false}
 use Rattle.laws.specs.Tests.{all}
 use Rattle.protocol.specs.Order.{lineInOrder}
@@ -19,13 +18,22 @@ in-order-requires : tie.Need-in-order-requires
 in-order-requires c κs = search needs
 
 returns : tie.Need-returns
-returns c = sym (order-is (stationOf (c .before .before .before .before .before .before .args .room) (c .before .before .before .before .before .before .args .lines) (now (c .before .before .before .before .before .before .args .lo)) (now (c .before .before .before .before .before .before .args .hi)) (now (c .before .before .before .before .before .before .args .asker)) (c .before .before .before .before .before .before .args .count) (c .before .before .before .before .before .before .args .next)) (omega arith) (omega arith) (c .before .before .before .before .before .lives .ensures) (c .before .in-order .ensures) ∙ ap (λ t. t && all (lineInOrder (c .before .before .before .before .before .before .args .room)) (c .before .before .before .before .before .before .args .lines)) (not-true (c .before .in-order .result) (c .if1 .taken)))
+returns c =
+    let a = c .before .before .before .args in
+    let m = c .before .in-order in
+    sym (order-is (stationOf (a .room) (a .lines) (a .lo .now) (a .hi .now) (a .asker .now) (a .count) (a .next)) (m .ensures .1) (omega arith) (c .before .before .lives .ensures) (m .ensures .0)
+    ∙ ap (λ t. t && all (lineInOrder (a .room)) (a .lines)) (not-true (m .result) (c .if1 .taken)))
 
 lines-in-order-requires : tie.Need-lines-in-order-requires
 lines-in-order-requires c κs = search needs
 
 returns-2 : tie.Need-returns-2
-returns-2 c = c .lines-in-order .ensures ∙ sym (order-is (stationOf (c .before .before .before .before .before .before .before .args .room) (c .before .before .before .before .before .before .before .args .lines) (now (c .before .before .before .before .before .before .before .args .lo)) (now (c .before .before .before .before .before .before .before .args .hi)) (now (c .before .before .before .before .before .before .before .args .asker)) (c .before .before .before .before .before .before .before .args .count) (c .before .before .before .before .before .before .before .args .next)) (omega arith) (omega arith) (c .before .before .before .before .before .before .lives .ensures) (c .before .before .in-order .ensures) ∙ ap (λ t. t && all (lineInOrder (c .before .before .before .before .before .before .before .args .room)) (c .before .before .before .before .before .before .before .args .lines)) (not-false (c .before .before .in-order .result) (c .before .if1 .left)))
+returns-2 c =
+    let a = c .before .before .before .before .args in
+    let m = c .before .before .in-order in
+    c .lines-in-order .ensures
+    ∙ sym (order-is (stationOf (a .room) (a .lines) (a .lo .now) (a .hi .now) (a .asker .now) (a .count) (a .next)) (m .ensures .1) (omega arith) (c .before .before .before .lives .ensures) (m .ensures .0)
+    ∙ ap (λ t. t && all (lineInOrder (a .room)) (a .lines)) (not-false (m .result) (c .before .if1 .left)))
 
 pub in-order-spec : {M : Type 1} → statement M
 in-order-spec =
