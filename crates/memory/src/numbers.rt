@@ -27,15 +27,15 @@ fn met<'a>(maybe: bool, lo: &'a [u64], hi: &'a [u64], asker: &'a [u8], p: usize,
 // The queries at the places `from` to `to`, behind `passed` others. A word of the filter joins the first halves passed that agree in
 // their lowest ten bits: a number with a bit that its word lacks was not passed.
 fn no_twice_in<'a>(
-    lo: &'a [u64],
-    hi: &'a [u64],
-    asker: &'a [u8],
+    lo: &'a [u64; 512],
+    hi: &'a [u64; 512],
+    asker: &'a [u8; 512],
     from: usize,
     to: usize,
     passed: usize,
     filter: &mut [u64; 1024],
 ) -> bool
-    requires { ⌜ (from ≤ to) × (to ≤ length (now lo)) × (passed + (to - from) ≤ length (now lo)) ⌝ }
+    requires { ⌜ (from ≤ to) × (to ≤ length (now lo)) × (passed + (to - from) ≤ length (now lo)) × (length (now lo) ≡ 512) ⌝ }
     requires { ⌜ Passed (now filter) (queriesBefore (now lo) (now hi) (now asker) from passed) ⌝ }
     ensures { λ r. ⌜ r ≡ noTwice (queriesBefore (now (lo .entry)) (now (hi .entry)) (now (asker .entry)) to (passed + (to - from))) ⌝ }
     ensures { λ r. ⌜ (r ≡ true → Passed (now (filter .exit)) (queriesBefore (now (lo .entry)) (now (hi .entry)) (now (asker .entry)) to (passed + (to - from)))) ⌝ }
@@ -58,14 +58,14 @@ fn no_twice_in<'a>(
 // The kept places are those just below `next`, and, where these are fewer than `count`, those at the end of the slices. The filter is
 // handed in empty: bits that no number brought only cost look-ups.
 pub(crate) fn no_twice<'a>(
-    lo: &'a [u64],
-    hi: &'a [u64],
-    asker: &'a [u8],
+    lo: &'a [u64; 512],
+    hi: &'a [u64; 512],
+    asker: &'a [u8; 512],
     next: usize,
     count: usize,
     filter: &mut [u64; 1024],
 ) -> bool
-    requires { ⌜ (next < length (now lo)) × (count ≤ length (now lo)) × (length (now filter) ≡ 1024) ⌝ }
+    requires { ⌜ (next < length (now lo)) × (count ≤ length (now lo)) × (length (now filter) ≡ 1024) × (length (now lo) ≡ 512) ⌝ }
     ensures { λ r. ⌜ r ≡ noTwice (queriesBefore (now (lo .entry)) (now (hi .entry)) (now (asker .entry)) next count) ⌝ }
     ensures { λ r. ⌜ (r ≡ true → Passed (now (filter .exit)) (queriesBefore (now (lo .entry)) (now (hi .entry)) (now (asker .entry)) next count)) ⌝ }
 {

@@ -2,6 +2,7 @@
 ghost use mathlib.Core.Path.{_≡_};
 ghost use mathlib.Core.Bool.{true};
 ghost use lib.ListN.{length};
+ghost use Rattle.laws.specs.Ring.{ringFits};
 ghost use Rattle.protocol.specs.Memory.{find};
 ghost use Rattle.memory.specs.Queries.{queriesIn, looked, memoryInOrder};
 ghost use Rattle.memory.specs.Order.{Passed};
@@ -19,46 +20,40 @@ pub struct Surveyed {
     pub known: Looked,
 }
 
-// Where they are in order, the filter has the numbers of all.
-fn slices_in_order<'a>(
-    lo: &'a [u64],
-    hi: &'a [u64],
-    asker: &'a [u8],
-    next: usize,
-    count: usize,
-    live: [bool; 8],
-    filter: &mut [u64; 1024],
-) -> bool
-    requires { ⌜ (length (now asker) ≡ length (now lo)) × (length (now filter) ≡ 1024) ⌝ }
-    ensures { λ r. ⌜ r ≡ memoryInOrder (now (lo .entry)) (now (hi .entry)) (now (asker .entry)) next count live ⌝ }
-    ensures { λ r. ⌜ (r ≡ true → Passed (now (filter .exit)) (queriesIn (now (lo .entry)) (now (hi .entry)) (now (asker .entry)) next count)) ⌝ }
+// The askers are lent beside so that the length of both is known to a caller's proof.
+fn fits<'a>(lo: &'a [u64], _asker: &'a [u8], next: usize, count: usize) -> bool
+    ensures { λ r. ⌜ r ≡ ringFits (length (now (lo .entry))) next count ⌝ }
 {
-    if !ring_fits(lo.len(), next, count) {
-        return false;
-    }
-    if !askers_fit(asker, next, count, live) {
-        return false;
-    }
-    no_twice(lo, hi, asker, next, count, filter)
+    ring_fits(lo.len(), next, count)
 }
 
-// `live` says which lines are open. The second clause tells a caller's proof the length of what it lends.
-pub fn in_order<'a>(
+// Where they are in order, the filter has the numbers of all.
+fn slices_in_order<'a>(
     lo: &'a [u64; 512],
     hi: &'a [u64; 512],
     asker: &'a [u8; 512],
     next: usize,
     count: usize,
     live: [bool; 8],
+    filter: &mut [u64; 1024],
 ) -> bool
+    requires { ⌜ length (now filter) ≡ 1024 ⌝ }
     ensures { λ r. ⌜ r ≡ memoryInOrder (now (lo .entry)) (now (hi .entry)) (now (asker .entry)) next count live ⌝ }
+    ensures { λ r. ⌜ (r ≡ true → Passed (now (filter .exit)) (queriesIn (now (lo .entry)) (now (hi .entry)) (now (asker .entry)) next count)) ⌝ }
     ensures { λ _. ⌜ length (now (lo .entry)) ≡ 512 ⌝ }
 {
-    let mut filter = [0; 1024];
-    slices_in_order(lo, hi, asker, next, count, live, &mut filter)
+    if !fits(lo, asker, next, count) {
+        return false;
+    }
+    let who = *asker;
+    if !askers_fit(&who, next, count, live) {
+        return false;
+    }
+    no_twice(lo, hi, asker, next, count, filter)
 }
 
 // The test of order and the look-up of the number (low, high) at once: the filter that the test fills rules out nearly every new number.
+// `live` says which lines are open. The last clause tells a caller's proof the length of what it lends.
 pub fn survey<'a>(
     lo: &'a [u64; 512],
     hi: &'a [u64; 512],

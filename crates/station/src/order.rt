@@ -25,27 +25,7 @@ fn lines_in_order(lines: [Line; 8], room: usize) -> bool
     true
 }
 
-// The remembered queries and the lines, as a state has them.
-pub fn in_order<'a>(
-    lo: &'a [u64; 512],
-    hi: &'a [u64; 512],
-    asker: &'a [u8; 512],
-    next: usize,
-    count: usize,
-    room: usize,
-    lines: [Line; 8],
-) -> bool
-    ensures { λ r. ⌜ r ≡ inOrder (stationOf room lines (now (lo .entry)) (now (hi .entry)) (now (asker .entry)) count next) ⌝ }
-{
-    let live = lives(lines);
-    let memory = memory::order::in_order(lo, hi, asker, next, count, live);
-    if !memory {
-        return false;
-    }
-    lines_in_order(lines, room)
-}
-
-// The same, and the query that has the message's number.
+// Whether the remembered queries and the lines are in order, as a state has them, and the query that has the message's number.
 pub(crate) fn survey<'a>(
     lo: &'a [u64; 512],
     hi: &'a [u64; 512],
@@ -69,4 +49,21 @@ pub(crate) fn survey<'a>(
     let order = lines_in_order(lines, room);
     let known = s.known;
     Surveyed { order, known }
+}
+
+// The same without a message: a number of ones is never looked up, but where a word of the filter is all ones.
+pub fn in_order<'a>(
+    lo: &'a [u64; 512],
+    hi: &'a [u64; 512],
+    asker: &'a [u8; 512],
+    next: usize,
+    count: usize,
+    room: usize,
+    lines: [Line; 8],
+) -> bool
+    ensures { λ r. ⌜ r ≡ inOrder (stationOf room lines (now (lo .entry)) (now (hi .entry)) (now (asker .entry)) count next) ⌝ }
+{
+    let number = [255; 16];
+    let s = survey(lo, hi, asker, next, count, room, lines, &number);
+    s.order
 }

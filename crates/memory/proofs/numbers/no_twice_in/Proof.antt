@@ -21,15 +21,15 @@ abbrev μ-loop : tie.MeasureT-loop
 
 loop-holds : tie.Need-loop-holds Inv-loop μ-loop
 loop-holds c =
-    let s = c .before .before .before in
+    let s = c in
     let e : s .args .passed + (s .args .from - s .args .from) ≡ s .args .passed = omega arith in
     (search needs, search needs, rw e (s .pre .1))
 
 mul-a : tie.Need-mul-a Inv-loop μ-loop
 mul-a c = search needs
 
-shared-slice-read-a : tie.Need-shared-slice-read-a Inv-loop μ-loop
-shared-slice-read-a c = search needs
+element-copy-out-a : tie.Need-element-copy-out-a Inv-loop μ-loop
+element-copy-out-a c = search needs
 
 mul-word : tie.Need-mul-word Inv-loop μ-loop
 mul-word c = search needs
@@ -47,7 +47,7 @@ met-requires : tie.Need-met-requires Inv-loop μ-loop
 met-requires c κs =
     let s = c .before .before .before .before .before .before .before in
     let a = s .args in
-    let l = c .before .before .before .loop in
+    let l = c .before .before .before .before .before .before .loop in
     let i = a .passed + (l .p - a .from) in
     let most : i ≤ length (a .lo .now) = omega (arith, s .pre .0) in (
       (search needs, most),
@@ -58,7 +58,7 @@ returns : tie.Need-returns Inv-loop μ-loop
 returns c =
     let s = c .before .before .before .before .before .before .before .before .before in
     let a = s .args in
-    let l = c .before .before .before .before .before .loop in (
+    let l = c .before .before .before .before .before .before .before .before .loop in (
       sym (turn-met (a .lo .now) (a .hi .now) (a .asker .now) (a .from) (a .to) (a .passed) (l .p) (search needs) (search needs) (s .pre .0 .1) (sym (c .before .met .ensures) ∙ c .if1 .taken)),
       λ e. absurd (false≢true e),
     )
@@ -79,7 +79,7 @@ loop-again : tie.Need-loop-again Inv-loop μ-loop
 loop-again c =
     let s = c .before .before .before .before .before .before .before .before .before in
     let a = s .args in
-    let l = c .before .before .before .before .before .loop in (
+    let l = c .before .before .before .before .before .before .before .before .loop in (
       search needs,
       search needs,
       turn-more (a .lo .now) (a .hi .now) (a .asker .now) (a .from) (a .to) (a .passed) (l .p) (search needs) (search needs) (s .pre .0 .1) (l .filter) (l .inv .2) (sym (c .before .met .ensures) ∙ c .if1 .left),
@@ -88,7 +88,7 @@ loop-again c =
 returns-2 : tie.Need-returns-2 Inv-loop μ-loop
 returns-2 c =
     let l = c .before .loop in
-    let e : l .p ≡ c .before .before .before .before .before .args .to = omega arith in
+    let e : l .p ≡ c .before .before .args .to = omega arith in
     let known = rw e at (l .inv .2) in
     (sym (known .apart), λ _. known)
 
@@ -100,7 +100,7 @@ no-twice-in-spec =
     μ-loop
     loop-holds
     mul-a
-    shared-slice-read-a
+    element-copy-out-a
     mul-word
     element-copy-out-word
     sub-met

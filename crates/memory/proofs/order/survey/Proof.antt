@@ -21,11 +21,11 @@ absent-requires c κs = search needs
 
 returns : tie.Need-returns
 returns c =
-    let a = c .before .before .before .before .before .before .before .before .args in
+    let a = c .before .before .before .before .before .args in
     let o = c .before .before .before .slices-in-order in
-    let known = o .ensures .1 (c .before .before .if1 .taken) in
+    let known = o .ensures .1 .0 (c .before .before .if1 .taken) in
     let qs = queriesIn (a .lo .now) (a .hi .now) (a .asker .now) (a .next) (a .count) in
-    (o .ensures .0, (c .absent .ensures ∙ ap looked (sym (lacks-absent _ qs (a .low) (a .high) known (c .before .if2 .taken))), omega arith))
+    (o .ensures .0, (c .absent .ensures ∙ ap looked (sym (lacks-absent _ qs (a .low) (a .high) known (c .before .if2 .taken))), o .ensures .1 .1))
 
 find-requires : tie.Need-find-requires
 find-requires c κs = search needs
