@@ -25,7 +25,8 @@ fn lines_in_order(lines: [Line; 8], room: usize) -> bool
     true
 }
 
-// Whether the remembered queries and the lines are in order, as a state has them, and the query that has the message's number.
+// Whether the remembered queries and the lines are in order, as a state has them, and the query that has the message's number. The lines
+// are tested first, so that they are copied once.
 pub(crate) fn survey<'a>(
     lo: &'a [u64; 512],
     hi: &'a [u64; 512],
@@ -39,16 +40,19 @@ pub(crate) fn survey<'a>(
     ensures order { λ r. ⌜ r .order ≡ inOrder (stationOf room lines (now (lo .entry)) (now (hi .entry)) (now (asker .entry)) count next) ⌝ }
     ensures known { λ r. ⌜ r .known ≡ looked (find (remembered (stationOf room lines (now (lo .entry)) (now (hi .entry)) (now (asker .entry)) count next)) (numberIn (now (m .entry)))) ⌝ }
 {
+    let good = lines_in_order(lines, room);
     let live = lives(lines);
     let low = low_half(m);
     let high = high_half(m);
     let s = memory::order::survey(lo, hi, asker, next, count, live, low, high);
-    if !s.order {
+    if good {
         return s;
     }
-    let order = lines_in_order(lines, room);
     let known = s.known;
-    Surveyed { order, known }
+    Surveyed {
+        order: false,
+        known,
+    }
 }
 
 // The same without a message: a number of ones is never looked up, but where a word of the filter is all ones.
