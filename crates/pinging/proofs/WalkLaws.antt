@@ -72,6 +72,7 @@ module _ (lines : List Line) (l clock : ℕ) where
   unfolding leftFrom
   left-next i h = let e : 80 - i ≡ suc (80 - (i + 1)) = omega arith in ap (λ n. leftFrom n i) e
 
+  -- the ranks of a line
   pub ranks-at : (k : ℕ) → k < 8 → getD (ranksIn lines l) k 0 ≡ ranksOf l k (getD lines k nowhere .pongcount)
   ranks-at zero h = refl
   ranks-at (suc zero) h = refl
@@ -107,22 +108,14 @@ module _ (lines : List Line) (l clock : ℕ) where
   left-past (suc n) i p =
       ap₂ _++_ (turn-past i (p (i % 8) (omega arith))) (left-past n (i + 1) (λ k h. let q = p k h in omega arith))
 
--- the largest of eight numbers is none below one of them, and ten at most where they are
-first-four : (a b c d m : ℕ)
-    → (a ≤ max (max (max a b) (max c d)) m) × (b ≤ max (max (max a b) (max c d)) m) × (c ≤ max (max (max a b) (max c d)) m) × (d ≤ max (max (max a b) (max c d)) m)
-first-four a b c d m = (omega arith, omega arith, omega arith, omega arith)
+-- the largest of eight numbers: none of them is above it
+left : {a b : ℕ} (c : ℕ) → a ≤ b → a ≤ max b c
+left c h = omega arith
 
-last-four : (a b c d m : ℕ)
-    → (a ≤ max m (max (max a b) (max c d))) × (b ≤ max m (max (max a b) (max c d))) × (c ≤ max m (max (max a b) (max c d))) × (d ≤ max m (max (max a b) (max c d)))
-last-four a b c d m = (omega arith, omega arith, omega arith, omega arith)
+right : {a c : ℕ} (b : ℕ) → a ≤ c → a ≤ max b c
+right b h = omega arith
 
 module _ (ns : List ℕ) where
-  abbrev firsts : ℕ
-  firsts = max (max (getD ns 0 0) (getD ns 1 0)) (max (getD ns 2 0) (getD ns 3 0))
-
-  abbrev lasts : ℕ
-  lasts = max (max (getD ns 4 0) (getD ns 5 0)) (max (getD ns 6 0) (getD ns 7 0))
-
   pub most-is : {a b c d e f r : ℕ} → a ≡ max (getD ns 0 0) (getD ns 1 0) → b ≡ max (getD ns 2 0) (getD ns 3 0)
       → c ≡ max (getD ns 4 0) (getD ns 5 0) → d ≡ max (getD ns 6 0) (getD ns 7 0) → e ≡ max a b → f ≡ max c d → r ≡ max e f → r ≡ mostOf ns
   unfolding mostOf
@@ -130,16 +123,17 @@ module _ (ns : List ℕ) where
 
   pub most-all : (k : ℕ) → k < 8 → getD ns k 0 ≤ mostOf ns
   unfolding mostOf
-  most-all zero h = first-four (getD ns 0 0) (getD ns 1 0) (getD ns 2 0) (getD ns 3 0) lasts .0
-  most-all (suc zero) h = first-four (getD ns 0 0) (getD ns 1 0) (getD ns 2 0) (getD ns 3 0) lasts .1
-  most-all (suc (suc zero)) h = first-four (getD ns 0 0) (getD ns 1 0) (getD ns 2 0) (getD ns 3 0) lasts .2
-  most-all (suc (suc (suc zero))) h = first-four (getD ns 0 0) (getD ns 1 0) (getD ns 2 0) (getD ns 3 0) lasts .3
-  most-all (suc (suc (suc (suc zero)))) h = last-four (getD ns 4 0) (getD ns 5 0) (getD ns 6 0) (getD ns 7 0) firsts .0
-  most-all (suc (suc (suc (suc (suc zero))))) h = last-four (getD ns 4 0) (getD ns 5 0) (getD ns 6 0) (getD ns 7 0) firsts .1
-  most-all (suc (suc (suc (suc (suc (suc zero)))))) h = last-four (getD ns 4 0) (getD ns 5 0) (getD ns 6 0) (getD ns 7 0) firsts .2
-  most-all (suc (suc (suc (suc (suc (suc (suc zero))))))) h = last-four (getD ns 4 0) (getD ns 5 0) (getD ns 6 0) (getD ns 7 0) firsts .3
+  most-all zero h = left _ (left _ (left _ (omega arith)))
+  most-all (suc zero) h = left _ (left _ (right _ (omega arith)))
+  most-all (suc (suc zero)) h = left _ (right _ (left _ (omega arith)))
+  most-all (suc (suc (suc zero))) h = left _ (right _ (right _ (omega arith)))
+  most-all (suc (suc (suc (suc zero)))) h = right _ (left _ (left _ (omega arith)))
+  most-all (suc (suc (suc (suc (suc zero))))) h = right _ (left _ (right _ (omega arith)))
+  most-all (suc (suc (suc (suc (suc (suc zero)))))) h = right _ (right _ (left _ (omega arith)))
+  most-all (suc (suc (suc (suc (suc (suc (suc zero))))))) h = right _ (right _ (right _ (omega arith)))
   most-all (suc (suc (suc (suc (suc (suc (suc (suc k)))))))) h = absurd (omega arith)
 
+-- and that of the ranks is at most ten
 most-ten : (lines : List Line) (l : ℕ) → mostOf (ranksIn lines l) ≤ 10
 unfolding mostOf
 most-ten lines l = both (both (both (ten 0) (ten 1)) (both (ten 2) (ten 3))) (both (both (ten 4) (ten 5)) (both (ten 6) (ten 7)))
