@@ -2,7 +2,7 @@
 -- Assumes nothing.
 use Prim.Native.Nat.{ℕ, _+_, _-_, _*_, _/_, _%_, _≤_, _<_, min, max}
 use mathlib.Core.Path.{_≡_, refl, sym, ap, ap₂, _∙_}
-use mathlib.Core.Bool.{Bool, true, false, cond, _||_}
+use mathlib.Core.Bool.{Bool, true, false, _||_}
 use mathlib.Core.List.{List, [], _∷_, _++_, append-nil}
 use native.Mathlib.Omega.{arith}
 use lib.ListN.{length, getD, take, drop, length-append}
@@ -19,7 +19,7 @@ use Rattle.protocol.specs.declared.Pong.{Pong}
 use Rattle.protocol.specs.declared.Line.{Line}
 use Rattle.protocol.specs.declared.Own.{Own}
 use Rattle.protocol.specs.Lines.{elapsed, isOther, nowhere, storedPongs}
-use Rattle.protocol.specs.Pings.{pongType, ownPong, ranked, keepIf, isFresh}
+use Rattle.protocol.specs.Pings.{pongType, ownPong, ranked, isFresh}
 use Rattle.pinging.specs.Sending.{pongMessage, storedMessage, storedBytes, storedFor, freshOf, ranksIn, mostOf, placeOf, ownBytes, pongsFor, pongsWritten, ownCount, pongCount, countWritten}
 use Rattle.laws.proofs.Ranks.{two-front, four-front, over-split, over-none}
 use Rattle.pinging.proofs.RingLaws.{pongIn, pongAt, ranked-place}

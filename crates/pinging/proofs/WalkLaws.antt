@@ -73,7 +73,7 @@ module _ (lines : List Line) (l clock : ℕ) where
   left-next i h = let e : 80 - i ≡ suc (80 - (i + 1)) = omega arith in ap (λ n. leftFrom n i) e
 
   -- the ranks of a line
-  pub ranks-at : (k : ℕ) → k < 8 → getD (ranksIn lines l) k 0 ≡ ranksOf l k (getD lines k nowhere .pongcount)
+  ranks-at : (k : ℕ) → k < 8 → getD (ranksIn lines l) k 0 ≡ ranksOf l k (getD lines k nowhere .pongcount)
   ranks-at zero h = refl
   ranks-at (suc zero) h = refl
   ranks-at (suc (suc zero)) h = refl

@@ -50,7 +50,15 @@ larger-requires-7 : tie.Need-larger-requires-7
 larger-requires-7 c κs = search needs
 
 returns : tie.Need-returns
-returns c = most-is (c .before .before .before .before .before .before .before .args .t1) (c .before .before .before .before .before .before .larger .ensures) (c .before .before .before .before .before .larger2 .ensures) (c .before .before .before .before .larger3 .ensures) (c .before .before .before .larger4 .ensures) (c .before .before .larger5 .ensures) (c .before .larger6 .ensures) (c .larger7 .ensures)
+returns c =
+    most-is (c .before .before .before .before .before .before .before .args .t1)
+    (c .before .before .before .before .before .before .larger .ensures)
+    (c .before .before .before .before .before .larger2 .ensures)
+    (c .before .before .before .before .larger3 .ensures)
+    (c .before .before .before .larger4 .ensures)
+    (c .before .before .larger5 .ensures)
+    (c .before .larger6 .ensures)
+    (c .larger7 .ensures)
 
 pub most-of-spec : {M : Type 1} → statement M
 most-of-spec =

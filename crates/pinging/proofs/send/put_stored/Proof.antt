@@ -20,7 +20,7 @@ most-of-requires : tie.Need-most-of-requires Inv-loop μ-loop
 most-of-requires c κs = search needs
 
 mul-turns : tie.Need-mul-turns Inv-loop μ-loop
-mul-turns c = omega (arith, most-few (c .before .before .before .args .t1) (c .before .before .before .args .line) (c .before .ranks-in .ensures) (c .most-of .ensures))
+mul-turns c = let x = c .before .before .before .args in omega (arith, most-few (x .t1) (x .line) (c .before .ranks-in .ensures) (c .most-of .ensures))
 
 loop-holds : tie.Need-loop-holds Inv-loop μ-loop
 loop-holds c = left-start _ _ _ _ _ _
@@ -112,7 +112,10 @@ returns-2 : tie.Need-returns-2 Inv-loop μ-loop
 returns-2 c =
     let x = c .before .before .before .before .before .args in
     let k = c .before .loop in
-    done-all (x .t1) (x .line) (x .clock) (x .number) (x .ttl) (k .sent) (k .i) (k .part) (x .part .now) (k .inv) (c .before .before .before .ranks-in .ensures) (c .before .before .most-of .ensures) (c .loop-test .left)
+    done-all (x .t1) (x .line) (x .clock) (x .number) (x .ttl) (k .sent) (k .i) (k .part) (x .part .now) (k .inv)
+    (c .before .before .before .ranks-in .ensures)
+    (c .before .before .most-of .ensures)
+    (c .loop-test .left)
 
 pub put-stored-spec : {M : Type 1} → statement M
 put-stored-spec =

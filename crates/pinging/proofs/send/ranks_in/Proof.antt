@@ -55,7 +55,15 @@ ranks-of-requires-8 c κs = search needs
 returns : tie.Need-returns
 returns c =
     let x = c .before .before .before .before .before .before .before .before .args in
-    ranks-are (x .t1) (x .line) (c .before .before .before .before .before .before .before .ranks-of .ensures) (c .before .before .before .before .before .before .ranks-of2 .ensures) (c .before .before .before .before .before .ranks-of3 .ensures) (c .before .before .before .before .ranks-of4 .ensures) (c .before .before .before .ranks-of5 .ensures) (c .before .before .ranks-of6 .ensures) (c .before .ranks-of7 .ensures) (c .ranks-of8 .ensures)
+    ranks-are (x .t1) (x .line)
+    (c .before .before .before .before .before .before .before .ranks-of .ensures)
+    (c .before .before .before .before .before .before .ranks-of2 .ensures)
+    (c .before .before .before .before .before .ranks-of3 .ensures)
+    (c .before .before .before .before .ranks-of4 .ensures)
+    (c .before .before .before .ranks-of5 .ensures)
+    (c .before .before .ranks-of6 .ensures)
+    (c .before .ranks-of7 .ensures)
+    (c .ranks-of8 .ensures)
 
 pub ranks-in-spec : {M : Type 1} → statement M
 ranks-in-spec =
