@@ -2,12 +2,12 @@
 -- Assumes nothing.
 use Prim.Native.Nat.{ℕ, zero, suc, _+_, _-_, _≤_, _<_}
 use mathlib.Core.Path.{_≡_, refl, sym, ap, ap₂, _∙_}
-use mathlib.Core.Bool.{Bool, true, false, cond, _&&_}
+use mathlib.Core.Bool.{Bool, true, false, cond, _&&_, and-false}
 use mathlib.Core.List.{List, [], _∷_, map}
 use native.Mathlib.Omega.{arith}
 use lib.Dec.{leb, ltb}
 use lib.ListN.{length, getD}
-use borrow.Author.Tests.{le-leb, lt-leb, lt-ltb, leb-true, ltb-true, ltb-false}
+use borrow.Author.Tests.{le-leb, lt-leb, lt-ltb, le-ltb, leb-true, ltb-true, ltb-false}
 use Rattle.laws.specs.Tests.{all}
 use Rattle.laws.specs.Ring.{back, placesBefore, keptPlaces}
 use Rattle.laws.proofs.Rings.{map-getD, back-below}
@@ -138,3 +138,12 @@ ranked-place x r = fits (leb (x .pongcount) 10) refl (ltb (x .pongnext) 10) refl
     fits true e true f = kept (ltb r count) refl (ltb-true next 10 f) (leb-true count 10 e)
     fits true e false f = refl
     fits false e b f = refl
+
+-- a rank past the count has no pong, and a ring that can't hold its count has none at all
+pub ranked-past : (x : Line) (r : ℕ) → cond (leb (x .pongcount) pongCapacity) (x .pongcount) 0 ≤ r → ranked r (storedPongs x) ≡ []
+unfolding placeOf
+ranked-past x r h = ranked-place x r ∙ ap (pongAt x) (go (leb (x .pongcount) 10) refl h)
+  where
+    go : (b : Bool) → leb (x .pongcount) 10 ≡ b → cond b (x .pongcount) 0 ≤ r → placeOf (x .pongnext) (x .pongcount) r ≡ 10
+    go true e k = rw (e, le-ltb r (x .pongcount) k, and-false)
+    go false e k = rw e

@@ -2,7 +2,7 @@
 -- Assumes nothing.
 use Prim.Native.Nat.{ℕ, _+_, _-_, _*_, _/_, _%_, _≤_, _<_, min, max}
 use mathlib.Core.Path.{_≡_, refl, sym, ap, ap₂, _∙_}
-use mathlib.Core.Bool.{Bool, true, false, cond, _||_}
+use mathlib.Core.Bool.{Bool, true, false, _||_}
 use mathlib.Core.List.{List, [], _∷_, _++_, append-nil}
 use native.Mathlib.Omega.{arith}
 use lib.ListN.{length, getD, take, drop, length-append}
@@ -19,11 +19,11 @@ use Rattle.protocol.specs.declared.Pong.{Pong}
 use Rattle.protocol.specs.declared.Line.{Line}
 use Rattle.protocol.specs.declared.Own.{Own}
 use Rattle.protocol.specs.Lines.{elapsed, isOther, nowhere, storedPongs}
-use Rattle.protocol.specs.Pings.{pongType, ownPong, ranked, keepIf, isFresh}
-use Rattle.pinging.specs.Sending.{pongMessage, storedMessage, storedBytes, storedFor, turnOf, placeOf, ownBytes, pongsFor, pongsWritten, ownCount, pongCount, countWritten}
+use Rattle.protocol.specs.Pings.{pongType, ownPong, ranked, isFresh}
+use Rattle.pinging.specs.Sending.{pongMessage, storedMessage, storedBytes, storedFor, freshOf, ranksIn, mostOf, placeOf, ownBytes, pongsFor, pongsWritten, ownCount, pongCount, countWritten}
 use Rattle.laws.proofs.Ranks.{two-front, four-front, over-split, over-none}
 use Rattle.pinging.proofs.RingLaws.{pongIn, pongAt, ranked-place}
-use Rattle.pinging.proofs.WalkLaws.{turnAt, leftFrom, walk-turns, left-next, left-none, ten-next, turn-one, bytes-append}
+use Rattle.pinging.proofs.WalkLaws.{turnAt, leftFrom, walk-turns, left-next, turn-past, turn-other, left-past, most-all, most-few, ten-next, turn-one, bytes-append}
 
 -- two bytes, four, and two times four
 pub all-joined : (port address files kilobytes : List ℕ) → length port ≡ 2 → length address ≡ 4 → length files ≡ 4 → length kilobytes ≡ 4
@@ -64,31 +64,19 @@ own-said own number payload part left ttl r probe e p n k b =
     let q : pongMessage number ttl 0 payload ≡ ownBytes own number ttl probe = ap (pongMessage number ttl 0) p ∙ sym (rw e) in
     (n ∙ ap length q, (rw e k, b ∙ ap (λ l. over 0 l part) q))
 
--- the ping's own line gives nothing
-pub turn-own : (x : Line) (other : Bool) (rank clock : ℕ) → other ≡ false → turnOf other x rank clock ≡ []
-turn-own x other rank clock e = rw e
-
 -- what a turn gives, by the place of its rank
-module _ (x : Line) (other : Bool) (rank clock place : ℕ) (at : place ≡ placeOf (x .pongnext) (x .pongcount) rank) where
+module _ (x : Line) (rank clock place : ℕ) (at : place ≡ placeOf (x .pongnext) (x .pongcount) rank) where
   found : ranked rank (storedPongs x) ≡ pongAt x place
   found = ranked-place x rank ∙ ap (pongAt x) (sym at)
 
-  pub turn-none : 10 ≤ place → turnOf other x rank clock ≡ []
-  turn-none h = rw (found, le-ltb place 10 h) (go other)
-    where
-      go : (b : Bool) → cond b (keepIf (isFresh clock) []) [] ≡ []
-      go true = refl
-      go false = refl
+  pub turn-none : 10 ≤ place → freshOf x rank clock ≡ []
+  turn-none h = rw (found, le-ltb place 10 h)
 
-  pub turn-old : place < 10 → 15000 ≤ elapsed clock (pongIn x place .clock) → turnOf other x rank clock ≡ []
-  turn-old h old = rw (found, lt-ltb place 10 h, le-ltb (elapsed clock (pongIn x place .clock)) 15000 old) (go other)
-    where
-      go : (b : Bool) → cond {A = List Pong} b [] [] ≡ []
-      go true = refl
-      go false = refl
+  pub turn-old : place < 10 → 15000 ≤ elapsed clock (pongIn x place .clock) → freshOf x rank clock ≡ []
+  turn-old h old = rw (found, lt-ltb place 10 h, le-ltb (elapsed clock (pongIn x place .clock)) 15000 old)
 
-  pub turn-fresh : place < 10 → elapsed clock (pongIn x place .clock) < 15000 → other ≡ true → turnOf other x rank clock ≡ pongIn x place ∷ []
-  turn-fresh h fresh e = rw (e, found, lt-ltb place 10 h, lt-ltb (elapsed clock (pongIn x place .clock)) 15000 fresh)
+  pub turn-fresh : place < 10 → elapsed clock (pongIn x place .clock) < 15000 → freshOf x rank clock ≡ pongIn x place ∷ []
+  turn-fresh h fresh = rw (found, lt-ltb place 10 h, lt-ltb (elapsed clock (pongIn x place .clock)) 15000 fresh)
 
 module _ (number : List ℕ) (ttl : ℕ) (ps : List Pong) (part : List ℕ) where
   -- what a turn leaves: how many, how many bytes, and the part
@@ -178,11 +166,6 @@ module _ (lines : List Line) (l clock : ℕ) (number : List ℕ) (ttl : ℕ) whe
           count = let z = ap length pongs in let y = length-append turn (rest (s + r) (i + 1)) in let u = v .count in omega arith;
         }
 
-    pub left-turn : (other : Bool) (r : ℕ) (left : List ℕ) → other ≡ isOther l (i % 8) → i < 80 → s < 10 → 370 ≤ length start
-        → Put number ttl (turnOf other (getD lines (i % 8) nowhere) (i / 8) clock) (take (length area - 37 * s) (drop (37 * s) area)) r left
-        → Left (s + r) (i + 1) (putMid (37 * s) (length area - 37 * s) area left) start
-    left-turn other r left e hi hs room p = left-step r left hi hs room (rw e at p)
-
     done : rest s i ≡ [] → (37 * s ≡ length whole) × ((37 * s ≤ 370) × ((37 * s ≡ 37 * length (storedFor lines l clock)) × (area ≡ over 0 whole start)))
     done e =
         let z : storedBytes number ttl (rest s i) ≡ [] = ap (storedBytes number ttl) e in
@@ -196,8 +179,36 @@ module _ (lines : List Line) (l clock : ℕ) (number : List ℕ) (ttl : ℕ) whe
     pub done-ten : 10 ≤ s → (37 * s ≡ length whole) × ((37 * s ≤ 370) × ((37 * s ≡ 37 * length (storedFor lines l clock)) × (area ≡ over 0 whole start)))
     done-ten h = let e : 10 - s ≡ 0 = omega arith in done (ap (λ n. take n (leftFrom lines l clock (80 - i) i)) e)
 
-    pub done-all : 80 ≤ i → (37 * s ≡ length whole) × ((37 * s ≤ 370) × ((37 * s ≡ 37 * length (storedFor lines l clock)) × (area ≡ over 0 whole start)))
-    done-all h = done (ap (take (10 - s)) (left-none lines l clock i h) ∙ take-nil (10 - s))
+    -- by the ranks of the lines, and m the most of them
+    module _ {ranks : List ℕ} {m : ℕ} (er : ranks ≡ ranksIn lines l) (em : m ≡ mostOf ranks) where
+      below : i < 8 * m → i < 80
+      below h = let few = most-few lines l er em in omega arith
+
+      pub left-skip : i < 8 * m → getD ranks (i % 8) 0 ≤ i / 8 → Left s (i + 1) area start
+      left-skip h k =
+          let hi : i < 80 = below h in
+          let same : rest s i ≡ rest s (i + 1) =
+          ap (take (10 - s)) (left-next lines l clock i hi ∙ ap (λ t. t ++ leftFrom lines l clock (80 - (i + 1)) (i + 1)) (turn-past lines l clock i (rw er at k))) in
+          record {
+            few = v .few;
+            turns = omega arith;
+            long = v .long;
+            bytes = ap (λ ps. over (37 * s) (storedBytes number ttl ps) area) (sym same) ∙ v .bytes;
+            size = let z = ap (λ ps. length (storedBytes number ttl ps)) same in let u = v .size in omega arith;
+            count = let z = ap length same in let u = v .count in omega arith;
+          }
+
+      pub left-turn : (r : ℕ) (left : List ℕ) → i < 8 * m → i / 8 < getD ranks (i % 8) 0 → s < 10 → 370 ≤ length start
+          → Put number ttl (freshOf (getD lines (i % 8) nowhere) (i / 8) clock) (take (length area - 37 * s) (drop (37 * s) area)) r left
+          → Left (s + r) (i + 1) (putMid (37 * s) (length area - 37 * s) area left) start
+      left-turn r left h k hs room p = left-step r left (below h) hs room (rw (turn-other lines l clock i (rw er at k)) p)
+
+      pub done-all : 8 * m ≤ i → (37 * s ≡ length whole) × ((37 * s ≤ 370) × ((37 * s ≡ 37 * length (storedFor lines l clock)) × (area ≡ over 0 whole start)))
+      done-all h =
+          let y : m ≡ mostOf (ranksIn lines l) = em ∙ ap mostOf er in
+          done
+          (ap (take (10 - s)) (left-past lines l clock (80 - i) i (λ k b. let q = most-all (ranksIn lines l) k b in omega arith))
+          ∙ take-nil (10 - s))
 
 -- the whole answer
 module _ (lines : List Line) (l clock : ℕ) (own : Own) (number : List ℕ) (hops ttl : ℕ) (bears : ttl ≡ max 1 hops) (out : List ℕ) (room : 407 ≤ length out) where

@@ -51,9 +51,27 @@ storedMessage number ttl p = pongMessage number ttl (min 255 (p .hops + 1)) (p .
 abbrev pub storedBytes : List ℕ → ℕ → List Pong → List ℕ
 storedBytes number ttl ps = flat (map (storedMessage number ttl) ps)
 
--- one turn of the walk: the fresh pong of this rank, where the line is another than the ping's and has one
+-- the line's pong of this rank, where it has a fresh one
+abbrev pub freshOf : Line → ℕ → ℕ → List Pong
+freshOf x rank clock = keepIf (isFresh clock) (ranked rank (storedPongs x))
+
+-- one turn of the walk: that pong, where the line is another than the ping's
 abbrev pub turnOf : Bool → Line → ℕ → ℕ → List Pong
-turnOf other x rank clock = cond other (keepIf (isFresh clock) (ranked rank (storedPongs x))) []
+turnOf other x rank clock = cond other (freshOf x rank clock) []
+
+-- how many ranks of line k's pongs are walked: none of the ping's own line l, nor of a ring that can't hold so many
+abbrev pub ranksOf : ℕ → ℕ → ℕ → ℕ
+ranksOf l k count = cond (isOther l k && leb count pongCapacity) count 0
+
+-- the same of each line
+abbrev pub ranksIn : List Line → ℕ → List ℕ
+ranksIn lines l = map (λ k. ranksOf l k (getD lines k nowhere .pongcount)) lineNumbers
+
+-- the largest of eight numbers
+unfoldable pub mostOf : List ℕ → ℕ
+mostOf ns =
+    max (max (max (getD ns 0 0) (getD ns 1 0)) (max (getD ns 2 0) (getD ns 3 0)))
+    (max (max (getD ns 4 0) (getD ns 5 0)) (max (getD ns 6 0) (getD ns 7 0)))
 
 -- the own pong: to a probe always, else where the station takes calls
 abbrev pub ownBytes : Own → List ℕ → ℕ → Bool → List ℕ

@@ -1,11 +1,11 @@
 // The pongs that answer a ping: this station's own, and up to ten stored ones of the other lines.
 ghost use mathlib.Core.Path.{_≡_};
 ghost use mathlib.Core.Bool.{_||_};
-ghost use Prim.Native.Nat.{_*_, _≤_};
+ghost use Prim.Native.Nat.{_*_, _≤_, max};
 ghost use lib.ListN.{length};
 ghost use Rattle.laws.specs.Parts.{over};
 ghost use Rattle.protocol.specs.Lines.{isOther};
-ghost use Rattle.pinging.specs.Sending.{placeOf, pongMessage, ownBytes, turnOf, storedBytes, storedFor, pongsWritten, ownCount, countWritten};
+ghost use Rattle.pinging.specs.Sending.{placeOf, pongMessage, ownBytes, freshOf, ranksOf, ranksIn, mostOf, storedBytes, storedFor, pongsWritten, ownCount, countWritten};
 use crate::clock::elapsed_ms;
 use crate::messages::one_hop_more;
 use crate::messages::own_payload;
@@ -85,25 +85,59 @@ fn put_own(own: Own, number: [u8; 16], ttl: u8, probe: bool, part: &mut [u8]) ->
     put_pong(number, ttl, 0, payload, part)
 }
 
-// The pong of this rank at the front of the part, if the line is another than the ping's and has a fresh one; how many were put.
-fn put_turn(
-    x: Line,
-    other: bool,
-    rank: usize,
-    clock: u32,
-    number: [u8; 16],
-    ttl: u8,
-    part: &mut [u8],
-) -> usize
-    requires { ⌜ 37 ≤ length (now part) ⌝ }
-    ensures count { λ r. ⌜ r ≡ length (turnOf other x rank clock) ⌝ }
-    ensures few { λ r. ⌜ r ≤ 1 ⌝ }
-    ensures size { λ r. ⌜ 37 * r ≡ length (storedBytes number ttl (turnOf other x rank clock)) ⌝ }
-    ensures bytes { λ _. ⌜ now (part .exit) ≡ over 0 (storedBytes number ttl (turnOf other x rank clock)) (now (part .entry)) ⌝ }
+// How many ranks of line k's pongs the walk goes through: none of the ping's own line, nor of a ring that can't hold so many.
+fn ranks_of(line: u32, k: usize, count: usize) -> usize
+    ensures { λ r. ⌜ r ≡ ranksOf line k count ⌝ }
 {
-    if !other {
+    if !is_other(line, k) {
         return 0;
     }
+    if 10 < count {
+        return 0;
+    }
+    count
+}
+
+// The same of each line. The walk looks here, and copies a line only where it has a pong of the rank.
+fn ranks_in(lines: [Line; 8], line: u32) -> [usize; 8]
+    ensures { λ r. ⌜ r ≡ ranksIn lines line ⌝ }
+{
+    let a = ranks_of(line, 0, lines[0].pongcount);
+    let b = ranks_of(line, 1, lines[1].pongcount);
+    let c = ranks_of(line, 2, lines[2].pongcount);
+    let d = ranks_of(line, 3, lines[3].pongcount);
+    let e = ranks_of(line, 4, lines[4].pongcount);
+    let f = ranks_of(line, 5, lines[5].pongcount);
+    let g = ranks_of(line, 6, lines[6].pongcount);
+    let h = ranks_of(line, 7, lines[7].pongcount);
+    [a, b, c, d, e, f, g, h]
+}
+
+fn larger(a: usize, b: usize) -> usize
+    ensures { λ r. ⌜ r ≡ max a b ⌝ }
+{
+    if a < b { b } else { a }
+}
+
+// The largest of the eight.
+fn most_of(ranks: [usize; 8]) -> usize
+    ensures { λ r. ⌜ r ≡ mostOf ranks ⌝ }
+{
+    let a = larger(ranks[0], ranks[1]);
+    let b = larger(ranks[2], ranks[3]);
+    let c = larger(ranks[4], ranks[5]);
+    let d = larger(ranks[6], ranks[7]);
+    larger(larger(a, b), larger(c, d))
+}
+
+// The line's pong of this rank at the front of the part, if it has a fresh one; how many were put.
+fn put_turn(x: Line, rank: usize, clock: u32, number: [u8; 16], ttl: u8, part: &mut [u8]) -> usize
+    requires { ⌜ 37 ≤ length (now part) ⌝ }
+    ensures count { λ r. ⌜ r ≡ length (freshOf x rank clock) ⌝ }
+    ensures few { λ r. ⌜ r ≤ 1 ⌝ }
+    ensures size { λ r. ⌜ 37 * r ≡ length (storedBytes number ttl (freshOf x rank clock)) ⌝ }
+    ensures bytes { λ _. ⌜ now (part .exit) ≡ over 0 (storedBytes number ttl (freshOf x rank clock)) (now (part .entry)) ⌝ }
+{
     let place = place_of(x.pongnext, x.pongcount, rank);
     if 10 <= place {
         return 0;
@@ -132,19 +166,24 @@ fn put_stored(
     ensures count { λ r. ⌜ r ≡ 37 * length (storedFor lines line clock) ⌝ }
     ensures bytes { λ _. ⌜ now (part .exit) ≡ over 0 (storedBytes number ttl (storedFor lines line clock)) (now (part .entry)) ⌝ }
 {
+    let ranks = ranks_in(lines, line);
+    let turns = 8 * most_of(ranks);
     let mut sent = 0;
     let mut i = 0;
-    while i < 80 {
+    while i < turns {
         if 10 <= sent {
             return 37 * sent;
         }
         let k = i % 8;
-        let x = lines[k];
-        let other = is_other(line, k);
-        let at = 37 * sent;
-        let put = put_turn(x, other, i / 8, clock, number, ttl, &mut part[at..]);
-        sent += put;
+        let rank = i / 8;
         i += 1;
+        if ranks[k] <= rank {
+            continue;
+        }
+        let x = lines[k];
+        let at = 37 * sent;
+        let put = put_turn(x, rank, clock, number, ttl, &mut part[at..]);
+        sent += put;
     }
     37 * sent
 }

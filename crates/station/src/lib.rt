@@ -1,4 +1,4 @@
-// Floor 4: the station's calls. The rules are the definitions of crate protocol; the work is done by the crates below, each on the slices and numbers it
+// Floor 5: the station's calls. The rules are the definitions of crate protocol; the work is done by the crates below, each on the slices and numbers it
 // needs. Only the calls hold a state.
 mod act;
 pub mod acted;
