@@ -6,19 +6,19 @@ use Prim.Native.Nat.{ℕ, suc, _+_, _≤_, _<_}
 use native.Mathlib.Nat.{add-assoc}
 use native.Mathlib.Omega.{arith}
 use lib.Dec.{eqb}
-use lib.ListN.{length, drop, length-drop, length-append, drop-of-length-le}
+use lib.ListN.{length, getD, take, drop, length-drop, length-append, drop-of-length-le}
 use lib.Seq.{drop-drop, drop-length, length-take-le}
 use borrow.Author.Tests.{eq-eqb, ne-eqb}
 use Rattle.laws.specs.Tests.{all}
 use Rattle.laws.specs.Parts.{over}
 use Rattle.laws.proofs.Text.{over-append}
-use Rattle.handshake.specs.Text.{leading, isBlank, sameName}
-use Rattle.handshake.specs.Lines.{inLine, lineLength, lineAt, linesOf, onto, firstLine, otherLines}
-use Rattle.handshake.specs.Fields.{continues, nameOf, nameLength, valueOf, withoutBlanks, continued, fieldsOf, valuesOf, commaEach, commaBetween, isNone, isAbsent, valueFor, lineOk, linesOk}
+use Rattle.handshake.specs.Text.{leading, isBlank, isText, sameName}
+use Rattle.handshake.specs.Lines.{inLine, lineLength, lineEnds, lineAt, linesOf, onto, firstLine, otherLines}
+use Rattle.handshake.specs.Fields.{continues, nameOf, nameLength, valueOf, withoutBlanks, continued, fieldsOf, valuesOf, commaEach, commaBetween, isNone, isAbsent, valueFor, fieldOk, lineOk, linesOk}
 use Rattle.handshake.specs.Step.{stepFrom, stepOf, valueStart, separated, addedBy}
 use Rattle.handshake.specs.declared.fields.Step.{Step}
 use Rattle.handshake.proofs.TextLaws.{run-length}
-use Rattle.handshake.proofs.LineLaws.{lines-step, lines-first, lines-others}
+use Rattle.handshake.proofs.LineLaws.{lines-step, lines-first, lines-others, leading-all, text-line, text-broken}
 
 -- ---- a line of the lines from a place on
 
@@ -223,6 +223,37 @@ module _ (s line : List ℕ) (next : ℕ) (h : next < length s) (e : line ≡ li
           omega (arith, ap length streamed-on, n),
           over-append at (addedBy st line) rest out (omega (arith, ap length streamed-on, n)) ∙ ap (λ x. over at x out) (sym streamed-on),
         )
+
+-- the text from a place on, of n bytes
+module _ (s rest : List ℕ) (next n : ℕ) (h : next < length s) (e : rest ≡ drop next s) (k : n ≡ leading isText rest) where
+  pub text-fits : next + n ≤ length s
+  text-fits = omega (arith, run-length (λ t. isText (getD t 0 0)) rest, ap length e, length-drop next s)
+
+  -- it does not end as a line does
+  pub text-not : (before : Bool) → lineEnds (drop n rest) ≡ false → linesOk before (linesOf (drop next s)) ≡ false
+  unfolding lineAt
+  text-not before t =
+      let u : all isText (lineAt s next) ≡ false = text-broken (drop next s) (rw (← e, ← k) t) in
+      ok-not s (lineAt s next) next h refl before (rw u)
+
+  module _ (line : List ℕ) (t : lineEnds (drop n rest) ≡ true) (g : line ≡ take n rest) where
+    text-at : line ≡ lineAt s next
+    unfolding lineAt
+    text-at =
+        let z : n ≡ lineLength (drop next s) = k ∙ text-line rest (rw (← k) t) ∙ ap lineLength e in
+        g ∙ rw (e, z)
+
+    text-size : length line ≡ n
+    text-size = ap length g ∙ length-take-le n rest (omega (arith, run-length (λ t. isText (getD t 0 0)) rest))
+
+    is-text : all isText line ≡ true
+    is-text = rw (g, k) (leading-all isText rest)
+
+    pub text-ok-on : (before : Bool) → fieldOk before line ≡ true → linesOk before (linesOf (drop next s)) ≡ linesOk true (linesOf (drop (next + n + 2) s))
+    text-ok-on before v = rw (← text-size) (ok-on s line next h text-at before (rw (is-text, v)))
+
+    pub text-ok-not : (before : Bool) → fieldOk before line ≡ false → linesOk before (linesOf (drop next s)) ≡ false
+    text-ok-not before v = ok-not s line next h text-at before (rw (is-text, v))
 
 pub none-separated : (b : ℕ) → b ≡ 0 → separated b ≡ []
 none-separated b e = rw (eq-eqb b 0 e)

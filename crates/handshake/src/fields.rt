@@ -1,5 +1,6 @@
 // The lines behind the first: whether they are fields, and the value of a name.
 use crate::lines::line_at;
+use crate::lines::line_ends;
 use crate::text::BLANK;
 use crate::text::NAME;
 use crate::text::TEXT;
@@ -16,7 +17,7 @@ ghost use Prim.Native.Nat.{_+_, _≤_};
 ghost use lib.ListN.{length};
 ghost use Rattle.laws.specs.Parts.{over};
 ghost use Rattle.handshake.specs.Lines.{linesOf};
-ghost use Rattle.handshake.specs.Fields.{continues, isField, lineOk, linesOk, valueFor};
+ghost use Rattle.handshake.specs.Fields.{continues, isField, fieldOk, linesOk, valueFor};
 ghost use Rattle.handshake.specs.Step.{passed, stepFrom, stepOf, separated, foundIn};
 
 // A line that begins with a blank goes on with the value before it.
@@ -38,13 +39,10 @@ fn is_field(line: &[u8]) -> bool
     b == b':'
 }
 
-// All of the line is text, and it is a field or, where a field stands before it, goes on.
-fn line_ok(before: bool, line: &[u8]) -> bool
-    ensures { λ r. ⌜ r ≡ lineOk before (now (line .entry)) ⌝ }
+// The line is a field or, where a field stands before it, goes on.
+fn field_ok(before: bool, line: &[u8]) -> bool
+    ensures { λ r. ⌜ r ≡ fieldOk before (now (line .entry)) ⌝ }
 {
-    if leading(line, TEXT) != line.len() {
-        return false;
-    }
     if is_field(line) {
         return true;
     }
@@ -54,19 +52,23 @@ fn line_ok(before: bool, line: &[u8]) -> bool
     false
 }
 
-// The lines are fields, each with the lines that go on with it.
+// The lines are fields, each with the lines that go on with it. A line is looked at once: its text ends where the line does.
 pub fn lines_ok(s: &[u8]) -> bool
     ensures { λ r. ⌜ r ≡ linesOk false (linesOf (now (s .entry))) ⌝ }
 {
     let mut next: usize = 0;
     let mut before = false;
     while next < s.len() {
-        let line = line_at(s, next);
-        if !line_ok(before, line) {
+        let rest = after(s, next);
+        let n = leading(rest, TEXT);
+        if !line_ends(rest, n) {
+            return false;
+        }
+        if !field_ok(before, front(rest, n)) {
             return false;
         }
         before = true;
-        next = next + line.len() + 2;
+        next = next + n + 2;
     }
     true
 }

@@ -3,7 +3,8 @@ use crate::text::after;
 use crate::text::front;
 ghost use mathlib.Core.Path.{_≡_};
 ghost use Prim.Native.Nat.{_≤_, min};
-ghost use Rattle.handshake.specs.Lines.{pairAt, endsAt, groupLength, lineLength, lineAt};
+ghost use lib.ListN.{drop};
+ghost use Rattle.handshake.specs.Lines.{pairAt, endsAt, groupLength, lineLength, lineEnds, lineAt};
 
 // CR and LF stand at place `at`.
 fn pair_at(m: &[u8], at: usize) -> bool
@@ -72,6 +73,16 @@ fn line_length(s: &[u8]) -> usize
         i += 1;
     }
     i
+}
+
+// Nothing is left at place n, or CR and LF stand there.
+pub fn line_ends(s: &[u8], n: usize) -> bool
+    ensures { λ r. ⌜ r ≡ lineEnds (drop n (now (s .entry))) ⌝ }
+{
+    if n >= s.len() {
+        return true;
+    }
+    pair_at(s, n)
 }
 
 // The line that starts at a place, without its end.
