@@ -8,16 +8,16 @@ use native.Mathlib.Omega.{arith}
 use lib.Dec.{eqb}
 use lib.ListN.{length, getD, take, drop, length-drop, length-append, drop-of-length-le}
 use lib.Seq.{drop-drop, drop-length, length-take-le}
-use borrow.Author.Tests.{eq-eqb, ne-eqb}
+use borrow.Author.Tests.{eq-eqb, ne-eqb, eqb-true, eqb-false}
 use Rattle.laws.specs.Tests.{all}
 use Rattle.laws.specs.Parts.{over}
 use Rattle.laws.proofs.Text.{over-append}
-use Rattle.handshake.specs.Text.{leading, isBlank, isText, sameName}
+use Rattle.handshake.specs.Text.{leading, isBlank, isName, isText, sameName}
 use Rattle.handshake.specs.Lines.{inLine, lineLength, lineEnds, lineAt, linesOf, onto, firstLine, otherLines}
 use Rattle.handshake.specs.Fields.{continues, nameOf, nameLength, valueOf, withoutBlanks, continued, fieldsOf, valuesOf, commaEach, commaBetween, isNone, isAbsent, valueFor, fieldOk, lineOk, linesOk}
 use Rattle.handshake.specs.Step.{stepFrom, stepOf, valueStart, separated, addedBy}
 use Rattle.handshake.specs.declared.fields.Step.{Step}
-use Rattle.handshake.proofs.TextLaws.{run-length}
+use Rattle.handshake.proofs.TextLaws.{run-length, same-lengths}
 use Rattle.handshake.proofs.LineLaws.{lines-step, lines-first, lines-others, leading-all, text-line, text-broken}
 
 -- ---- a line of the lines from a place on
@@ -58,6 +58,27 @@ not-all-case false u m n f e = refl
 pub not-all-run : (f : ℕ → Bool) (s : List ℕ) → (leading f s ≡ length s → ⊥) → all f s ≡ false
 not-all-run f [] e = let z : _≡_ {A = ℕ} 0 1 = omega (arith, e refl) in cc
 not-all-run f (b ∷ bs) e = not-all-case (f b) (all f bs) (leading f bs) (length bs) (not-all-run f bs) e
+
+-- ---- the name of a line
+
+module _ (line name : List ℕ) where
+  name-other : (nameLength line ≡ length name → ⊥) → sameName (nameOf line) name ≡ false
+  name-other h =
+      let size : length (nameOf line) ≡ nameLength line = length-take-le (nameLength line) line (run-length (λ t. isName (getD t 0 0)) line) in
+      same-lengths true (nameOf line) name (λ e. h (sym size ∙ e))
+
+  -- it is this one where the first bytes are, and it is as long
+  pub name-is : (u : Bool) → sameName (take (length name) line) name ≡ u → sameName (nameOf line) name ≡ (u && eqb (nameLength line) (length name))
+  name-is u h = one u (eqb (nameLength line) (length name)) refl h
+    where
+      front : (u : Bool) → eqb (nameLength line) (length name) ≡ true → sameName (take (length name) line) name ≡ u → sameName (nameOf line) name ≡ u
+      front u e h = ap (λ k. sameName (take k line) name) (eqb-true (nameLength line) (length name) e) ∙ h
+
+      one : (u t : Bool) → eqb (nameLength line) (length name) ≡ t → sameName (take (length name) line) name ≡ u → sameName (nameOf line) name ≡ (u && t)
+      one true true e h = front true e h
+      one false true e h = front false e h
+      one true false e h = name-other (eqb-false (nameLength line) (length name) e)
+      one false false e h = name-other (eqb-false (nameLength line) (length name) e)
 
 -- ---- going through the lines for a name
 

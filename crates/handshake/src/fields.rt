@@ -16,9 +16,10 @@ ghost use mathlib.Core.List.{_++_};
 ghost use Prim.Native.Nat.{_+_, _≤_};
 ghost use lib.ListN.{length};
 ghost use Rattle.laws.specs.Parts.{over};
+ghost use Rattle.handshake.specs.Text.{sameName};
 ghost use Rattle.handshake.specs.Lines.{linesOf};
-ghost use Rattle.handshake.specs.Fields.{continues, isField, fieldOk, linesOk, valueFor};
-ghost use Rattle.handshake.specs.Step.{passed, stepFrom, stepOf, separated, foundIn};
+ghost use Rattle.handshake.specs.Fields.{continues, isField, nameOf, fieldOk, linesOk, valueFor};
+ghost use Rattle.handshake.specs.Step.{passed, valueStart, stepOf, separated, foundIn};
 
 // A line that begins with a blank goes on with the value before it.
 fn continues(line: &[u8]) -> bool
@@ -100,57 +101,49 @@ fn passed(found: bool, length: usize) -> Step
     }
 }
 
+// The line has the name. Most lines do not, and differ in their first bytes.
+fn is_named(line: &[u8], name: &[u8]) -> bool
+    ensures { λ r. ⌜ r ≡ sameName (nameOf (now (line .entry))) (now (name .entry)) ⌝ }
+{
+    if !same(true, front(line, name.len()), name) {
+        return false;
+    }
+    leading(line, NAME) == name.len()
+}
+
+// Where the value of a field starts: behind the colon and the blanks.
+fn value_start(line: &[u8]) -> usize
+    ensures { λ r. ⌜ r ≡ valueStart (now (line .entry)) ⌝ }
+{
+    let colon = leading(line, NAME) + 1;
+    colon + leading(after(line, colon), BLANK)
+}
+
 // A line that goes on adds to the value where the last field has the name, behind a space; a field of the name does, behind a comma where
 // it is not the first.
-fn step_from(
-    goes_on: bool,
-    named: bool,
-    mine: bool,
-    found: bool,
-    blanks: usize,
-    start: usize,
-    length: usize,
-) -> Step
-    ensures { λ r. ⌜ r ≡ stepFrom «goes_on» named mine found blanks start length ⌝ }
+fn line_step(name: &[u8], mine: bool, found: bool, line: &[u8]) -> Step
+    ensures { λ r. ⌜ r ≡ stepOf (now (name .entry)) mine found (now (line .entry)) ⌝ }
 {
-    if goes_on {
+    if continues(line) {
         if mine {
             return Step {
                 mine: true,
                 found,
                 separator: b' ',
-                from: blanks,
+                from: leading(line, BLANK),
             };
         }
-        return passed(found, length);
+        return passed(found, line.len());
     }
-    if named {
+    if is_named(line, name) {
         return Step {
             mine: true,
             found: true,
             separator: comma(found),
-            from: start,
+            from: value_start(line),
         };
     }
-    passed(found, length)
-}
-
-fn line_step(name: &[u8], mine: bool, found: bool, line: &[u8]) -> Step
-    ensures { λ r. ⌜ r ≡ stepOf (now (name .entry)) mine found (now (line .entry)) ⌝ }
-{
-    let n = leading(line, NAME);
-    let named = same(true, front(line, n), name);
-    let colon = n + 1;
-    let start = colon + leading(after(line, colon), BLANK);
-    step_from(
-        continues(line),
-        named,
-        mine,
-        found,
-        leading(line, BLANK),
-        start,
-        line.len(),
-    )
+    passed(found, line.len())
 }
 
 // Whether a field of the name is there, and how long its value is.
