@@ -5,13 +5,13 @@ use mathlib.Core.List.{List, [], _∷_, _++_, append-assoc}
 use Prim.Native.Nat.{ℕ, suc, _+_, _≤_, _<_}
 use native.Mathlib.Nat.{add-assoc}
 use native.Mathlib.Omega.{arith}
-use lib.Dec.{eqb}
+use lib.Dec.{ltb, eqb}
 use lib.ListN.{length, getD, take, drop, length-drop, length-append, drop-of-length-le}
 use lib.Seq.{drop-drop, drop-length, length-take-le}
-use borrow.Author.Tests.{eq-eqb, ne-eqb, eqb-true, eqb-false}
+use borrow.Author.Tests.{eq-eqb, ne-eqb, eqb-true, eqb-false, ltb-true, ltb-false}
 use Rattle.laws.specs.Tests.{all}
 use Rattle.laws.specs.Parts.{over}
-use Rattle.laws.proofs.Text.{over-append}
+use Rattle.laws.proofs.Text.{over-append, over-none}
 use Rattle.handshake.specs.Text.{leading, isBlank, isName, isText, sameName}
 use Rattle.handshake.specs.Lines.{inLine, lineLength, lineEnds, lineAt, linesOf, onto, firstLine, otherLines}
 use Rattle.handshake.specs.Fields.{continues, nameOf, nameLength, valueOf, withoutBlanks, continued, fieldsOf, valuesOf, commaEach, commaBetween, isNone, isAbsent, valueFor, fieldOk, lineOk, linesOk}
@@ -275,6 +275,21 @@ module _ (s rest : List ℕ) (next n : ℕ) (h : next < length s) (e : rest ≡ 
 
     pub text-ok-not : (before : Bool) → fieldOk before line ≡ false → linesOk before (linesOf (drop next s)) ≡ false
     text-ok-not before v = ok-not s line next h text-at before (rw (is-text, v))
+
+-- where bytes of the value are left, lines are
+pub lines-left : (s name : List ℕ) (next at long : ℕ) (mine found : Bool) → at + length (streamed name mine found (linesOf (drop next s))) ≡ long → at < long → next < length s
+lines-left s name next at long mine found e h = one (ltb next (length s)) refl
+  where
+    one : (t : Bool) → ltb next (length s) ≡ t → next < length s
+    one true k = ltb-true next (length s) k
+    one false k =
+        let none : length (streamed name mine found (linesOf (drop next s))) ≡ 0 = ap (λ ls. length (streamed name mine found ls)) (line-none s next (ltb-false next (length s) k)) in
+        omega arith
+
+-- nothing is left to be written
+pub none-over : (at : ℕ) (v out : List ℕ) → length v ≡ 0 → over at v out ≡ out
+none-over at [] out e = over-none at out
+none-over at (b ∷ v) out e = let z : _≡_ {A = ℕ} 0 1 = omega arith in cc
 
 pub none-separated : (b : ℕ) → b ≡ 0 → separated b ≡ []
 none-separated b e = rw (eq-eqb b 0 e)

@@ -72,9 +72,9 @@ module _ {m name out : List ℕ} {n : ℕ} {lines : List ℕ} {ok : Bool} {f : F
   long-is : f .length ≡ length (valueIn m name)
   long-is = ap (λ (x : Found). x .length) (h .is-found) ∙ ap length value-is
 
-  pub room-for : a ≡ 0 → length (valueFor name (linesOf lines)) ≤ length out
+  pub room-for : a ≡ 0 → (f .length ≡ length (valueFor name (linesOf lines))) × (f .length ≤ length out)
   room-for z =
-      omega (arith, ap (λ (x : Found). x .length) (h .is-found), has-room n (length m) ok (not (f .there)) (f .length) (length out) (sym (h .is-number) ∙ z))
+      (ap (λ (x : Found). x .length) (h .is-found), has-room n (length m) ok (not (f .there)) (f .length) (length out) (sym (h .is-number) ∙ z))
 
   pub asked-done : (r : Asked) (after : List ℕ) → a ≡ 0 → r ≡ askedWith 0 n (f .length) → after ≡ over 0 (valueFor name (linesOf lines)) out
       → (r ≡ askField m name (length out)) × (after ≡ askedOut m name out)

@@ -208,16 +208,16 @@ fn put(out: &mut [u8], at: usize, separator: u8, part: &[u8]) -> usize
     at + 1 + part.len()
 }
 
-// The value of the name is written to the front of `out`, which has room for it.
-pub(crate) fn write_value(s: &[u8], name: &[u8], out: &mut [u8])
-    requires { ⌜ length (valueFor (now name) (linesOf (now s))) ≤ length (now out) ⌝ }
+// The value of the name, of `long` bytes, is written to the front of `out`. Lines behind its last byte are not looked at.
+pub(crate) fn write_value(s: &[u8], name: &[u8], long: usize, out: &mut [u8])
+    requires { ⌜ (long ≡ length (valueFor (now name) (linesOf (now s)))) × (long ≤ length (now out)) ⌝ }
     ensures { λ r. ⌜ now (out .exit) ≡ over 0 (valueFor (now (name .entry)) (linesOf (now (s .entry)))) (now (out .entry)) ⌝ }
 {
     let mut next: usize = 0;
     let mut mine = false;
     let mut there = false;
     let mut at: usize = 0;
-    while next < s.len() {
+    while at < long {
         let line = line_at(s, next);
         let added = line_step(name, mine, there, line);
         let part = after(line, added.from);

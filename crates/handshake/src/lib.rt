@@ -183,7 +183,7 @@ pub fn field(bytes: &[u8], name: &[u8], out: &mut [u8]) -> Asked
         out.len(),
     );
     if answer == 0 {
-        write_value(fields, name, out);
+        write_value(fields, name, long, out);
         return asked_with(0, n, long);
     }
     asked_with(answer, n, long)

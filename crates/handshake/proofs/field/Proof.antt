@@ -56,7 +56,7 @@ same-length c = search needs
 
 returns : tie.Need-returns
 returns c =
-    asked-done (asking (c .before .before .before .before .before .before)) (c .asked-with .result) (c .before .before .before .write-value .last .1 .1 .0) (c .before .before .before .before .before .if1 .taken) (c .asked-with .ensures)
+    asked-done (asking (c .before .before .before .before .before .before)) (c .asked-with .result) (c .before .before .before .write-value .last .1 .1 .1 .0) (c .before .before .before .before .before .if1 .taken) (c .asked-with .ensures)
     (c .before .before .before .write-value .ensures)
 
 asked-with-requires-2 : tie.Need-asked-with-requires-2
