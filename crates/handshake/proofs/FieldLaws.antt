@@ -5,20 +5,20 @@ use mathlib.Core.List.{List, [], _∷_, _++_, append-assoc}
 use Prim.Native.Nat.{ℕ, suc, _+_, _≤_, _<_}
 use native.Mathlib.Nat.{add-assoc}
 use native.Mathlib.Omega.{arith}
-use lib.Dec.{eqb}
-use lib.ListN.{length, drop, length-drop, length-append, drop-of-length-le}
+use lib.Dec.{ltb, eqb}
+use lib.ListN.{length, getD, take, drop, length-drop, length-append, drop-of-length-le}
 use lib.Seq.{drop-drop, drop-length, length-take-le}
-use borrow.Author.Tests.{eq-eqb, ne-eqb}
+use borrow.Author.Tests.{eq-eqb, ne-eqb, eqb-true, eqb-false, ltb-true, ltb-false}
 use Rattle.laws.specs.Tests.{all}
 use Rattle.laws.specs.Parts.{over}
-use Rattle.laws.proofs.Text.{over-append}
-use Rattle.handshake.specs.Text.{leading, isBlank, sameName}
-use Rattle.handshake.specs.Lines.{inLine, lineLength, lineAt, linesOf, onto, firstLine, otherLines}
-use Rattle.handshake.specs.Fields.{continues, nameOf, nameLength, valueOf, withoutBlanks, continued, fieldsOf, valuesOf, commaEach, commaBetween, isNone, isAbsent, valueFor, lineOk, linesOk}
+use Rattle.laws.proofs.Text.{over-append, over-none}
+use Rattle.handshake.specs.Text.{leading, isBlank, isName, isText, sameName}
+use Rattle.handshake.specs.Lines.{inLine, lineLength, lineEnds, lineAt, linesOf, onto, firstLine, otherLines}
+use Rattle.handshake.specs.Fields.{continues, nameOf, nameLength, valueOf, withoutBlanks, continued, fieldsOf, valuesOf, commaEach, commaBetween, isNone, isAbsent, valueFor, fieldOk, lineOk, linesOk}
 use Rattle.handshake.specs.Step.{stepFrom, stepOf, valueStart, separated, addedBy}
 use Rattle.handshake.specs.declared.fields.Step.{Step}
-use Rattle.handshake.proofs.TextLaws.{run-length}
-use Rattle.handshake.proofs.LineLaws.{lines-step, lines-first, lines-others}
+use Rattle.handshake.proofs.TextLaws.{run-length, same-lengths}
+use Rattle.handshake.proofs.LineLaws.{lines-step, lines-first, lines-others, leading-all, text-line, text-broken}
 
 -- ---- a line of the lines from a place on
 
@@ -58,6 +58,27 @@ not-all-case false u m n f e = refl
 pub not-all-run : (f : ℕ → Bool) (s : List ℕ) → (leading f s ≡ length s → ⊥) → all f s ≡ false
 not-all-run f [] e = let z : _≡_ {A = ℕ} 0 1 = omega (arith, e refl) in cc
 not-all-run f (b ∷ bs) e = not-all-case (f b) (all f bs) (leading f bs) (length bs) (not-all-run f bs) e
+
+-- ---- the name of a line
+
+module _ (line name : List ℕ) where
+  name-other : (nameLength line ≡ length name → ⊥) → sameName (nameOf line) name ≡ false
+  name-other h =
+      let size : length (nameOf line) ≡ nameLength line = length-take-le (nameLength line) line (run-length (λ t. isName (getD t 0 0)) line) in
+      same-lengths true (nameOf line) name (λ e. h (sym size ∙ e))
+
+  -- it is this one where the first bytes are, and it is as long
+  pub name-is : (u : Bool) → sameName (take (length name) line) name ≡ u → sameName (nameOf line) name ≡ (u && eqb (nameLength line) (length name))
+  name-is u h = one u (eqb (nameLength line) (length name)) refl h
+    where
+      front : (u : Bool) → eqb (nameLength line) (length name) ≡ true → sameName (take (length name) line) name ≡ u → sameName (nameOf line) name ≡ u
+      front u e h = ap (λ k. sameName (take k line) name) (eqb-true (nameLength line) (length name) e) ∙ h
+
+      one : (u t : Bool) → eqb (nameLength line) (length name) ≡ t → sameName (take (length name) line) name ≡ u → sameName (nameOf line) name ≡ (u && t)
+      one true true e h = front true e h
+      one false true e h = front false e h
+      one true false e h = name-other (eqb-false (nameLength line) (length name) e)
+      one false false e h = name-other (eqb-false (nameLength line) (length name) e)
 
 -- ---- going through the lines for a name
 
@@ -223,6 +244,52 @@ module _ (s line : List ℕ) (next : ℕ) (h : next < length s) (e : line ≡ li
           omega (arith, ap length streamed-on, n),
           over-append at (addedBy st line) rest out (omega (arith, ap length streamed-on, n)) ∙ ap (λ x. over at x out) (sym streamed-on),
         )
+
+-- the text from a place on, of n bytes
+module _ (s rest : List ℕ) (next n : ℕ) (h : next < length s) (e : rest ≡ drop next s) (k : n ≡ leading isText rest) where
+  pub text-fits : next + n ≤ length s
+  text-fits = omega (arith, run-length (λ t. isText (getD t 0 0)) rest, ap length e, length-drop next s)
+
+  -- it does not end as a line does
+  pub text-not : (before : Bool) → lineEnds (drop n rest) ≡ false → linesOk before (linesOf (drop next s)) ≡ false
+  unfolding lineAt
+  text-not before t =
+      let u : all isText (lineAt s next) ≡ false = text-broken (drop next s) (rw (← e, ← k) t) in
+      ok-not s (lineAt s next) next h refl before (rw u)
+
+  module _ (line : List ℕ) (t : lineEnds (drop n rest) ≡ true) (g : line ≡ take n rest) where
+    text-at : line ≡ lineAt s next
+    unfolding lineAt
+    text-at =
+        let z : n ≡ lineLength (drop next s) = k ∙ text-line rest (rw (← k) t) ∙ ap lineLength e in
+        g ∙ rw (e, z)
+
+    text-size : length line ≡ n
+    text-size = ap length g ∙ length-take-le n rest (omega (arith, run-length (λ t. isText (getD t 0 0)) rest))
+
+    is-text : all isText line ≡ true
+    is-text = rw (g, k) (leading-all isText rest)
+
+    pub text-ok-on : (before : Bool) → fieldOk before line ≡ true → linesOk before (linesOf (drop next s)) ≡ linesOk true (linesOf (drop (next + n + 2) s))
+    text-ok-on before v = rw (← text-size) (ok-on s line next h text-at before (rw (is-text, v)))
+
+    pub text-ok-not : (before : Bool) → fieldOk before line ≡ false → linesOk before (linesOf (drop next s)) ≡ false
+    text-ok-not before v = ok-not s line next h text-at before (rw (is-text, v))
+
+-- where bytes of the value are left, lines are
+pub lines-left : (s name : List ℕ) (next at long : ℕ) (mine found : Bool) → at + length (streamed name mine found (linesOf (drop next s))) ≡ long → at < long → next < length s
+lines-left s name next at long mine found e h = one (ltb next (length s)) refl
+  where
+    one : (t : Bool) → ltb next (length s) ≡ t → next < length s
+    one true k = ltb-true next (length s) k
+    one false k =
+        let none : length (streamed name mine found (linesOf (drop next s))) ≡ 0 = ap (λ ls. length (streamed name mine found ls)) (line-none s next (ltb-false next (length s) k)) in
+        omega arith
+
+-- nothing is left to be written
+pub none-over : (at : ℕ) (v out : List ℕ) → length v ≡ 0 → over at v out ≡ out
+none-over at [] out e = over-none at out
+none-over at (b ∷ v) out e = let z : _≡_ {A = ℕ} 0 1 = omega arith in cc
 
 pub none-separated : (b : ℕ) → b ≡ 0 → separated b ≡ []
 none-separated b e = rw (eq-eqb b 0 e)

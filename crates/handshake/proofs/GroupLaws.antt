@@ -1,20 +1,23 @@
 -- Laws of the answers.
-use mathlib.Core.Path.{_≡_, refl, sym, ap, _∙_}
+use mathlib.Core.Path.{_≡_, refl, sym, ap, ap₂, _∙_}
 use mathlib.Core.Bool.{Bool, true, false, not, _&&_}
 use mathlib.Core.List.{List, [], _∷_}
-use Prim.Native.Nat.{ℕ, _≤_}
+use Prim.Native.Nat.{ℕ, _+_, _-_, _≤_}
 use native.Mathlib.Omega.{arith}
 use lib.Dec.{ltb, leb, eqb}
-use lib.ListN.{length}
+use lib.ListN.{length, take, drop}
 use borrow.Author.Tests.{ltb-false, ne-eqb}
 use Rattle.laws.specs.Tests.{firstOf}
 use Rattle.laws.specs.Parts.{over}
 use Rattle.handshake.specs.declared.fields.Found.{Found}
+use Rattle.handshake.specs.declared.start.Start.{Start}
 use Rattle.handshake.specs.declared.Asked.{Asked}
-use Rattle.handshake.specs.Lines.{groupLength, linesOf}
+use Rattle.handshake.specs.Lines.{groupLength, lineAt, linesOf, firstLine}
+use Rattle.handshake.specs.Start.{startOf}
 use Rattle.handshake.specs.Fields.{valueFor}
 use Rattle.handshake.specs.Step.{foundIn}
-use Rattle.handshake.specs.Group.{fieldsIn, understood, valueIn, askedFrom, askedNumber, askedWith, askField, askedOut}
+use Rattle.handshake.specs.Group.{linesIn, startIn, fieldsIn, understoodAs, understood, valueIn, askedFrom, askedNumber, askedWith, askField, askedOut}
+use Rattle.handshake.proofs.FieldLaws.{first-at, others-at}
 
 last-false : (a b c d e : Bool) → firstOf ((a, 18) ∷ (b, 4) ∷ (c, 17) ∷ (d, 10) ∷ (e, 2) ∷ []) ≡ 0 → e ≡ false
 last-false a b c d false h = refl
@@ -29,6 +32,22 @@ pub has-room : (n size : ℕ) (ok absent : Bool) (long room : ℕ) → askedFrom
 unfolding askedFrom
 has-room n size ok absent long room e =
     ltb-false room long (last-false (eqb n 0 && leb 4096 size) (eqb n 0) (not ok) absent (ltb room long) e)
+
+-- the lines of a group of n bytes, the first of them, and what stands behind that
+module _ (m lines first fields : List ℕ) (n : ℕ) (p : lines ≡ take (n - 2) m) (f : first ≡ lineAt lines 0) (g : fields ≡ drop (length first + 2) lines) where
+  first-is : first ≡ firstLine (linesIn m n)
+  first-is = f ∙ ap (λ s. lineAt s 0) p ∙ first-at _
+
+  pub fields-are : linesOf fields ≡ fieldsIn m n
+  fields-are = ap linesOf (g ∙ ap₂ (λ l s. drop (length l + 2) s) (f ∙ ap (λ s. lineAt s 0) p) p) ∙ others-at _
+
+  module _ (start : Start) (e : start ≡ startOf first) where
+    pub start-is : start ≡ startIn m n
+    start-is = e ∙ ap startOf first-is
+
+    pub understood-is : (ok : Bool) → ok ≡ understoodAs first (start .kind) (linesOf fields) → ok ≡ understood m n
+    unfolding understood
+    understood-is ok h = h ∙ rw (start-is, first-is, fields-are)
 
 twice-not : (t : Bool) → not (not t) ≡ t
 twice-not true = refl
@@ -53,9 +72,9 @@ module _ {m name out : List ℕ} {n : ℕ} {lines : List ℕ} {ok : Bool} {f : F
   long-is : f .length ≡ length (valueIn m name)
   long-is = ap (λ (x : Found). x .length) (h .is-found) ∙ ap length value-is
 
-  pub room-for : a ≡ 0 → length (valueFor name (linesOf lines)) ≤ length out
+  pub room-for : a ≡ 0 → (f .length ≡ length (valueFor name (linesOf lines))) × (f .length ≤ length out)
   room-for z =
-      omega (arith, ap (λ (x : Found). x .length) (h .is-found), has-room n (length m) ok (not (f .there)) (f .length) (length out) (sym (h .is-number) ∙ z))
+      (ap (λ (x : Found). x .length) (h .is-found), has-room n (length m) ok (not (f .there)) (f .length) (length out) (sym (h .is-number) ∙ z))
 
   pub asked-done : (r : Asked) (after : List ℕ) → a ≡ 0 → r ≡ askedWith 0 n (f .length) → after ≡ over 0 (valueFor name (linesOf lines)) out
       → (r ≡ askField m name (length out)) × (after ≡ askedOut m name out)

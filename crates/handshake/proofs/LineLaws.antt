@@ -1,19 +1,26 @@
 -- Laws of a group's end and of its lines.
-use mathlib.Core.Path.{_≡_, refl, ap}
-use mathlib.Core.Bool.{Bool, true, false, cond, not, _&&_}
+use mathlib.Core.Path.{_≡_, refl, sym, ap, _∙_}
+use mathlib.Core.Bool.{Bool, true, false, cond, not, _&&_, _||_}
 use mathlib.Core.List.{List, [], _∷_}
 use Prim.Native.Nat.{ℕ, suc, _+_, _-_, _≤_, _<_}
 use native.Mathlib.Nat.{add-zero}
 use native.Mathlib.Omega.{arith}
-use lib.Dec.{eqb}
-use lib.ListN.{length, take, drop}
-use lib.Seq.{getD-drop}
-use Rattle.handshake.specs.Text.{run}
-use Rattle.handshake.specs.Lines.{pairAt, inLine, firstFrom, lineLength, onto, linesOf, firstLine, otherLines}
+use lib.Dec.{leb, eqb}
+use lib.ListN.{length, getD, take, drop}
+use lib.Seq.{drop-cons, getD-drop}
+use borrow.Author.Tests.{ne-eqb, leb-true, leb-false}
+use Rattle.laws.specs.Tests.{all}
+use Rattle.handshake.specs.Text.{run, leading, isText}
+use Rattle.handshake.specs.Lines.{pairAt, endsAt, inLine, firstFrom, lineLength, lineEnds, onto, linesOf, firstLine, otherLines}
+use Rattle.handshake.proofs.TextLaws.{and-false}
 
 -- CR and LF at the front of what is left stand at that place of the whole
 pub pair-drop : (s : List ℕ) (i : ℕ) → pairAt (drop i s) 0 ≡ pairAt s i
 pair-drop s i = simp (getD-drop, add-zero)
+
+-- where something is left at a place, a line ends there with CR and LF
+pub ends-pair : (s : List ℕ) (i : ℕ) → i < length s → lineEnds (drop i s) ≡ pairAt s i
+ends-pair s i h = ap lineEnds (drop-cons s i 0 h) ∙ ap (λ t. pairAt t 0) (sym (drop-cons s i 0 h)) ∙ pair-drop s i
 
 module _ (f : ℕ → Bool) (last : ℕ) where
   -- a turn of a search up to `last`: n is the first
@@ -22,17 +29,76 @@ module _ (f : ℕ → Bool) (last : ℕ) where
       let e : last + 1 - n ≡ suc (last + 1 - (n + 1)) = omega arith in
       rw (e, t)
 
-  -- it is not
-  pub first-on : (n : ℕ) → n ≤ last → f n ≡ false → firstFrom f (last + 1 - n) n ≡ firstFrom f (last + 1 - (n + 1)) (n + 1)
-  first-on n h t =
-      let e : last + 1 - n ≡ suc (last + 1 - (n + 1)) = omega arith in
-      rw (e, t)
-
   -- none is
   pub first-end : (n : ℕ) → last < n → firstFrom f (last + 1 - n) n ≡ 0
   first-end n h =
       let e : last + 1 - n ≡ 0 = omega arith in
       rw e
+
+  -- n is not
+  pub first-on : (n : ℕ) → f n ≡ false → firstFrom f (last + 1 - n) n ≡ firstFrom f (last + 1 - (n + 1)) (n + 1)
+  first-on n t = one (leb n last) refl
+    where
+      one : (u : Bool) → leb n last ≡ u → firstFrom f (last + 1 - n) n ≡ firstFrom f (last + 1 - (n + 1)) (n + 1)
+      one true h =
+          let k : n ≤ last = leb-true n last h in
+          let e : last + 1 - n ≡ suc (last + 1 - (n + 1)) = omega arith in
+          rw (e, t)
+      one false h =
+          let k : last < n = leb-false n last h in
+          first-end n k ∙ sym (first-end (n + 1) (omega arith))
+
+  -- none of four is
+  pub first-four : (n : ℕ) → f n ≡ false → f (n + 1) ≡ false → f (n + 2) ≡ false → f (n + 3) ≡ false
+      → firstFrom f (last + 1 - n) n ≡ firstFrom f (last + 1 - (n + 4)) (n + 4)
+  first-four n t u v w =
+      let e2 : n + 1 + 1 ≡ n + 2 = omega arith in
+      let e3 : n + 2 + 1 ≡ n + 3 = omega arith in
+      let e4 : n + 3 + 1 ≡ n + 4 = omega arith in
+      first-on n t ∙ (rw e2 at (first-on (n + 1) u)) ∙ (rw e3 at (first-on (n + 2) v)) ∙ (rw e4 at (first-on (n + 3) w))
+
+-- ---- a byte of text rules out four ends
+
+-- CR and LF do not stand where text does
+text-not-pair : (b : ℕ) (t : Bool) → isText b ≡ true → (eqb b 13 && t) ≡ false
+text-not-pair b t h = one (eqb b 13) (eqb b 10) h
+  where
+    one : (u v : Bool) → not (u || v) ≡ true → (u && t) ≡ false
+    one false v e = refl
+    one true v e = let z : _≡_ {A = Bool} false true = e in cc
+
+lf-not : (t : Bool) (b : ℕ) → isText b ≡ true → (t && eqb b 10) ≡ false
+lf-not t b h = one (eqb b 13) (eqb b 10) h
+  where
+    one : (u v : Bool) → not (u || v) ≡ true → (t && v) ≡ false
+    one u false e = and-false t
+    one false true e = let z : _≡_ {A = Bool} false true = e in cc
+    one true true e = let z : _≡_ {A = Bool} false true = e in cc
+
+no-cr : (m : List ℕ) (i : ℕ) → isText (getD m i 0) ≡ true → pairAt m i ≡ false
+no-cr m i h = text-not-pair (getD m i 0) (eqb (getD m (i + 1) 0) 10) h
+
+late-not : (m : List ℕ) (n : ℕ) → pairAt m (n - 2) ≡ false → endsAt m n ≡ false
+unfolding endsAt
+late-not m n e = rw e
+
+early-not : (m : List ℕ) (n : ℕ) → (n ≡ 2 → ⊥) → pairAt m (n - 4) ≡ false → endsAt m n ≡ false
+unfolding endsAt
+early-not m n h e = rw (ne-eqb n 2 h, e, and-false (leb 4 n)) (and-false (pairAt m (n - 2)))
+
+module _ (m : List ℕ) (n : ℕ) (h : 2 ≤ n) (t : isText (getD m (n - 1) 0) ≡ true) where
+  no-lf : pairAt m (n - 2) ≡ false
+  no-lf =
+      let e : n - 2 + 1 ≡ n - 1 = omega arith in
+      rw e (lf-not (eqb (getD m (n - 2) 0) 13) (getD m (n - 1) 0) t)
+
+  -- the last byte of n is text: no group ends with it or with one of the next three
+  pub ends-not : (endsAt m n ≡ false) × (endsAt m (n + 1) ≡ false) × (endsAt m (n + 2) ≡ false) × (endsAt m (n + 3) ≡ false)
+  ends-not =
+      let e1 : n + 1 - 2 ≡ n - 1 = omega arith in
+      let e2 : n + 2 - 4 ≡ n - 2 = omega arith in
+      let e3 : n + 3 - 4 ≡ n - 1 = omega arith in
+      (late-not m n no-lf, late-not m (n + 1) (rw e1 (no-cr m (n - 1) t)), early-not m (n + 2) (λ k. omega arith) (rw e2 no-lf), early-not m (n + 3) (λ k. omega arith) (rw e3 (no-cr m (n - 1) t)))
 
 -- the lines are the first line and those of what stands behind its end
 pub lines-step : (s : List ℕ) → 0 < length s → linesOf s ≡ take (lineLength s) s ∷ linesOf (drop (lineLength s + 2) s)
@@ -59,3 +125,38 @@ lines-first (a ∷ s) = ap firstLine (lines-step (a ∷ s) (omega arith))
 pub lines-others : (s : List ℕ) → otherLines (linesOf s) ≡ linesOf (drop (lineLength s + 2) s)
 lines-others [] = refl
 lines-others (a ∷ s) = ap otherLines (lines-step (a ∷ s) (omega arith))
+
+-- ---- the text at the front of the bytes, and the first line
+
+-- the bytes of a run pass its test
+pub leading-all : (f : ℕ → Bool) (s : List ℕ) → all f (take (leading f s) s) ≡ true
+leading-all f [] = refl
+leading-all f (b ∷ bs) = one (f b) refl (leading-all f bs)
+  where
+    one : (t : Bool) → f b ≡ t → all f (take (leading f bs) bs) ≡ true → all f (take (cond t (suc (leading f bs)) 0) (b ∷ bs)) ≡ true
+    one true e h = rw e h
+    one false e h = refl
+
+-- the text at the front ends as a line does
+abbrev pub textEnds : List ℕ → Bool
+textEnds s = lineEnds (drop (leading isText s) s)
+
+-- where it does, it is the first line
+pub text-line : (s : List ℕ) → textEnds s ≡ true → leading isText s ≡ lineLength s
+text-line [] h = refl
+text-line (b ∷ bs) h = one (isText b) refl (text-line bs) h
+  where
+    one : (t : Bool) → isText b ≡ t → (textEnds bs ≡ true → leading isText bs ≡ lineLength bs)
+        → lineEnds (drop (cond t (suc (leading isText bs)) 0) (b ∷ bs)) ≡ true → cond t (suc (leading isText bs)) 0 ≡ lineLength (b ∷ bs)
+    one true e f k = rw (text-not-pair b (eqb (getD bs 0 0) 10) e, f k)
+    one false e f k = rw k
+
+-- where it does not, the first line has a CR or LF by itself
+pub text-broken : (s : List ℕ) → textEnds s ≡ false → all isText (take (lineLength s) s) ≡ false
+text-broken [] h = let z : _≡_ {A = Bool} true false = h in cc
+text-broken (b ∷ bs) h = one (isText b) refl (text-broken bs) h
+  where
+    one : (t : Bool) → isText b ≡ t → (textEnds bs ≡ false → all isText (take (lineLength bs) bs) ≡ false)
+        → lineEnds (drop (cond t (suc (leading isText bs)) 0) (b ∷ bs)) ≡ false → all isText (take (lineLength (b ∷ bs)) (b ∷ bs)) ≡ false
+    one true e f k = rw (text-not-pair b (eqb (getD bs 0 0) 10) e, e) (f k)
+    one false e f k = rw (k, e)

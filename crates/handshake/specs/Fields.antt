@@ -28,9 +28,13 @@ nameOf line = take (nameLength line) line
 abbrev pub valueOf : List ℕ → List ℕ
 valueOf line = withoutBlanks (drop (nameLength line + 1) line)
 
--- no CR or LF by itself; a field, or, where a field stands before it, a line that goes on
+-- a field, or, where a field stands before it, a line that goes on
+abbrev pub fieldOk : Bool → List ℕ → Bool
+fieldOk before line = isField line || (before && continues line)
+
+-- the same, and no CR or LF by itself
 abbrev pub lineOk : Bool → List ℕ → Bool
-lineOk before line = all isText line && (isField line || (before && continues line))
+lineOk before line = all isText line && fieldOk before line
 
 -- the lines behind the first are fields, each with the lines that go on with it
 abbrev pub linesOk : Bool → List (List ℕ) → Bool

@@ -26,9 +26,13 @@ startIn m n = startOf (firstLine (linesIn m n))
 abbrev pub fieldsIn : List ℕ → ℕ → List (List ℕ)
 fieldsIn m n = otherLines (linesIn m n)
 
--- the first line is a greeting or a reply, the others are fields, and no CR or LF stands by itself
+-- the first line is of a kind, the others are fields, and no CR or LF stands by itself
+abbrev pub understoodAs : List ℕ → ℕ → List (List ℕ) → Bool
+understoodAs first kind others = all isText first && (not (eqb kind 0) && linesOk false others)
+
+-- the first line is a greeting or a reply
 unfoldable pub understood : List ℕ → ℕ → Bool
-understood m n = all isText (firstLine (linesIn m n)) && (not (eqb (startIn m n .kind) 0) && linesOk false (fieldsIn m n))
+understood m n = understoodAs (firstLine (linesIn m n)) (startIn m n .kind) (fieldsIn m n)
 
 -- ---- reading a group
 

@@ -1,6 +1,6 @@
 -- A group of lines, and where it ends.
 use Prim.Native.Nat.{ℕ, zero, suc, _+_, _-_, min}
-use mathlib.Core.Bool.{Bool, cond, not, _&&_, _||_}
+use mathlib.Core.Bool.{Bool, true, cond, not, _&&_, _||_}
 use mathlib.Core.List.{List, [], _∷_}
 use lib.Dec.{leb, eqb}
 use lib.ListN.{length, getD, take, drop}
@@ -30,6 +30,11 @@ inLine s = not (pairAt s 0)
 -- how many bytes stand before the first CR and LF
 abbrev pub lineLength : List ℕ → ℕ
 lineLength s = run inLine s
+
+-- nothing is left, or CR and LF stand at the front
+abbrev pub lineEnds : List ℕ → Bool
+lineEnds [] = true
+lineEnds (b ∷ bs) = pairAt (b ∷ bs) 0
 
 -- the line that starts at a place
 unfoldable pub lineAt : List ℕ → ℕ → List ℕ

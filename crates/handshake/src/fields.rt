@@ -1,5 +1,6 @@
 // The lines behind the first: whether they are fields, and the value of a name.
 use crate::lines::line_at;
+use crate::lines::line_ends;
 use crate::text::BLANK;
 use crate::text::NAME;
 use crate::text::TEXT;
@@ -15,9 +16,10 @@ ghost use mathlib.Core.List.{_++_};
 ghost use Prim.Native.Nat.{_+_, _≤_};
 ghost use lib.ListN.{length};
 ghost use Rattle.laws.specs.Parts.{over};
+ghost use Rattle.handshake.specs.Text.{sameName};
 ghost use Rattle.handshake.specs.Lines.{linesOf};
-ghost use Rattle.handshake.specs.Fields.{continues, isField, lineOk, linesOk, valueFor};
-ghost use Rattle.handshake.specs.Step.{passed, stepFrom, stepOf, separated, foundIn};
+ghost use Rattle.handshake.specs.Fields.{continues, isField, nameOf, fieldOk, linesOk, valueFor};
+ghost use Rattle.handshake.specs.Step.{passed, valueStart, stepOf, separated, foundIn};
 
 // A line that begins with a blank goes on with the value before it.
 fn continues(line: &[u8]) -> bool
@@ -38,13 +40,10 @@ fn is_field(line: &[u8]) -> bool
     b == b':'
 }
 
-// All of the line is text, and it is a field or, where a field stands before it, goes on.
-fn line_ok(before: bool, line: &[u8]) -> bool
-    ensures { λ r. ⌜ r ≡ lineOk before (now (line .entry)) ⌝ }
+// The line is a field or, where a field stands before it, goes on.
+fn field_ok(before: bool, line: &[u8]) -> bool
+    ensures { λ r. ⌜ r ≡ fieldOk before (now (line .entry)) ⌝ }
 {
-    if leading(line, TEXT) != line.len() {
-        return false;
-    }
     if is_field(line) {
         return true;
     }
@@ -54,19 +53,23 @@ fn line_ok(before: bool, line: &[u8]) -> bool
     false
 }
 
-// The lines are fields, each with the lines that go on with it.
+// The lines are fields, each with the lines that go on with it. A line is looked at once: its text ends where the line does.
 pub fn lines_ok(s: &[u8]) -> bool
     ensures { λ r. ⌜ r ≡ linesOk false (linesOf (now (s .entry))) ⌝ }
 {
     let mut next: usize = 0;
     let mut before = false;
     while next < s.len() {
-        let line = line_at(s, next);
-        if !line_ok(before, line) {
+        let rest = after(s, next);
+        let n = leading(rest, TEXT);
+        if !line_ends(rest, n) {
+            return false;
+        }
+        if !field_ok(before, front(rest, n)) {
             return false;
         }
         before = true;
-        next = next + line.len() + 2;
+        next = next + n + 2;
     }
     true
 }
@@ -98,57 +101,49 @@ fn passed(found: bool, length: usize) -> Step
     }
 }
 
+// The line has the name. Most lines do not, and differ in their first bytes.
+fn is_named(line: &[u8], name: &[u8]) -> bool
+    ensures { λ r. ⌜ r ≡ sameName (nameOf (now (line .entry))) (now (name .entry)) ⌝ }
+{
+    if !same(true, front(line, name.len()), name) {
+        return false;
+    }
+    leading(line, NAME) == name.len()
+}
+
+// Where the value of a field starts: behind the colon and the blanks.
+fn value_start(line: &[u8]) -> usize
+    ensures { λ r. ⌜ r ≡ valueStart (now (line .entry)) ⌝ }
+{
+    let colon = leading(line, NAME) + 1;
+    colon + leading(after(line, colon), BLANK)
+}
+
 // A line that goes on adds to the value where the last field has the name, behind a space; a field of the name does, behind a comma where
 // it is not the first.
-fn step_from(
-    goes_on: bool,
-    named: bool,
-    mine: bool,
-    found: bool,
-    blanks: usize,
-    start: usize,
-    length: usize,
-) -> Step
-    ensures { λ r. ⌜ r ≡ stepFrom «goes_on» named mine found blanks start length ⌝ }
+fn line_step(name: &[u8], mine: bool, found: bool, line: &[u8]) -> Step
+    ensures { λ r. ⌜ r ≡ stepOf (now (name .entry)) mine found (now (line .entry)) ⌝ }
 {
-    if goes_on {
+    if continues(line) {
         if mine {
             return Step {
                 mine: true,
                 found,
                 separator: b' ',
-                from: blanks,
+                from: leading(line, BLANK),
             };
         }
-        return passed(found, length);
+        return passed(found, line.len());
     }
-    if named {
+    if is_named(line, name) {
         return Step {
             mine: true,
             found: true,
             separator: comma(found),
-            from: start,
+            from: value_start(line),
         };
     }
-    passed(found, length)
-}
-
-fn line_step(name: &[u8], mine: bool, found: bool, line: &[u8]) -> Step
-    ensures { λ r. ⌜ r ≡ stepOf (now (name .entry)) mine found (now (line .entry)) ⌝ }
-{
-    let n = leading(line, NAME);
-    let named = same(true, front(line, n), name);
-    let colon = n + 1;
-    let start = colon + leading(after(line, colon), BLANK);
-    step_from(
-        continues(line),
-        named,
-        mine,
-        found,
-        leading(line, BLANK),
-        start,
-        line.len(),
-    )
+    passed(found, line.len())
 }
 
 // Whether a field of the name is there, and how long its value is.
@@ -213,16 +208,16 @@ fn put(out: &mut [u8], at: usize, separator: u8, part: &[u8]) -> usize
     at + 1 + part.len()
 }
 
-// The value of the name is written to the front of `out`, which has room for it.
-pub(crate) fn write_value(s: &[u8], name: &[u8], out: &mut [u8])
-    requires { ⌜ length (valueFor (now name) (linesOf (now s))) ≤ length (now out) ⌝ }
+// The value of the name, of `long` bytes, is written to the front of `out`. Lines behind its last byte are not looked at.
+pub(crate) fn write_value(s: &[u8], name: &[u8], long: usize, out: &mut [u8])
+    requires { ⌜ (long ≡ length (valueFor (now name) (linesOf (now s)))) × (long ≤ length (now out)) ⌝ }
     ensures { λ r. ⌜ now (out .exit) ≡ over 0 (valueFor (now (name .entry)) (linesOf (now (s .entry)))) (now (out .entry)) ⌝ }
 {
     let mut next: usize = 0;
     let mut mine = false;
     let mut there = false;
     let mut at: usize = 0;
-    while next < s.len() {
+    while at < long {
         let line = line_at(s, next);
         let added = line_step(name, mine, there, line);
         let part = after(line, added.from);

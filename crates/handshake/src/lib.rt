@@ -20,7 +20,7 @@ ghost use mathlib.Core.Bool.{not};
 ghost use Prim.Native.Nat.{_-_};
 ghost use lib.ListN.{length, take};
 ghost use Rattle.handshake.specs.Lines.{groupLength, linesOf};
-ghost use Rattle.handshake.specs.Group.{startIn, fieldsIn, understood, refusedGroup, groupFrom, readGroup, askedFrom, askedWith, askField, askedOut};
+ghost use Rattle.handshake.specs.Group.{understoodAs, refusedGroup, groupFrom, readGroup, askedFrom, askedWith, askField, askedOut};
 
 // The kinds of a group that is understood.
 pub const GREETING: u8 = 1;
@@ -55,36 +55,17 @@ fn lines_part(m: &[u8], n: usize) -> &[u8]
     if n < 2 { front(m, 0) } else { front(m, n - 2) }
 }
 
-// What the first line of a group of n bytes says.
-fn start_of(m: &[u8], n: usize) -> Start
-    ensures { λ r. ⌜ r ≡ startIn (now (m .entry)) n ⌝ }
+// Whether all lines are understood: the first, of this kind, and those behind it.
+fn is_understood(first: &[u8], kind: u8, fields: &[u8]) -> bool
+    ensures { λ r. ⌜ r ≡ understoodAs (now (first .entry)) kind (linesOf (now (fields .entry))) ⌝ }
 {
-    read_start(line_at(lines_part(m, n), 0))
-}
-
-// The lines behind the first, of a group of n bytes.
-fn fields_part(m: &[u8], n: usize) -> &[u8]
-    ensures { λ r. ⌜ linesOf (now r) ≡ fieldsIn (now (m .entry)) n ⌝ }
-{
-    let part = lines_part(m, n);
-    let first = line_at(part, 0);
-    after(part, first.len() + 2)
-}
-
-// Whether all lines of a group of n bytes are understood.
-fn is_understood(m: &[u8], n: usize) -> bool
-    ensures { λ r. ⌜ r ≡ understood (now (m .entry)) n ⌝ }
-{
-    let first = line_at(lines_part(m, n), 0);
-    let s = read_start(first);
-    let kind = s.kind;
     if leading(first, TEXT) != first.len() {
         return false;
     }
     if kind == 0 {
         return false;
     }
-    lines_ok(fields_part(m, n))
+    lines_ok(fields)
 }
 
 fn refused_group(answer: u8) -> Group
@@ -127,7 +108,12 @@ pub fn read_group(bytes: &[u8]) -> Group
     ensures { λ r. ⌜ r ≡ readGroup (now (bytes .entry)) ⌝ }
 {
     let n = group_length(bytes);
-    group_from(n, bytes.len(), is_understood(bytes, n), start_of(bytes, n))
+    let lines = lines_part(bytes, n);
+    let first = line_at(lines, 0);
+    let start = read_start(first);
+    let fields = after(lines, first.len() + 2);
+    let ok = is_understood(first, start.kind, fields);
+    group_from(n, bytes.len(), ok, start)
 }
 
 fn asked_number(n: usize, size: usize, ok: bool, there: bool, long: usize, room: usize) -> u8
@@ -182,19 +168,22 @@ pub fn field(bytes: &[u8], name: &[u8], out: &mut [u8]) -> Asked
     ensures { λ r. ⌜ now (out .exit) ≡ askedOut (now (bytes .entry)) (now (name .entry)) (now (out .entry)) ⌝ }
 {
     let n = group_length(bytes);
-    let lines = fields_part(bytes, n);
-    let found = find(lines, name);
+    let lines = lines_part(bytes, n);
+    let first = line_at(lines, 0);
+    let start = read_start(first);
+    let fields = after(lines, first.len() + 2);
+    let found = find(fields, name);
     let long = found.length;
     let answer = asked_number(
         n,
         bytes.len(),
-        is_understood(bytes, n),
+        is_understood(first, start.kind, fields),
         found.there,
         long,
         out.len(),
     );
     if answer == 0 {
-        write_value(lines, name, out);
+        write_value(fields, name, long, out);
         return asked_with(0, n, long);
     }
     asked_with(answer, n, long)

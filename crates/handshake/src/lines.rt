@@ -1,9 +1,12 @@
 // Where a group ends, and its lines.
 use crate::text::after;
+use crate::text::byte_at;
 use crate::text::front;
+use crate::text::is_text;
 ghost use mathlib.Core.Path.{_≡_};
 ghost use Prim.Native.Nat.{_≤_, min};
-ghost use Rattle.handshake.specs.Lines.{pairAt, endsAt, groupLength, lineLength, lineAt};
+ghost use lib.ListN.{drop};
+ghost use Rattle.handshake.specs.Lines.{pairAt, endsAt, groupLength, lineLength, lineEnds, lineAt};
 
 // CR and LF stand at place `at`.
 fn pair_at(m: &[u8], at: usize) -> bool
@@ -45,17 +48,22 @@ fn searched(n: usize) -> usize
     if n < 4096 { n } else { 4096 }
 }
 
-// How long the group is, with the empty line that ends it: 0 where no end stands in the first 4,096 bytes.
+// How long the group is, with the empty line that ends it: 0 where no end stands in the first 4,096 bytes. Behind a byte of text no end
+// stands before the fourth byte, so that most bytes are passed by.
 pub fn group_length(m: &[u8]) -> usize
     ensures { λ r. ⌜ r ≡ groupLength (now (m .entry)) ⌝ }
 {
     let last = searched(m.len());
     let mut n = 2;
     while n <= last {
-        if ends_at(m, n) {
-            return n;
+        if is_text(byte_at(m, n - 1)) {
+            n += 4;
+        } else {
+            if ends_at(m, n) {
+                return n;
+            }
+            n += 1;
         }
-        n += 1;
     }
     0
 }
@@ -72,6 +80,16 @@ fn line_length(s: &[u8]) -> usize
         i += 1;
     }
     i
+}
+
+// Nothing is left at place n, or CR and LF stand there.
+pub fn line_ends(s: &[u8], n: usize) -> bool
+    ensures { λ r. ⌜ r ≡ lineEnds (drop n (now (s .entry))) ⌝ }
+{
+    if n >= s.len() {
+        return true;
+    }
+    pair_at(s, n)
 }
 
 // The line that starts at a place, without its end.

@@ -34,7 +34,7 @@ fn is_name(b: u8) -> bool
     b != b':'
 }
 
-fn is_text(b: u8) -> bool
+pub fn is_text(b: u8) -> bool
     ensures { λ r. ⌜ r ≡ isText b ⌝ }
 {
     if b == b'\r' {

@@ -1,16 +1,19 @@
-use Rattle.handshake.proofs.GroupLaws.{Asking, room-for, asked-done, asked-refused}
+use Rattle.handshake.proofs.GroupLaws.{Asking, fields-are, understood-is, room-for, asked-done, asked-refused}
 use borrow.Author.Needs.{needs}
 use Rattle.handshake.proofs.field.Statement.{statement}
 use Rattle.handshake.proofs.field.Tie as tie
 
 -- what is in hand once the number is there
 asking : (c : tie.After-asked-number)
-    → Asking (c .before .before .before .before .before .before .before .before .args .bytes .now) (c .before .before .before .before .before .before .before .before .args .name .now) (c .before .before .before .before .before .before .before .before .args .out .now)
-    (c .before .before .before .before .group-length .result) (c .before .before .before .fields-part .result .now) (c .before .is-understood .result) (c .before .before .find .result) (c .asked-number .result)
+    → Asking (c .before .before .before .before .before .before .before .before .before .before .before .args .bytes .now) (c .before .before .before .before .before .before .before .before .before .before .before .args .name .now) (c .before .before .before .before .before .before .before .before .before .before .before .args .out .now)
+    (c .before .before .before .before .before .before .before .group-length .result) (c .before .before .before .after .result .now) (c .before .is-understood .result) (c .before .before .find .result) (c .asked-number .result)
 asking c = record {
-  is-length = c .before .before .before .before .group-length .ensures;
-  are-lines = c .before .before .before .fields-part .ensures;
-  is-ok = c .before .is-understood .ensures;
+  is-length = c .before .before .before .before .before .before .before .group-length .ensures;
+  are-lines =
+      fields-are (c .before .before .before .before .before .before .before .before .before .before .before .args .bytes .now) (c .before .before .before .before .before .before .lines-part .result .now) (c .before .before .before .before .before .line-at .result .now) (c .before .before .before .after .result .now) (c .before .before .before .before .before .before .before .group-length .result) (c .before .before .before .before .before .before .lines-part .ensures) (c .before .before .before .before .before .line-at .ensures) (c .before .before .before .after .ensures);
+  is-ok =
+      understood-is (c .before .before .before .before .before .before .before .before .before .before .before .args .bytes .now) (c .before .before .before .before .before .before .lines-part .result .now) (c .before .before .before .before .before .line-at .result .now) (c .before .before .before .after .result .now) (c .before .before .before .before .before .before .before .group-length .result) (c .before .before .before .before .before .before .lines-part .ensures) (c .before .before .before .before .before .line-at .ensures) (c .before .before .before .after .ensures)
+      (c .before .before .before .before .read-start .result) (c .before .before .before .before .read-start .ensures) (c .before .is-understood .result) (c .before .is-understood .ensures);
   is-found = c .before .before .find .ensures;
   is-number = c .asked-number .ensures;
 }
@@ -18,8 +21,20 @@ asking c = record {
 group-length-requires : tie.Need-group-length-requires
 group-length-requires c κs = search needs
 
-fields-part-requires : tie.Need-fields-part-requires
-fields-part-requires c κs = search needs
+lines-part-requires : tie.Need-lines-part-requires
+lines-part-requires c κs = search needs
+
+line-at-requires : tie.Need-line-at-requires
+line-at-requires c κs = search needs
+
+read-start-requires : tie.Need-read-start-requires
+read-start-requires c κs = search needs
+
+add-after : tie.Need-add-after
+add-after c = search needs
+
+after-requires : tie.Need-after-requires
+after-requires c κs = search needs
 
 find-requires : tie.Need-find-requires
 find-requires c κs = search needs
@@ -41,7 +56,7 @@ same-length c = search needs
 
 returns : tie.Need-returns
 returns c =
-    asked-done (asking (c .before .before .before .before .before .before)) (c .asked-with .result) (c .before .before .before .write-value .last .1 .1 .0) (c .before .before .before .before .before .if1 .taken) (c .asked-with .ensures)
+    asked-done (asking (c .before .before .before .before .before .before)) (c .asked-with .result) (c .before .before .before .write-value .last .1 .1 .1 .0) (c .before .before .before .before .before .if1 .taken) (c .asked-with .ensures)
     (c .before .before .before .write-value .ensures)
 
 asked-with-requires-2 : tie.Need-asked-with-requires-2
@@ -55,7 +70,11 @@ field-spec =
     tie.close
     (tie.spec
     group-length-requires
-    fields-part-requires
+    lines-part-requires
+    line-at-requires
+    read-start-requires
+    add-after
+    after-requires
     find-requires
     is-understood-requires
     asked-number-requires
