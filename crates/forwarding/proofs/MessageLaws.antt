@@ -9,8 +9,7 @@ use borrow.Rule.Slice.PartMut.{putMid}
 use borrow.Author.Tests.{le-leb}
 use Rattle.laws.specs.Bytes.{littleBytes}
 use Rattle.laws.specs.Parts.{over}
-use Rattle.laws.proofs.Over.{rest-front}
-use Rattle.laws.proofs.Over.{over-length}
+use Rattle.laws.proofs.Over.{rest-front, over-length}
 use Rattle.laws.proofs.Writing.{stored-next, written-next, lent-part}
 use Rattle.wire.specs.Header.{numberOf, kindOf, sizeOf, payloadOf, header, message, withHeader}
 use Rattle.wire.proofs.HeaderLaws.{header-length}

@@ -1,12 +1,12 @@
 -- Parts of a list, as code that walks a text has them, and a list written over another piece by piece.
 use mathlib.Core.Path.{_≡_, sym, ap, ap₂, _∙_}
 use mathlib.Core.List.{List, [], _∷_, _++_, append-assoc}
-use Prim.Native.Nat.{ℕ, _+_, _-_, _≤_, _<_}
+use Prim.Native.Nat.{ℕ, _+_, _≤_, _<_}
 use native.Mathlib.Nat.{add-zero, add-assoc}
 use native.Mathlib.Numerals.{add-one}
 use native.Mathlib.Omega.{arith}
-use lib.ListN.{length, getD, take, drop, set, length-take, length-drop, length-append, take-append-drop, drop-of-length-le}
-use lib.Seq.{drop-cons, take-all, getD-drop, take-at, drop-drop, drop-append-add, set-split, length-take-le}
+use lib.ListN.{length, getD, take, drop, set, length-append, take-append-drop, drop-of-length-le}
+use lib.Seq.{drop-cons, getD-drop, take-at, drop-drop, drop-append-add, set-split, length-take-le}
 use Rattle.laws.specs.Parts.{over}
 
 module _ {A : Type 0} where

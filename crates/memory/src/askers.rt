@@ -22,7 +22,7 @@ fn fits_beside(line: u8, a: u8) -> bool
 }
 
 // Are the askers of the part all at most 9, and none of them this line?
-fn fit_beside(part: &[u8], line: u8) -> bool
+fn all_fit_beside(part: &[u8], line: u8) -> bool
     ensures { λ r. ⌜ r ≡ all (fitsBeside line) (now (part .entry)) ⌝ }
 {
     let mut good = true;
@@ -37,14 +37,18 @@ fn fit_beside(part: &[u8], line: u8) -> bool
 fn open_or_absent(live: bool, part: &[u8], line: u8) -> bool
     ensures { λ r. ⌜ r ≡ (live || all (fitsBeside line) (now (part .entry))) ⌝ }
 {
-    if live { true } else { fit_beside(part, line) }
+    if live {
+        true
+    } else {
+        all_fit_beside(part, line)
+    }
 }
 
 // One pass for each closed line, and one before them with 10, which is no line.
 fn part_fits(part: &[u8], live: [bool; 8]) -> bool
     ensures { λ r. ⌜ r ≡ all (askerFitsIn live) (now (part .entry)) ⌝ }
 {
-    if !fit_beside(part, 10) {
+    if !all_fit_beside(part, 10) {
         return false;
     }
     let mut k = 0;

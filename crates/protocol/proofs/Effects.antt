@@ -195,7 +195,7 @@ module _ (s : Station) (z : Sized s) (o : inOrder s ≡ true) where
   opening-effect l =
       of-refused (Effect s (Open l)) (firstOf (openingRules s l)) s [] (quiet 0 (withLine s l (emptyLine true)) [])
       (λ e. let p : NoRefusal (openingRules s l) = no-refusal (openingRules s l) refl e in
-      let b : l < lineCount = ltb-true l lineCount (not-false (ltb l lineCount) (or-fst (not (ltb l lineCount)) (lineAt s l .live) (p .1 .0))) in
+      let b : l < lineCount = ltb-true l lineCount (not-false (ltb l lineCount) (or-fst (not (ltb l lineCount)) _ (p .1 .0))) in
       let v : lineAt s l .live ≡ false = or-snd (not (ltb l lineCount)) (lineAt s l .live) (p .1 .0) in
       record {
         does = inr (inr (record { passed = refl; unclosed = λ _. refl; memory = refl }));

@@ -296,7 +296,7 @@ module _ (s : Station) (z : Sized s) (o : inOrder s ≡ true) where
   kept-opening l =
       of-refused (λ r. Kept s (r .state)) (firstOf (openingRules s l)) s [] (quiet 0 (withLine s l (emptyLine true)) [])
       (λ e. let p : NoRefusal (openingRules s l) = no-refusal (openingRules s l) refl e in
-      let h : l < lineCount = ltb-true l lineCount (not-false (ltb l lineCount) (or-fst (not (ltb l lineCount)) (lineAt s l .live) (p .1 .0))) in
+      let h : l < lineCount = ltb-true l lineCount (not-false (ltb l lineCount) (or-fst (not (ltb l lineCount)) _ (p .1 .0))) in
       kept-line s z o l (omega arith) (emptyLine true) (λ _. refl) (empty-facts (s .room) true) refl)
       (λ _. unchanged s z o)
 

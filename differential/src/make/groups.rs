@@ -11,9 +11,9 @@ const NAMES: [&[u8]; 9] = [b"X-Try", b"x-try", b"X-TRY", b"A", b"a", b"User-Agen
 /// One of the handshake's calls.
 pub fn call(random: &mut Random) -> Call {
     match random.below(12) {
-        0..=2 => Call::ReadGroup { bytes: group(random) },
-        3..=6 => read_field(random),
-        7..=8 => Call::ReadHosts { bytes: group(random) },
+        0 | 1 => Call::ReadGroup { bytes: group(random) },
+        2..=5 => read_field(random),
+        6..=8 => Call::ReadHosts { bytes: group(random) },
         9 => Call::WriteGreeting { out: around(random, 24) },
         10 => Call::WriteOk { out: around(random, 23) },
         _ => write_busy(random),
@@ -103,7 +103,9 @@ fn odd_pair(random: &mut Random) -> Vec<u8> {
             let mut zeros = pair(random, 256, 65_536);
             let starts: Vec<usize> = (0..zeros.len()).filter(|&at| at == 0 || !zeros[at - 1].is_ascii_digit()).collect();
             let at = random.pick(&starts);
-            zeros.splice(at..at, vec![b'0'; 1 + random.below(3)]);
+            let digits = zeros[at..].iter().take_while(|digit| digit.is_ascii_digit()).count();
+            let most = if Some(&at) == starts.last() { 5 } else { 3 };
+            zeros.splice(at..at, vec![b'0'; most - digits + random.below(2)]);
             zeros
         }
     }

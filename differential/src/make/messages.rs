@@ -44,7 +44,7 @@ impl Maker {
         if self.random.one_in(8) {
             self.spoil(&mut bytes);
         }
-        let clock = if framed.kind == PING && self.random.one_in(2) { self.ping_clock(station, at) } else { self.tick() };
+        let clock = if framed.kind == PING && !self.random.one_in(3) { self.ping_clock(station, at) } else { self.tick() };
         Call::Message { line, clock, own: self.own(), bytes, out: self.output(), route: self.lent_route(route) }
     }
 
@@ -209,6 +209,9 @@ impl Maker {
         let (mut place, mut size, mut bits) = (table.place, table.size, table.bits);
         if !running {
             (place, size, bits) = (1, self.random.pick(&[1, 1, 1, 2, 3, 4, 255]), self.random.pick(&[4, 8]));
+            if self.random.one_in(25) {
+                (place, size) = (2, size.max(2));
+            }
         }
         let (length, at) = (table.length as usize, if running { table.at as usize } else { 0 });
         let per_byte = if bits == 4 { 2 } else { 1 };

@@ -11,7 +11,7 @@ fn length(random: &mut Random) -> usize {
     match random.below(300) {
         0 => random.pick(&[16_384, 32_768, 65_536]),
         1..=10 => random.pick(&[1024, 2048, 4096, 8192]),
-        _ => random.pick(&[4, 4, 8, 16, 32, 64, 128, 256]),
+        _ => random.pick(&[4, 4, 8, 16, 32, 64, 128, 256, 512]),
     }
 }
 
@@ -32,10 +32,10 @@ fn next_entries(random: &mut Random, old: &[u8], infinity: u8) -> Vec<u8> {
     old.iter().map(|&entry| if random.one_in(3) { near(random, entry) } else { entry }).collect()
 }
 
-/// A data size that makes few messages or many, up to about the limit of 255.
+/// A data size that makes few messages or many, up to the limit of 255 and just above.
 fn size(random: &mut Random, length: usize) -> usize {
     let least = (length + 254) / 255;
-    random.pick(&[1, 2, 3, least.max(1), least + 1, length / 2 + 1, 64, 4091, 4091]).min(4091)
+    random.pick(&[1, 2, 3, least, least + 1, length / 256, length / 512, length / 2 + 1, 64, 4091, 4091]).clamp(1, 4091)
 }
 
 fn infinity(random: &mut Random) -> u8 {

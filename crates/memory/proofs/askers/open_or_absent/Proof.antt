@@ -4,14 +4,14 @@ use borrow.Author.Needs.{needs}
 use Rattle.memory.proofs.askers.open_or_absent.Statement.{statement}
 use Rattle.memory.proofs.askers.open_or_absent.Tie as tie
 
-fit-beside-requires : tie.Need-fit-beside-requires
-fit-beside-requires c κs = search needs
+all-fit-beside-requires : tie.Need-all-fit-beside-requires
+all-fit-beside-requires c κs = search needs
 
 returns : tie.Need-returns
 returns c = search needs
 
 returns-2 : tie.Need-returns-2
-returns-2 c = c .fit-beside .ensures ∙ rw (c .before .if1 .left)
+returns-2 c = c .all-fit-beside .ensures ∙ rw (c .before .if1 .left)
 
 pub open-or-absent-spec : {M : Type 1} → statement M
-open-or-absent-spec = tie.close (tie.spec fit-beside-requires returns returns-2)
+open-or-absent-spec = tie.close (tie.spec all-fit-beside-requires returns returns-2)

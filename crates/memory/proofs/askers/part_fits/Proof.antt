@@ -17,18 +17,18 @@ Inv-loop part live k₀ k = (k ≤ 8) × (all (fitsBeside 10) part ≡ true) × 
 abbrev μ-loop : tie.MeasureT-loop
 μ-loop part live k₀ k = 8 - k
 
-fit-beside-requires : tie.Need-fit-beside-requires Inv-loop μ-loop
-fit-beside-requires c κs = search needs
+all-fit-beside-requires : tie.Need-all-fit-beside-requires Inv-loop μ-loop
+all-fit-beside-requires c κs = search needs
 
 returns : tie.Need-returns Inv-loop μ-loop
 returns c =
     let a = c .before .before .before .args in
-    let r = c .before .fit-beside in
+    let r = c .before .all-fit-beside in
     sym (pass-fails (a .t2) 10 (a .part .now) refl (sym (r .ensures) ∙ not-true (r .result) (c .if1 .taken)))
 
 loop-holds : tie.Need-loop-holds Inv-loop μ-loop
 loop-holds c =
-    let r = c .before .fit-beside in
+    let r = c .before .all-fit-beside in
     (search needs, sym (r .ensures) ∙ not-false (r .result) (c .if1 .left), λ j h. absurd (omega arith))
 
 array-read-open-or-absent : tie.Need-array-read-open-or-absent Inv-loop μ-loop
@@ -71,7 +71,7 @@ part-fits-spec =
     (tie.spec
     Inv-loop
     μ-loop
-    fit-beside-requires
+    all-fit-beside-requires
     returns
     loop-holds
     array-read-open-or-absent

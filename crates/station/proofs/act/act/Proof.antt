@@ -19,7 +19,14 @@ quietly-requires : tie.Need-quietly-requires
 quietly-requires c κs = search needs
 
 returns : tie.Need-returns
-returns c = act-refused (stationOf (c .before .before .before .before .before .before .args .room) (c .before .before .before .before .before .before .args .t8) (now (c .before .before .before .before .before .before .args .lo)) (now (c .before .before .before .before .before .before .args .hi)) (now (c .before .before .before .before .before .before .args .asker)) (c .before .before .before .before .before .before .args .count) (c .before .before .before .before .before .before .args .next)) (c .before .before .before .before .before .before .args .l) (c .before .before .before .before .before .before .args .clock) (c .before .before .before .before .before .before .args .own) (now (c .before .before .before .before .before .before .args .m)) (now (c .before .before .before .before .before .before .args .out)) (now (c .before .before .before .before .before .before .args .route)) (c .before .if1 .taken) (c .quietly .ensures)
+returns c =
+    let at-if1 = c .before in
+    let start = at-if1 .before .before .before .before .before in
+    act-refused
+    (stationOf (start .args .room) (start .args .t8) (now (start .args .lo)) (now (start .args .hi)) (now (start .args .asker))
+    (start .args .count) (start .args .next))
+    (start .args .l) (start .args .clock) (start .args .own) (now (start .args .m)) (now (start .args .out)) (now (start .args .route))
+    (at-if1 .if1 .taken) (c .quietly .ensures)
 
 payload-size-requires : tie.Need-payload-size-requires
 payload-size-requires c κs = search needs
@@ -34,13 +41,33 @@ same-length : tie.Need-same-length
 same-length c = search needs
 
 returns-2 : tie.Need-returns-2
-returns-2 c = act-ping (stationOf (c .before .before .before .before .before .before .before .before .before .before .before .before .args .room) (c .before .before .before .before .before .before .before .before .before .before .before .before .args .t8) (now (c .before .before .before .before .before .before .before .before .before .before .before .before .args .lo)) (now (c .before .before .before .before .before .before .before .before .before .before .before .before .args .hi)) (now (c .before .before .before .before .before .before .before .before .before .before .before .before .args .asker)) (c .before .before .before .before .before .before .before .before .before .before .before .before .args .count) (c .before .before .before .before .before .before .before .before .before .before .before .before .args .next)) (c .before .before .before .before .before .before .before .before .before .before .before .before .args .l) (c .before .before .before .before .before .before .before .before .before .before .before .before .args .clock) (c .before .before .before .before .before .before .before .before .before .before .before .before .args .own) (now (c .before .before .before .before .before .before .before .before .before .before .before .before .args .m)) (now (c .before .before .before .before .before .before .before .before .before .before .before .before .args .out)) (now (c .before .before .before .before .before .before .before .before .before .before .before .before .args .route)) (omega (arith, c .before .before .before .before .before .before .before .before .before .before .before .before .good .1 .1 .1 .1 .1 .1 .1 .0)) (c .before .before .before .before .before .before .before .before .before .before .before .before .pre .1 (c .before .before .before .before .before .before .before .if1 .left)) (c .before .before .before .before .before .before .before .if1 .left) (c .before .before .before .before .if2 .taken) (c .before .before .ping-step .ensures .0) (c .before .before .ping-step .ensures .1)
+returns-2 c =
+    let at-ping-step = c .before .before in
+    let at-if2 = at-ping-step .before .before in
+    let at-if1 = at-if2 .before .before .before in
+    let start = at-if1 .before .before .before .before .before in
+    act-ping
+    (stationOf (start .args .room) (start .args .t8) (now (start .args .lo)) (now (start .args .hi)) (now (start .args .asker))
+    (start .args .count) (start .args .next))
+    (start .args .l) (start .args .clock) (start .args .own) (now (start .args .m)) (now (start .args .out)) (now (start .args .route))
+    (omega (arith, start .good .1 .1 .1 .1 .1 .1 .1 .0)) (start .pre .1 (at-if1 .if1 .left)) (at-if1 .if1 .left) (at-if2 .if2 .taken)
+    (at-ping-step .ping-step .ensures .0) (at-ping-step .ping-step .ensures .1)
 
 pong-step-requires : tie.Need-pong-step-requires
 pong-step-requires c κs = let y = c .before .before .before .before .before .before .before .before .before .pre .1 (c .before .before .before .before .if1 .left) in (c .before .before .before .payload-size .ensures, omega (arith, c .before .before .before .payload-size .ensures))
 
 returns-3 : tie.Need-returns-3
-returns-3 c = act-pong (stationOf (c .before .before .before .before .before .before .before .before .before .before .args .room) (c .before .before .before .before .before .before .before .before .before .before .args .t8) (now (c .before .before .before .before .before .before .before .before .before .before .args .lo)) (now (c .before .before .before .before .before .before .before .before .before .before .args .hi)) (now (c .before .before .before .before .before .before .before .before .before .before .args .asker)) (c .before .before .before .before .before .before .before .before .before .before .args .count) (c .before .before .before .before .before .before .before .before .before .before .args .next)) (c .before .before .before .before .before .before .before .before .before .before .args .l) (c .before .before .before .before .before .before .before .before .before .before .args .clock) (c .before .before .before .before .before .before .before .before .before .before .args .own) (now (c .before .before .before .before .before .before .before .before .before .before .args .m)) (now (c .before .before .before .before .before .before .before .before .before .before .args .out)) (now (c .before .before .before .before .before .before .before .before .before .before .args .route)) (omega (arith, c .before .before .before .before .before .before .before .before .before .before .good .1 .1 .1 .1 .1 .1 .1 .0)) (c .before .before .before .before .before .before .before .before .before .before .pre .1 (c .before .before .before .before .before .if1 .left)) (c .before .before .before .before .before .if1 .left) (c .before .if3 .taken) (c .before .before .before .before .payload-size .ensures) (c .pong-step .ensures)
+returns-3 c =
+    let at-if3 = c .before in
+    let at-payload-size = at-if3 .before .before .before in
+    let at-if1 = at-payload-size .before in
+    let start = at-if1 .before .before .before .before .before in
+    act-pong
+    (stationOf (start .args .room) (start .args .t8) (now (start .args .lo)) (now (start .args .hi)) (now (start .args .asker))
+    (start .args .count) (start .args .next))
+    (start .args .l) (start .args .clock) (start .args .own) (now (start .args .m)) (now (start .args .out)) (now (start .args .route))
+    (omega (arith, start .good .1 .1 .1 .1 .1 .1 .1 .0)) (start .pre .1 (at-if1 .if1 .left)) (at-if1 .if1 .left) (at-if3 .if3 .taken)
+    (at-payload-size .payload-size .ensures) (c .pong-step .ensures)
 
 cast-n : tie.Need-cast-n
 cast-n c = search needs
@@ -64,19 +91,38 @@ part-update-step-end : tie.Need-part-update-step-end
 part-update-step-end c = let y = c .before .before .before .before .before .before .before .before .before .before .before .before .pre .1 (c .before .before .before .before .before .before .before .if1 .left) in omega (arith, c .before .before .before .before .before .before .payload-size .ensures)
 
 update-step-requires : tie.Need-update-step-requires
-update-step-requires c κs = let y = c .before .before .before .before .before .before .before .before .before .before .before .before .before .before .pre .1 (c .before .before .before .before .before .before .before .before .before .if1 .left) in part-within (c .before .before .before .before .before .before .before .before .before .before .before .before .before .before .args .l) (c .before .before .before .before .before .before .before .before .before .before .before .before .before .before .args .room) (length (now (c .before .before .before .before .before .before .before .before .before .before .before .before .before .before .args .route))) (c .before .before .before .before .before .before .before .before .before .before .before .before .before .before .pre .0) (y .rooms)
+update-step-requires c κs =
+    let at-if1 = c .before .before .before .before .before .before .before .before .before in
+    let start = at-if1 .before .before .before .before .before in
+    let y = start .pre .1 (at-if1 .if1 .left) in part-within (start .args .l) (start .args .room) (length (now (start .args .route))) (start .pre .0) (y .rooms)
 
 same-length-2 : tie.Need-same-length-2
 same-length-2 c = search needs
 
 returns-4 : tie.Need-returns-4
-returns-4 c = act-update (stationOf (c .before .before .before .before .before .before .before .before .before .before .before .before .before .before .before .before .before .args .room) (c .before .before .before .before .before .before .before .before .before .before .before .before .before .before .before .before .before .args .t8) (now (c .before .before .before .before .before .before .before .before .before .before .before .before .before .before .before .before .before .args .lo)) (now (c .before .before .before .before .before .before .before .before .before .before .before .before .before .before .before .before .before .args .hi)) (now (c .before .before .before .before .before .before .before .before .before .before .before .before .before .before .before .before .before .args .asker)) (c .before .before .before .before .before .before .before .before .before .before .before .before .before .before .before .before .before .args .count) (c .before .before .before .before .before .before .before .before .before .before .before .before .before .before .before .before .before .args .next)) (c .before .before .before .before .before .before .before .before .before .before .before .before .before .before .before .before .before .args .l) (c .before .before .before .before .before .before .before .before .before .before .before .before .before .before .before .before .before .args .clock) (c .before .before .before .before .before .before .before .before .before .before .before .before .before .before .before .before .before .args .own) (now (c .before .before .before .before .before .before .before .before .before .before .before .before .before .before .before .before .before .args .m)) (now (c .before .before .before .before .before .before .before .before .before .before .before .before .before .before .before .before .before .args .out)) (now (c .before .before .before .before .before .before .before .before .before .before .before .before .before .before .before .before .before .args .route)) (omega (arith, c .before .before .before .before .before .before .before .before .before .before .before .before .before .before .before .before .before .good .1 .1 .1 .1 .1 .1 .1 .0)) (c .before .before .before .before .before .before .before .before .before .before .before .before .before .before .before .before .before .pre .1 (c .before .before .before .before .before .before .before .before .before .before .before .before .if1 .left)) (c .before .before .before .before .before .before .before .before .before .before .before .before .if1 .left) (c .before .before .before .before .before .before .before .if4 .taken) (c .before .before .before .before .before .before .before .before .before .before .before .payload-size .ensures) (c .before .before .update-step .ensures .0) (c .before .before .update-step .ensures .1)
+returns-4 c =
+    let at-update-step = c .before .before in
+    let at-if4 = at-update-step .before .before .before .before .before in
+    let at-payload-size = at-if4 .before .before .before .before in
+    let at-if1 = at-payload-size .before in
+    let start = at-if1 .before .before .before .before .before in
+    act-update
+    (stationOf (start .args .room) (start .args .t8) (now (start .args .lo)) (now (start .args .hi)) (now (start .args .asker))
+    (start .args .count) (start .args .next))
+    (start .args .l) (start .args .clock) (start .args .own) (now (start .args .m)) (now (start .args .out)) (now (start .args .route))
+    (omega (arith, start .good .1 .1 .1 .1 .1 .1 .1 .0)) (start .pre .1 (at-if1 .if1 .left)) (at-if1 .if1 .left) (at-if4 .if4 .taken)
+    (at-payload-size .payload-size .ensures) (at-update-step .update-step .ensures .0) (at-update-step .update-step .ensures .1)
 
 look-requires : tie.Need-look-requires
 look-requires c κs = search needs
 
 query-step-requires : tie.Need-query-step-requires
-query-step-requires c κs = let y = c .before .before .before .before .before .before .before .before .before .before .before .before .before .before .pre .1 (c .before .before .before .before .before .before .before .before .before .if1 .left) in let e = c .before .before .before .before .before .before .before .before .payload-size .ensures in (e, omega (arith, e), omega (arith, e), c .before .before .before .if5 .taken, c .before .before .before .before .before .before .before .before .before .before .before .before .before .before .pre .0)
+query-step-requires c κs =
+    let at-if5 = c .before .before .before in
+    let at-payload-size = at-if5 .before .before .before .before .before in
+    let at-if1 = at-payload-size .before in
+    let start = at-if1 .before .before .before .before .before in
+    let y = start .pre .1 (at-if1 .if1 .left) in let e = at-payload-size .payload-size .ensures in (e, omega (arith, e), omega (arith, e), at-if5 .if5 .taken, start .pre .0)
 
 same-length-3 : tie.Need-same-length-3
 same-length-3 c = search needs
@@ -85,25 +131,68 @@ same-length-4 : tie.Need-same-length-4
 same-length-4 c = search needs
 
 returns-5 : tie.Need-returns-5
-returns-5 c = act-query (stationOf (c .before .before .before .before .before .before .before .before .before .before .before .before .before .before .before .before .before .args .room) (c .before .before .before .before .before .before .before .before .before .before .before .before .before .before .before .before .before .args .t8) (now (c .before .before .before .before .before .before .before .before .before .before .before .before .before .before .before .before .before .args .lo)) (now (c .before .before .before .before .before .before .before .before .before .before .before .before .before .before .before .before .before .args .hi)) (now (c .before .before .before .before .before .before .before .before .before .before .before .before .before .before .before .before .before .args .asker)) (c .before .before .before .before .before .before .before .before .before .before .before .before .before .before .before .before .before .args .count) (c .before .before .before .before .before .before .before .before .before .before .before .before .before .before .before .before .before .args .next)) (c .before .before .before .before .before .before .before .before .before .before .before .before .before .before .before .before .before .args .l) (c .before .before .before .before .before .before .before .before .before .before .before .before .before .before .before .before .before .args .clock) (c .before .before .before .before .before .before .before .before .before .before .before .before .before .before .before .before .before .args .own) (now (c .before .before .before .before .before .before .before .before .before .before .before .before .before .before .before .before .before .args .m)) (now (c .before .before .before .before .before .before .before .before .before .before .before .before .before .before .before .before .before .args .out)) (now (c .before .before .before .before .before .before .before .before .before .before .before .before .before .before .before .before .before .args .route)) (omega (arith, c .before .before .before .before .before .before .before .before .before .before .before .before .before .before .before .before .before .good .1 .1 .1 .1 .1 .1 .1 .0)) (c .before .before .before .before .before .before .before .before .before .before .before .before .before .before .before .before .before .pre .1 (c .before .before .before .before .before .before .before .before .before .before .before .before .if1 .left)) (c .before .before .before .before .before .look .ensures .1) (c .before .before .before .before .before .look .result) (c .before .before .before .before .before .look .ensures .0) (c .before .before .before .before .before .before .before .before .before .before .before .before .if1 .left) (c .before .before .before .before .before .before .if5 .taken) (c .before .before .query-step .ensures .0) (c .before .before .query-step .ensures .1)
+returns-5 c =
+    let at-query-step = c .before .before in
+    let at-look = at-query-step .before .before .before in
+    let at-if5 = at-look .before in
+    let at-if1 = at-if5 .before .before .before .before .before .before in
+    let start = at-if1 .before .before .before .before .before in
+    act-query
+    (stationOf (start .args .room) (start .args .t8) (now (start .args .lo)) (now (start .args .hi)) (now (start .args .asker))
+    (start .args .count) (start .args .next))
+    (start .args .l) (start .args .clock) (start .args .own) (now (start .args .m)) (now (start .args .out)) (now (start .args .route))
+    (omega (arith, start .good .1 .1 .1 .1 .1 .1 .1 .0)) (start .pre .1 (at-if1 .if1 .left)) (at-look .look .ensures .1)
+    (at-look .look .result) (at-look .look .ensures .0) (at-if1 .if1 .left) (at-if5 .if5 .taken) (at-query-step .query-step .ensures .0)
+    (at-query-step .query-step .ensures .1)
 
 look-requires-2 : tie.Need-look-requires-2
 look-requires-2 c κs = search needs
 
 hit-step-requires : tie.Need-hit-step-requires
-hit-step-requires c κs = let y = c .before .before .before .before .before .before .before .before .before .before .before .before .before .before .pre .1 (c .before .before .before .before .before .before .before .before .before .if1 .left) in let e = c .before .before .before .before .before .before .before .before .payload-size .ensures in (e, omega (arith, e), omega (arith, e), c .before .before .if6 .taken)
+hit-step-requires c κs =
+    let at-if6 = c .before .before in
+    let at-payload-size = at-if6 .before .before .before .before .before .before in
+    let at-if1 = at-payload-size .before in
+    let start = at-if1 .before .before .before .before .before in
+    let y = start .pre .1 (at-if1 .if1 .left) in let e = at-payload-size .payload-size .ensures in (e, omega (arith, e), omega (arith, e), at-if6 .if6 .taken)
 
 same-length-5 : tie.Need-same-length-5
 same-length-5 c = search needs
 
 returns-6 : tie.Need-returns-6
-returns-6 c = act-hit (stationOf (c .before .before .before .before .before .before .before .before .before .before .before .before .before .before .before .before .before .args .room) (c .before .before .before .before .before .before .before .before .before .before .before .before .before .before .before .before .before .args .t8) (now (c .before .before .before .before .before .before .before .before .before .before .before .before .before .before .before .before .before .args .lo)) (now (c .before .before .before .before .before .before .before .before .before .before .before .before .before .before .before .before .before .args .hi)) (now (c .before .before .before .before .before .before .before .before .before .before .before .before .before .before .before .before .before .args .asker)) (c .before .before .before .before .before .before .before .before .before .before .before .before .before .before .before .before .before .args .count) (c .before .before .before .before .before .before .before .before .before .before .before .before .before .before .before .before .before .args .next)) (c .before .before .before .before .before .before .before .before .before .before .before .before .before .before .before .before .before .args .l) (c .before .before .before .before .before .before .before .before .before .before .before .before .before .before .before .before .before .args .clock) (c .before .before .before .before .before .before .before .before .before .before .before .before .before .before .before .before .before .args .own) (now (c .before .before .before .before .before .before .before .before .before .before .before .before .before .before .before .before .before .args .m)) (now (c .before .before .before .before .before .before .before .before .before .before .before .before .before .before .before .before .before .args .out)) (now (c .before .before .before .before .before .before .before .before .before .before .before .before .before .before .before .before .before .args .route)) (omega (arith, c .before .before .before .before .before .before .before .before .before .before .before .before .before .before .before .before .before .good .1 .1 .1 .1 .1 .1 .1 .0)) (c .before .before .before .before .before .before .before .before .before .before .before .before .before .before .before .before .before .pre .1 (c .before .before .before .before .before .before .before .before .before .before .before .before .if1 .left)) (c .before .before .before .before .look2 .ensures .1) (c .before .before .before .before .look2 .result) (c .before .before .before .before .look2 .ensures .0) (c .before .before .before .before .before .before .before .before .before .before .before .before .if1 .left) (c .before .before .before .before .before .if6 .taken) (c .before .before .before .before .before .before .before .before .before .before .before .payload-size .ensures) (c .before .before .hit-step .ensures .0) (c .before .before .hit-step .ensures .1)
+returns-6 c =
+    let at-hit-step = c .before .before in
+    let at-look2 = at-hit-step .before .before in
+    let at-if6 = at-look2 .before in
+    let at-payload-size = at-if6 .before .before .before .before .before .before in
+    let at-if1 = at-payload-size .before in
+    let start = at-if1 .before .before .before .before .before in
+    act-hit
+    (stationOf (start .args .room) (start .args .t8) (now (start .args .lo)) (now (start .args .hi)) (now (start .args .asker))
+    (start .args .count) (start .args .next))
+    (start .args .l) (start .args .clock) (start .args .own) (now (start .args .m)) (now (start .args .out)) (now (start .args .route))
+    (omega (arith, start .good .1 .1 .1 .1 .1 .1 .1 .0)) (start .pre .1 (at-if1 .if1 .left)) (at-look2 .look2 .ensures .1)
+    (at-look2 .look2 .result) (at-look2 .look2 .ensures .0) (at-if1 .if1 .left) (at-if6 .if6 .taken)
+    (at-payload-size .payload-size .ensures) (at-hit-step .hit-step .ensures .0) (at-hit-step .hit-step .ensures .1)
 
 quietly-requires-2 : tie.Need-quietly-requires-2
 quietly-requires-2 c κs = search needs
 
 returns-7 : tie.Need-returns-7
-returns-7 c = act-none (stationOf (c .before .before .before .before .before .before .before .before .before .before .before .before .before .args .room) (c .before .before .before .before .before .before .before .before .before .before .before .before .before .args .t8) (now (c .before .before .before .before .before .before .before .before .before .before .before .before .before .args .lo)) (now (c .before .before .before .before .before .before .before .before .before .before .before .before .before .args .hi)) (now (c .before .before .before .before .before .before .before .before .before .before .before .before .before .args .asker)) (c .before .before .before .before .before .before .before .before .before .before .before .before .before .args .count) (c .before .before .before .before .before .before .before .before .before .before .before .before .before .args .next)) (c .before .before .before .before .before .before .before .before .before .before .before .before .before .args .l) (c .before .before .before .before .before .before .before .before .before .before .before .before .before .args .clock) (c .before .before .before .before .before .before .before .before .before .before .before .before .before .args .own) (now (c .before .before .before .before .before .before .before .before .before .before .before .before .before .args .m)) (now (c .before .before .before .before .before .before .before .before .before .before .before .before .before .args .out)) (now (c .before .before .before .before .before .before .before .before .before .before .before .before .before .args .route)) (c .before .before .before .before .before .before .before .before .if1 .left) (c .before .before .before .before .before .if2 .left) (c .before .before .before .before .if3 .left) (c .before .before .before .if4 .left) (c .before .before .if5 .left) (c .before .if6 .left) (c .quietly2 .ensures)
+returns-7 c =
+    let at-if6 = c .before in
+    let at-if5 = at-if6 .before in
+    let at-if4 = at-if5 .before in
+    let at-if3 = at-if4 .before in
+    let at-if2 = at-if3 .before in
+    let at-if1 = at-if2 .before .before .before in
+    let start = at-if1 .before .before .before .before .before in
+    act-none
+    (stationOf (start .args .room) (start .args .t8) (now (start .args .lo)) (now (start .args .hi)) (now (start .args .asker))
+    (start .args .count) (start .args .next))
+    (start .args .l) (start .args .clock) (start .args .own) (now (start .args .m)) (now (start .args .out)) (now (start .args .route))
+    (at-if1 .if1 .left) (at-if2 .if2 .left) (at-if3 .if3 .left) (at-if4 .if4 .left) (at-if5 .if5 .left) (at-if6 .if6 .left)
+    (c .quietly2 .ensures)
 
 pub act-spec : {M : Type 1} → statement M
 act-spec =

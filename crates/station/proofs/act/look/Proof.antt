@@ -17,7 +17,14 @@ find-requires : tie.Need-find-requires
 find-requires c κs = search needs
 
 returns : tie.Need-returns
-returns c = (look-is (queriesIn (now (c .before .before .before .before .before .before .before .args .lo)) (now (c .before .before .before .before .before .before .before .args .hi)) (now (c .before .before .before .before .before .before .before .args .asker)) (c .before .before .before .before .before .before .before .args .next) (c .before .before .before .before .before .before .before .args .count)) (now (c .before .before .before .before .before .before .before .args .m)) (c .find .ensures) (c .before .before .before .before .before .low-half .ensures) (c .before .before .before .before .high-half .ensures), omega arith)
+returns c =
+    let at-high-half = c .before .before .before .before in
+    let at-low-half = at-high-half .before in
+    let start = at-low-half .before .before in (
+      look-is (queriesIn (now (start .args .lo)) (now (start .args .hi)) (now (start .args .asker)) (start .args .next) (start .args .count))
+          (now (start .args .m)) (c .find .ensures) (at-low-half .low-half .ensures) (at-high-half .high-half .ensures),
+      omega arith,
+    )
 
 pub look-spec : {M : Type 1} → statement M
 look-spec = tie.close (tie.spec low-half-requires high-half-requires find-requires returns)

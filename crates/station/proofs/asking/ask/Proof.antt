@@ -10,7 +10,11 @@ own-refusal-requires : tie.Need-own-refusal-requires
 own-refusal-requires c κs = search needs
 
 send-own-requires : tie.Need-send-own-requires
-send-own-requires c κs = own-fits (c .before .before .before .before .before .before .before .before .before .before .args .t1) (c .before .before .before .before .before .before .before .before .before .before .args .t2) (now (c .before .before .before .before .before .before .before .before .before .before .args .text)) (length (now (c .before .before .before .before .before .before .before .before .before .before .args .out))) (length (now (c .before .before .before .before .before .before .before .before .before .before .args .route))) (c .before .own-refusal .ensures)
+send-own-requires c κs =
+    let at-own-refusal = c .before in
+    let start = at-own-refusal .before .before .before .before .before .before .before .before .before in
+    own-fits (start .args .t1) (start .args .t2) (now (start .args .text)) (length (now (start .args .out)))
+    (length (now (start .args .route))) (at-own-refusal .own-refusal .ensures)
 
 slice-aggregate-low-half : tie.Need-slice-aggregate-low-half
 slice-aggregate-low-half c = search needs
@@ -43,7 +47,22 @@ same-length : tie.Need-same-length
 same-length c = search needs
 
 returns : tie.Need-returns
-returns c = ask-done (c .before .before .before .before .before .before .before .before .before .before .before .before .before .before .before .before .before .before .before .before .before .before .before .before .before .before .args .t1) (c .before .before .before .before .before .before .before .before .before .before .before .before .before .before .before .before .before .before .before .before .before .before .before .before .before .before .args .t2) (now (c .before .before .before .before .before .before .before .before .before .before .before .before .before .before .before .before .before .before .before .before .before .before .before .before .before .before .args .text)) (now (c .before .before .before .before .before .before .before .before .before .before .before .before .before .before .before .before .before .before .before .before .before .before .before .before .before .before .args .out)) (now (c .before .before .before .before .before .before .before .before .before .before .before .before .before .before .before .before .before .before .before .before .before .before .before .before .before .before .args .route)) (c .before .before .before .before .before .before .before .before .before .before .before .before .before .before .before .before .before .own-refusal .ensures) (c .before .before .before .before .before .before .before .before .before .before .before .before .before .before .before .send-own .ensures .0) (c .before .before .before .before .before .before .before .before .before .before .before .before .before .before .before .send-own .ensures .1) (c .before .before .before .before .before .before .before .before .before .before .before .low-half .ensures) (c .before .before .before .before .before .before .before .before .before .high-half .ensures) (c .before .before .before .before .before .before .before .keep-word .ensures) (c .before .before .before .before .before .keep-word2 .ensures) (c .before .before .before .keep-byte .ensures) (c .before .before .count-after .ensures) (c .before .next-after .ensures)
+returns c =
+    let at-next-after = c .before in
+    let at-count-after = at-next-after .before in
+    let at-keep-byte = at-count-after .before in
+    let at-keep-word2 = at-keep-byte .before .before in
+    let at-keep-word = at-keep-word2 .before .before in
+    let at-high-half = at-keep-word .before .before in
+    let at-low-half = at-high-half .before .before in
+    let at-send-own = at-low-half .before .before .before .before in
+    let at-own-refusal = at-send-own .before .before in
+    let start = at-own-refusal .before .before .before .before .before .before .before .before .before in
+    ask-done (start .args .t1) (start .args .t2) (now (start .args .text)) (now (start .args .out)) (now (start .args .route))
+    (at-own-refusal .own-refusal .ensures) (at-send-own .send-own .ensures .0) (at-send-own .send-own .ensures .1)
+    (at-low-half .low-half .ensures) (at-high-half .high-half .ensures) (at-keep-word .keep-word .ensures)
+    (at-keep-word2 .keep-word2 .ensures) (at-keep-byte .keep-byte .ensures) (at-count-after .count-after .ensures)
+    (at-next-after .next-after .ensures)
 
 pub ask-spec : {M : Type 1} → statement M
 ask-spec =

@@ -22,7 +22,16 @@ own-requires : tie.Need-own-requires
 own-requires c κs = search needs
 
 returns : tie.Need-returns
-returns c = own-refusal-is (stationOf (c .before .before .before .before .before .before .args .room) (c .before .before .before .before .before .before .args .lines) (now (c .before .before .before .before .before .before .args .lo)) (now (c .before .before .before .before .before .before .args .hi)) (now (c .before .before .before .before .before .before .args .asker)) (c .before .before .before .before .before .before .args .count) (c .before .before .before .before .before .before .args .next)) (c .before .before .before .before .before .before .args .t8) (now (c .before .before .before .before .before .before .args .text)) (c .before .before .before .before .before .before .args .out) (c .before .before .before .before .before .before .args .route) (c .before .before .look .ensures .1) (c .before .before .before .before .in-order .ensures) (c .before .before .look .ensures .0) (c .before .any-zero .ensures) (c .own .ensures)
+returns c =
+    let at-any-zero = c .before in
+    let at-look = at-any-zero .before in
+    let at-in-order = at-look .before .before in
+    let start = at-in-order .before .before in
+    own-refusal-is
+    (stationOf (start .args .room) (start .args .lines) (now (start .args .lo)) (now (start .args .hi)) (now (start .args .asker))
+    (start .args .count) (start .args .next))
+    (start .args .t8) (now (start .args .text)) (start .args .out) (start .args .route) (at-look .look .ensures .1)
+    (at-in-order .in-order .ensures) (at-look .look .ensures .0) (at-any-zero .any-zero .ensures) (c .own .ensures)
 
 pub own-refusal-spec : {M : Type 1} → statement M
 own-refusal-spec =

@@ -10,7 +10,11 @@ use Rattle.station.proofs.asking.send_own.Statement.{statement}
 use Rattle.station.proofs.asking.send_own.Tie as tie
 
 returns : tie.Need-returns
-returns c = own-refused (c .before .before .before .before .args .answer) (ownLines (c .before .before .before .before .args .lines) (c .before .before .before .before .args .room) (now (c .before .before .before .before .args .text)) (now (c .before .before .before .before .args .route))) (c .before .before .before .before .args .number) (now (c .before .before .before .before .args .text)) (now (c .before .before .before .before .args .out)) (omega (arith, c .before .before .before .before .good .1 .1 .1 .0)) (c .if1 .taken)
+returns c =
+    let start = c .before .before .before .before in
+    own-refused (start .args .answer)
+    (ownLines (start .args .lines) (start .args .room) (now (start .args .text)) (now (start .args .route))) (start .args .number)
+    (now (start .args .text)) (now (start .args .out)) (omega (arith, start .good .1 .1 .1 .0)) (c .if1 .taken)
 
 lives-requires : tie.Need-lives-requires
 lives-requires c κs = search needs
@@ -25,7 +29,19 @@ any-line-requires : tie.Need-any-line-requires
 any-line-requires c κs = search needs
 
 returns-2 : tie.Need-returns-2
-returns-2 c = own-nobody (c .before .before .before .before .before .before .before .before .before .args .answer) (ownLines (c .before .before .before .before .before .before .before .before .before .args .lines) (c .before .before .before .before .before .before .before .before .before .args .room) (now (c .before .before .before .before .before .before .before .before .before .args .text)) (now (c .before .before .before .before .before .before .before .before .before .args .route))) (c .before .before .before .before .before .before .before .before .before .args .number) (now (c .before .before .before .before .before .before .before .before .before .args .text)) (now (c .before .before .before .before .before .before .before .before .before .args .out)) (omega (arith, c .before .before .before .before .before .before .before .before .before .good .1 .1 .1 .0)) (c .before .before .before .before .before .if1 .left) (own-lines (c .before .before .before .before .before .before .before .before .before .args .lines) (c .before .before .before .before .before .before .before .before .before .args .room) (now (c .before .before .before .before .before .before .before .before .before .args .text)) (now (c .before .before .before .before .before .before .before .before .before .args .route)) (c .before .before .before .before .lives .ensures) (c .before .before .before .tables-of .ensures) (c .before .before .passing .ensures)) (sym (c .before .any-line .ensures) ∙ not-true (c .before .any-line .result) (c .if2 .taken))
+returns-2 c =
+    let at-any-line = c .before in
+    let at-passing = at-any-line .before in
+    let at-tables-of = at-passing .before in
+    let at-lives = at-tables-of .before in
+    let at-if1 = at-lives .before in
+    let start = at-if1 .before .before .before .before in
+    own-nobody (start .args .answer)
+    (ownLines (start .args .lines) (start .args .room) (now (start .args .text)) (now (start .args .route))) (start .args .number)
+    (now (start .args .text)) (now (start .args .out)) (omega (arith, start .good .1 .1 .1 .0)) (at-if1 .if1 .left)
+    (own-lines (start .args .lines) (start .args .room) (now (start .args .text)) (now (start .args .route)) (at-lives .lives .ensures)
+    (at-tables-of .tables-of .ensures) (at-passing .passing .ensures))
+    (sym (at-any-line .any-line .ensures) ∙ not-true (at-any-line .any-line .result) (c .if2 .taken))
 
 own-query-requires : tie.Need-own-query-requires
 own-query-requires c κs = search needs
@@ -34,7 +50,22 @@ same-length : tie.Need-same-length
 same-length c = search needs
 
 returns-3 : tie.Need-returns-3
-returns-3 c = let p = c .before .before .before .before .before .before .before .before .before .before .before .before .before .pre (c .before .before .before .before .before .before .before .before .before .if1 .left) in own-some (c .before .before .before .before .before .before .before .before .before .before .before .before .before .args .answer) (ownLines (c .before .before .before .before .before .before .before .before .before .before .before .before .before .args .lines) (c .before .before .before .before .before .before .before .before .before .before .before .before .before .args .room) (now (c .before .before .before .before .before .before .before .before .before .before .before .before .before .args .text)) (now (c .before .before .before .before .before .before .before .before .before .before .before .before .before .args .route))) (c .before .before .before .before .before .before .before .before .before .before .before .before .before .args .number) (now (c .before .before .before .before .before .before .before .before .before .before .before .before .before .args .text)) (now (c .before .before .before .before .before .before .before .before .before .before .before .before .before .args .out)) (omega (arith, c .before .before .before .before .before .before .before .before .before .before .before .before .before .good .1 .1 .1 .0)) (c .before .before .before .before .before .before .before .before .before .if1 .left) (own-lines (c .before .before .before .before .before .before .before .before .before .before .before .before .before .args .lines) (c .before .before .before .before .before .before .before .before .before .before .before .before .before .args .room) (now (c .before .before .before .before .before .before .before .before .before .before .before .before .before .args .text)) (now (c .before .before .before .before .before .before .before .before .before .before .before .before .before .args .route)) (c .before .before .before .before .before .before .before .before .lives .ensures) (c .before .before .before .before .before .before .before .tables-of .ensures) (c .before .before .before .before .before .before .passing .ensures)) (sym (c .before .before .before .before .before .any-line .ensures) ∙ not-false (c .before .before .before .before .before .any-line .result) (c .before .before .before .before .if2 .left)) (p .0) (omega (arith, p .0, p .1)) (c .before .before .own-query .ensures .0) (c .before .before .own-query .ensures .1)
+returns-3 c =
+    let at-own-query = c .before .before in
+    let at-if2 = at-own-query .before .before in
+    let at-any-line = at-if2 .before in
+    let at-passing = at-any-line .before in
+    let at-tables-of = at-passing .before in
+    let at-lives = at-tables-of .before in
+    let at-if1 = at-lives .before in
+    let start = at-if1 .before .before .before .before in
+    let p = start .pre (at-if1 .if1 .left) in
+    own-some (start .args .answer) (ownLines (start .args .lines) (start .args .room) (now (start .args .text)) (now (start .args .route)))
+    (start .args .number) (now (start .args .text)) (now (start .args .out)) (omega (arith, start .good .1 .1 .1 .0)) (at-if1 .if1 .left)
+    (own-lines (start .args .lines) (start .args .room) (now (start .args .text)) (now (start .args .route)) (at-lives .lives .ensures)
+    (at-tables-of .tables-of .ensures) (at-passing .passing .ensures))
+    (sym (at-any-line .any-line .ensures) ∙ not-false (at-any-line .any-line .result) (at-if2 .if2 .left)) (p .0)
+    (omega (arith, p .0, p .1)) (at-own-query .own-query .ensures .0) (at-own-query .own-query .ensures .1)
 
 pub send-own-spec : {M : Type 1} → statement M
 send-own-spec =

@@ -13,7 +13,16 @@ first-refusal-requires : tie.Need-first-refusal-requires
 first-refusal-requires c κs = search needs
 
 act-requires : tie.Need-act-requires
-act-requires c κs = (omega arith, ready (stationOf (c .before .before .before .before .before .before .args .room) (c .before .before .before .before .before .before .args .lines) (now (c .before .before .before .before .before .before .args .lo)) (now (c .before .before .before .before .before .before .args .hi)) (now (c .before .before .before .before .before .before .args .asker)) (c .before .before .before .before .before .before .args .count) (c .before .before .before .before .before .before .args .next)) (c .before .before .before .before .before .before .args .line) (c .before .before .before .before .before .before .args .clock) (c .before .before .before .before .before .before .args .own) (now (c .before .before .before .before .before .before .args .m)) (length (now (c .before .before .before .before .before .before .args .out))) (now (c .before .before .before .before .before .before .args .route)) (c .before .before .first-refusal .ensures .1) (c .before .before .first-refusal .ensures .0))
+act-requires c κs =
+    let at-first-refusal = c .before .before in
+    let start = at-first-refusal .before .before .before .before in (
+      omega arith,
+      ready
+          (stationOf (start .args .room) (start .args .lines) (now (start .args .lo)) (now (start .args .hi)) (now (start .args .asker))
+          (start .args .count) (start .args .next))
+          (start .args .line) (start .args .clock) (start .args .own) (now (start .args .m)) (length (now (start .args .out)))
+          (now (start .args .route)) (at-first-refusal .first-refusal .ensures .1) (at-first-refusal .first-refusal .ensures .0),
+    )
 
 same-length : tie.Need-same-length
 same-length c = search needs
@@ -22,7 +31,16 @@ same-length-2 : tie.Need-same-length-2
 same-length-2 c = search needs
 
 returns : tie.Need-returns
-returns c = arrive-done (stationOf (c .before .before .before .before .before .before .before .before .before .before .before .args .room) (c .before .before .before .before .before .before .before .before .before .before .before .args .lines) (now (c .before .before .before .before .before .before .before .before .before .before .before .args .lo)) (now (c .before .before .before .before .before .before .before .before .before .before .before .args .hi)) (now (c .before .before .before .before .before .before .before .before .before .before .before .args .asker)) (c .before .before .before .before .before .before .before .before .before .before .before .args .count) (c .before .before .before .before .before .before .before .before .before .before .before .args .next)) (c .before .before .before .before .before .before .before .before .before .before .before .args .line) (c .before .before .before .before .before .before .before .before .before .before .before .args .clock) (c .before .before .before .before .before .before .before .before .before .before .before .args .own) (now (c .before .before .before .before .before .before .before .before .before .before .before .args .m)) (now (c .before .before .before .before .before .before .before .before .before .before .before .args .out)) (now (c .before .before .before .before .before .before .before .before .before .before .before .args .route)) (c .before .before .before .before .before .before .before .first-refusal .ensures .1) (c .before .before .before .before .before .before .before .first-refusal .ensures .0) (c .before .before .before .before .act .ensures .0) (c .before .before .before .before .act .ensures .1 .0) (c .before .before .before .before .act .ensures .1 .1)
+returns c =
+    let at-act = c .before .before .before .before in
+    let at-first-refusal = at-act .before .before .before in
+    let start = at-first-refusal .before .before .before .before in
+    arrive-done
+    (stationOf (start .args .room) (start .args .lines) (now (start .args .lo)) (now (start .args .hi)) (now (start .args .asker))
+    (start .args .count) (start .args .next))
+    (start .args .line) (start .args .clock) (start .args .own) (now (start .args .m)) (now (start .args .out)) (now (start .args .route))
+    (at-first-refusal .first-refusal .ensures .1) (at-first-refusal .first-refusal .ensures .0) (at-act .act .ensures .0)
+    (at-act .act .ensures .1 .0) (at-act .act .ensures .1 .1)
 
 pub arrive-spec : {M : Type 1} → statement M
 arrive-spec =

@@ -27,7 +27,22 @@ early-requires : tie.Need-early-requires
 early-requires c κs = search needs
 
 returns : tie.Need-returns
-returns c = (c .early .ensures ∙ ap (λ o. earlyNumber o (c .before .before .before .before .args .room) (c .before .before .before .before .args .out) (c .before .before .before .before .args .route) (c .before .before .before .before .args .line) (lineAt (stationOf (c .before .before .before .before .args .room) (c .before .before .before .before .args .t7) (now (c .before .before .before .before .args .lo)) (now (c .before .before .before .before .args .hi)) (now (c .before .before .before .before .args .asker)) (c .before .before .before .before .args .count) (c .before .before .before .before .args .next)) (c .before .before .before .before .args .line % 8) .live) (now (c .before .before .before .before .args .m))) (c .before .in-order .ensures) ∙ early-here (stationOf (c .before .before .before .before .args .room) (c .before .before .before .before .args .t7) (now (c .before .before .before .before .args .lo)) (now (c .before .before .before .before .args .hi)) (now (c .before .before .before .before .args .asker)) (c .before .before .before .before .args .count) (c .before .before .before .before .args .next)) (c .before .before .before .before .args .line) (now (c .before .before .before .before .args .m)) (c .before .before .before .before .args .out) (c .before .before .before .before .args .route), omega (arith, c .before .before .before .before .good .1 .1 .1 .1 .1 .1 .0))
+returns c =
+    let at-in-order = c .before in
+    let start = at-in-order .before .before .before in (
+      c .early .ensures ∙ ap
+          (λ o. earlyNumber o (start .args .room) (start .args .out) (start .args .route) (start .args .line)
+          (lineAt
+          (stationOf (start .args .room) (start .args .t7) (now (start .args .lo)) (now (start .args .hi)) (now (start .args .asker))
+          (start .args .count) (start .args .next))
+          (start .args .line % 8) .live)
+          (now (start .args .m)))
+          (at-in-order .in-order .ensures) ∙ early-here
+          (stationOf (start .args .room) (start .args .t7) (now (start .args .lo)) (now (start .args .hi)) (now (start .args .asker))
+          (start .args .count) (start .args .next))
+          (start .args .line) (now (start .args .m)) (start .args .out) (start .args .route),
+      omega (arith, start .good .1 .1 .1 .1 .1 .1 .0),
+    )
 
 pub first-refusal-spec : {M : Type 1} → statement M
 first-refusal-spec =

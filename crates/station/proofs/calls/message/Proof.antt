@@ -51,7 +51,23 @@ same-length-2 : tie.Need-same-length-2
 same-length-2 c = search needs
 
 returns : tie.Need-returns
-returns c = (message-done (c .before .before .before .before .before .before .before .before .before .before .before .before .before .before .before .before .before .before .before .before .before .before .before .before .before .before .before .before .args .t1) (c .before .before .before .before .before .before .before .before .before .before .before .before .before .before .before .before .before .before .before .before .before .before .before .before .before .before .before .before .args .line) (c .before .before .before .before .before .before .before .before .before .before .before .before .before .before .before .before .before .before .before .before .before .before .before .before .before .before .before .before .args .clock) (c .before .before .before .before .before .before .before .before .before .before .before .before .before .before .before .before .before .before .before .before .before .before .before .before .before .before .before .before .args .own) (now (c .before .before .before .before .before .before .before .before .before .before .before .before .before .before .before .before .before .before .before .before .before .before .before .before .before .before .before .before .args .m)) (now (c .before .before .before .before .before .before .before .before .before .before .before .before .before .before .before .before .before .before .before .before .before .before .before .before .before .before .before .before .args .out)) (now (c .before .before .before .before .before .before .before .before .before .before .before .before .before .before .before .before .before .before .before .before .before .before .before .before .before .before .before .before .args .route)) (c .before .before .before .before .before .before .before .before .before .before .before .before .before .before .before .before .before .arrive .ensures .1 .1 .1) (c .before .before .before .before .before .before .before .before .before .before .before .before .before .before .before .before .before .arrive .ensures .0) (c .before .before .before .before .before .before .before .before .before .before .low-half .ensures) (c .before .before .before .before .before .before .before .high-half .ensures) (c .before .before .before .before .before .before .before .before .before .keep-word .ensures) (c .before .before .before .before .before .before .keep-word2 .ensures) (c .before .before .before .before .keep-byte .ensures) (c .before .before .before .count-after .ensures) (c .before .before .next-after .ensures) (c .used-of .ensures), (c .before .before .before .before .before .before .before .before .before .before .before .before .before .before .before .before .before .arrive .ensures .1 .0, c .before .before .before .before .before .before .before .before .before .before .before .before .before .before .before .before .before .arrive .ensures .1 .1 .0))
+returns c =
+    let at-next-after = c .before .before in
+    let at-count-after = at-next-after .before in
+    let at-keep-byte = at-count-after .before in
+    let at-keep-word2 = at-keep-byte .before .before in
+    let at-high-half = at-keep-word2 .before in
+    let at-keep-word = at-high-half .before .before in
+    let at-low-half = at-keep-word .before in
+    let at-arrive = at-low-half .before .before .before .before .before .before .before in
+    let start = at-arrive .before .before .before .before .before .before .before .before .before .before .before in (
+      message-done (start .args .t1) (start .args .line) (start .args .clock) (start .args .own) (now (start .args .m))
+          (now (start .args .out)) (now (start .args .route)) (at-arrive .arrive .ensures .1 .1 .1) (at-arrive .arrive .ensures .0)
+          (at-low-half .low-half .ensures) (at-high-half .high-half .ensures) (at-keep-word .keep-word .ensures)
+          (at-keep-word2 .keep-word2 .ensures) (at-keep-byte .keep-byte .ensures) (at-count-after .count-after .ensures)
+          (at-next-after .next-after .ensures) (c .used-of .ensures),
+      (at-arrive .arrive .ensures .1 .0, at-arrive .arrive .ensures .1 .1 .0),
+    )
 
 pub message-spec : {M : Type 1} → statement M
 message-spec =

@@ -39,7 +39,16 @@ leave-all-requires : tie.Need-leave-all-requires
 leave-all-requires c κs = search needs
 
 returns : tie.Need-returns
-returns c = closing-is-here (c .before .before .before .before .before .before .before .before .before .before .before .before .args .t1) (c .before .before .before .before .before .before .before .before .before .before .before .before .args .line) (c .before .before .before .before .closing .ensures ∙ ap (λ o. closingNumber o (c .before .before .before .before .before .before .before .before .before .before .before .before .args .line) (lineAt (c .before .before .before .before .before .before .before .before .before .before .before .before .args .t1) (c .before .before .before .before .before .before .before .before .before .before .before .before .args .line % 8) .live)) (c .before .before .before .before .before .in-order .ensures)) (c .before .before .before .line-after .ensures) (c .before .before .leaver .ensures) (c .leave-all .ensures)
+returns c =
+    let at-leaver = c .before .before in
+    let at-line-after = at-leaver .before in
+    let at-closing = at-line-after .before in
+    let at-in-order = at-closing .before in
+    let start = at-in-order .before .before .before .before .before .before .before in
+    closing-is-here (start .args .t1) (start .args .line)
+    (at-closing .closing .ensures ∙ ap (λ o. closingNumber o (start .args .line) (lineAt (start .args .t1) (start .args .line % 8) .live))
+    (at-in-order .in-order .ensures))
+    (at-line-after .line-after .ensures) (at-leaver .leaver .ensures) (c .leave-all .ensures)
 
 pub close-line-spec : {M : Type 1} → statement M
 close-line-spec =

@@ -33,7 +33,14 @@ element-set-from-y : tie.Need-element-set-from-y
 element-set-from-y c = search needs
 
 returns : tie.Need-returns
-returns c = opening-is-here (c .before .before .before .before .before .before .before .before .before .args .t1) (c .before .before .before .before .before .before .before .before .before .args .line) (c .before .opening .ensures ∙ ap (λ o. openingNumber o (c .before .before .before .before .before .before .before .before .before .args .line) (lineAt (c .before .before .before .before .before .before .before .before .before .args .t1) (c .before .before .before .before .before .before .before .before .before .args .line % 8) .live)) (c .before .before .in-order .ensures)) (c .line-after .ensures)
+returns c =
+    let at-opening = c .before in
+    let at-in-order = at-opening .before in
+    let start = at-in-order .before .before .before .before .before .before .before in
+    opening-is-here (start .args .t1) (start .args .line)
+    (at-opening .opening .ensures ∙ ap (λ o. openingNumber o (start .args .line) (lineAt (start .args .t1) (start .args .line % 8) .live))
+    (at-in-order .in-order .ensures))
+    (c .line-after .ensures)
 
 pub open-line-spec : {M : Type 1} → statement M
 open-line-spec =

@@ -53,7 +53,18 @@ table-of-requires-8 : tie.Need-table-of-requires-8
 table-of-requires-8 c κs = search needs
 
 returns : tie.Need-returns
-returns c = tables-are (c .before .before .before .before .before .before .before .before .before .before .before .before .before .before .before .before .args .t1) (c .before .before .before .before .before .before .before .before .before .before .before .before .before .before .table-of .ensures) (c .before .before .before .before .before .before .before .before .before .before .before .before .table-of2 .ensures) (c .before .before .before .before .before .before .before .before .before .before .table-of3 .ensures) (c .before .before .before .before .before .before .before .before .table-of4 .ensures) (c .before .before .before .before .before .before .table-of5 .ensures) (c .before .before .before .before .table-of6 .ensures) (c .before .before .table-of7 .ensures) (c .table-of8 .ensures)
+returns c =
+    let at-table-of7 = c .before .before in
+    let at-table-of6 = at-table-of7 .before .before in
+    let at-table-of5 = at-table-of6 .before .before in
+    let at-table-of4 = at-table-of5 .before .before in
+    let at-table-of3 = at-table-of4 .before .before in
+    let at-table-of2 = at-table-of3 .before .before in
+    let at-table-of = at-table-of2 .before .before in
+    let start = at-table-of .before .before in
+    tables-are (start .args .t1) (at-table-of .table-of .ensures) (at-table-of2 .table-of2 .ensures) (at-table-of3 .table-of3 .ensures)
+    (at-table-of4 .table-of4 .ensures) (at-table-of5 .table-of5 .ensures) (at-table-of6 .table-of6 .ensures)
+    (at-table-of7 .table-of7 .ensures) (c .table-of8 .ensures)
 
 pub tables-of-spec : {M : Type 1} → statement M
 tables-of-spec =

@@ -32,7 +32,14 @@ line-in-order-requires : tie.Need-line-in-order-requires Inv-loop μ-loop
 line-in-order-requires c κs = search needs
 
 returns : tie.Need-returns Inv-loop μ-loop
-returns c = sym (sym (c .before .before .before .before .loop .inv .1) ∙ all-from (lineInOrder (c .before .before .before .before .before .args .room)) (c .before .before .before .before .before .args .t1) (c .before .before .before .before .loop .k) nowhere (omega arith) ∙ ap (λ b. b && all (lineInOrder (c .before .before .before .before .before .args .room)) (drop (c .before .before .before .before .loop .k + 1) (c .before .before .before .before .before .args .t1))) (sym (c .before .line-in-order .ensures) ∙ not-true (c .before .line-in-order .result) (c .if1 .taken)))
+returns c =
+    let at-line-in-order = c .before in
+    let turn = at-line-in-order .before .before .before in
+    let start = turn .before in
+    sym
+    (sym (turn .loop .inv .1) ∙ all-from (lineInOrder (start .args .room)) (start .args .t1) (turn .loop .k) nowhere (omega arith) ∙ ap
+    (λ b. b && all (lineInOrder (start .args .room)) (drop (turn .loop .k + 1) (start .args .t1)))
+    (sym (at-line-in-order .line-in-order .ensures) ∙ not-true (at-line-in-order .line-in-order .result) (c .if1 .taken)))
 
 add-k : tie.Need-add-k Inv-loop μ-loop
 add-k c = search needs
@@ -41,7 +48,16 @@ loop-less : tie.Need-loop-less Inv-loop μ-loop
 loop-less c = search needs
 
 loop-again : tie.Need-loop-again Inv-loop μ-loop
-loop-again c = (omega arith, sym (sym (c .before .before .before .before .loop .inv .1) ∙ all-from (lineInOrder (c .before .before .before .before .before .args .room)) (c .before .before .before .before .before .args .t1) (c .before .before .before .before .loop .k) nowhere (omega arith) ∙ ap (λ b. b && all (lineInOrder (c .before .before .before .before .before .args .room)) (drop (c .before .before .before .before .loop .k + 1) (c .before .before .before .before .before .args .t1))) (sym (c .before .line-in-order .ensures) ∙ not-false (c .before .line-in-order .result) (c .if1 .left))))
+loop-again c =
+    let at-line-in-order = c .before in
+    let turn = at-line-in-order .before .before .before in
+    let start = turn .before in (
+      omega arith,
+      sym
+          (sym (turn .loop .inv .1) ∙ all-from (lineInOrder (start .args .room)) (start .args .t1) (turn .loop .k) nowhere (omega arith) ∙ ap
+          (λ b. b && all (lineInOrder (start .args .room)) (drop (turn .loop .k + 1) (start .args .t1)))
+          (sym (at-line-in-order .line-in-order .ensures) ∙ not-false (at-line-in-order .line-in-order .result) (c .if1 .left))),
+    )
 
 returns-2 : tie.Need-returns-2 Inv-loop μ-loop
 returns-2 c = let past : length (c .before .before .args .t1) ≤ c .before .loop .k = omega arith in sym (ap (all (lineInOrder (c .before .before .args .room))) (drop-of-length-le (c .before .before .args .t1) past)) ∙ c .before .loop .inv .1

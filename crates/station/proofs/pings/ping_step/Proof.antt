@@ -27,7 +27,15 @@ quietly-requires : tie.Need-quietly-requires
 quietly-requires c κs = search needs
 
 returns : tie.Need-returns
-returns c = ping-refused (c .before .before .before .before .before .before .before .args .x) (pingBy (c .before .before .before .before .before .before .before .args .x) (c .before .before .before .before .before .before .before .args .clock) (now (c .before .before .before .before .before .before .before .args .m))) (c .before .before .before .before .before .before .before .args .l) (c .before .before .before .before .before .before .before .args .clock) (probing (ttlOf (now (c .before .before .before .before .before .before .before .args .m))) (hopsOf (now (c .before .before .before .before .before .before .before .args .m)))) (pongsBack (length (now (c .before .before .before .before .before .before .before .args .out))) (c .before .before .before .before .before .before .before .args .lines) (c .before .before .before .before .before .before .before .args .l) (c .before .before .before .before .before .before .before .args .clock) (c .before .before .before .before .before .before .before .args .own) (now (c .before .before .before .before .before .before .before .args .m))) (now (c .before .before .before .before .before .before .before .args .out)) (c .before .before .ping-answer .ensures) (c .before .if1 .taken) (c .quietly .ensures)
+returns c =
+    let at-if1 = c .before in
+    let at-ping-answer = at-if1 .before in
+    let start = at-ping-answer .before .before .before .before .before in
+    ping-refused (start .args .x) (pingBy (start .args .x) (start .args .clock) (now (start .args .m))) (start .args .l)
+    (start .args .clock) (probing (ttlOf (now (start .args .m))) (hopsOf (now (start .args .m))))
+    (pongsBack (length (now (start .args .out))) (start .args .lines) (start .args .l) (start .args .clock) (start .args .own)
+    (now (start .args .m)))
+    (now (start .args .out)) (at-ping-answer .ping-answer .ensures) (at-if1 .if1 .taken) (c .quietly .ensures)
 
 is-probe-requires : tie.Need-is-probe-requires
 is-probe-requires c κs = search needs
@@ -48,7 +56,32 @@ same-length : tie.Need-same-length
 same-length c = search needs
 
 returns-2 : tie.Need-returns-2
-returns-2 c = ping-done (c .before .before .before .before .before .before .before .before .before .before .before .before .before .before .args .x) (pingBy (c .before .before .before .before .before .before .before .before .before .before .before .before .before .before .args .x) (c .before .before .before .before .before .before .before .before .before .before .before .before .before .before .args .clock) (now (c .before .before .before .before .before .before .before .before .before .before .before .before .before .before .args .m))) (c .before .before .before .before .before .before .before .before .before .before .before .before .before .before .args .l) (c .before .before .before .before .before .before .before .before .before .before .before .before .before .before .args .clock) (probing (ttlOf (now (c .before .before .before .before .before .before .before .before .before .before .before .before .before .before .args .m))) (hopsOf (now (c .before .before .before .before .before .before .before .before .before .before .before .before .before .before .args .m)))) (pongsBack (length (now (c .before .before .before .before .before .before .before .before .before .before .before .before .before .before .args .out))) (c .before .before .before .before .before .before .before .before .before .before .before .before .before .before .args .lines) (c .before .before .before .before .before .before .before .before .before .before .before .before .before .before .args .l) (c .before .before .before .before .before .before .before .before .before .before .before .before .before .before .args .clock) (c .before .before .before .before .before .before .before .before .before .before .before .before .before .before .args .own) (now (c .before .before .before .before .before .before .before .before .before .before .before .before .before .before .args .m))) (now (c .before .before .before .before .before .before .before .before .before .before .before .before .before .before .args .out)) (c .before .before .before .before .before .before .before .before .before .ping-answer .ensures) (c .before .before .before .before .before .before .before .before .if1 .left) (c .before .before .before .before .send-pongs .ensures .0 ∙ ap₂ (λ nb pr. length (pongsWritten (length (now (c .before .before .before .before .before .before .before .before .before .before .before .before .before .before .args .out))) (c .before .before .before .before .before .before .before .before .before .before .before .before .before .before .args .lines) (c .before .before .before .before .before .before .before .before .before .before .before .before .before .before .args .l) (c .before .before .before .before .before .before .before .before .before .before .before .before .before .before .args .clock) (c .before .before .before .before .before .before .before .before .before .before .before .before .before .before .args .own) nb (hopsOf (now (c .before .before .before .before .before .before .before .before .before .before .before .before .before .before .args .m))) pr)) (c .before .before .before .before .before .before .number-of .ensures ∙ number-is (now (c .before .before .before .before .before .before .before .before .before .before .before .before .before .before .args .m)) (omega (arith, c .before .before .before .before .before .before .before .before .before .before .before .before .before .before .pre .0))) (c .before .before .before .before .before .before .before .is-probe .ensures)) (c .before .back-to .ensures) (c .time-kept .ensures ∙ ap (λ pr. timeKept (c .before .before .before .before .before .before .before .before .before .before .before .before .before .before .args .x) pr (c .before .before .before .before .before .before .before .before .before .before .before .before .before .before .args .clock)) (c .before .before .before .before .before .before .before .is-probe .ensures)) (c .before .before .before .before .send-pongs .ensures .1 .1 ∙ ap₂ (λ nb pr. over 0 (pongsWritten (length (now (c .before .before .before .before .before .before .before .before .before .before .before .before .before .before .args .out))) (c .before .before .before .before .before .before .before .before .before .before .before .before .before .before .args .lines) (c .before .before .before .before .before .before .before .before .before .before .before .before .before .before .args .l) (c .before .before .before .before .before .before .before .before .before .before .before .before .before .before .args .clock) (c .before .before .before .before .before .before .before .before .before .before .before .before .before .before .args .own) nb (hopsOf (now (c .before .before .before .before .before .before .before .before .before .before .before .before .before .before .args .m))) pr) (now (c .before .before .before .before .before .before .before .before .before .before .before .before .before .before .args .out))) (c .before .before .before .before .before .before .number-of .ensures ∙ number-is (now (c .before .before .before .before .before .before .before .before .before .before .before .before .before .before .args .m)) (omega (arith, c .before .before .before .before .before .before .before .before .before .before .before .before .before .before .pre .0))) (c .before .before .before .before .before .before .before .is-probe .ensures))
+returns-2 c =
+    let at-back-to = c .before in
+    let at-send-pongs = at-back-to .before .before .before in
+    let at-number-of = at-send-pongs .before .before in
+    let at-is-probe = at-number-of .before in
+    let at-if1 = at-is-probe .before in
+    let at-ping-answer = at-if1 .before in
+    let start = at-ping-answer .before .before .before .before .before in
+    ping-done (start .args .x) (pingBy (start .args .x) (start .args .clock) (now (start .args .m))) (start .args .l) (start .args .clock)
+    (probing (ttlOf (now (start .args .m))) (hopsOf (now (start .args .m))))
+    (pongsBack (length (now (start .args .out))) (start .args .lines) (start .args .l) (start .args .clock) (start .args .own)
+    (now (start .args .m)))
+    (now (start .args .out)) (at-ping-answer .ping-answer .ensures) (at-if1 .if1 .left)
+    (at-send-pongs .send-pongs .ensures .0 ∙ ap₂
+    (λ nb pr. length
+    (pongsWritten (length (now (start .args .out))) (start .args .lines) (start .args .l) (start .args .clock) (start .args .own) nb
+    (hopsOf (now (start .args .m))) pr))
+    (at-number-of .number-of .ensures ∙ number-is (now (start .args .m)) (omega (arith, start .pre .0))) (at-is-probe .is-probe .ensures))
+    (at-back-to .back-to .ensures)
+    (c .time-kept .ensures ∙ ap (λ pr. timeKept (start .args .x) pr (start .args .clock)) (at-is-probe .is-probe .ensures))
+    (at-send-pongs .send-pongs .ensures .1 .1 ∙ ap₂
+    (λ nb pr. over 0
+    (pongsWritten (length (now (start .args .out))) (start .args .lines) (start .args .l) (start .args .clock) (start .args .own) nb
+    (hopsOf (now (start .args .m))) pr)
+    (now (start .args .out)))
+    (at-number-of .number-of .ensures ∙ number-is (now (start .args .m)) (omega (arith, start .pre .0))) (at-is-probe .is-probe .ensures))
 
 pub ping-step-spec : {M : Type 1} → statement M
 ping-step-spec =

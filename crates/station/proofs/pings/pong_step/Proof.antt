@@ -21,7 +21,13 @@ quietly-requires : tie.Need-quietly-requires
 quietly-requires c κs = search needs
 
 returns : tie.Need-returns
-returns c = pong-refused (c .before .before .before .before .before .before .args .x) (pongNumber (c .before .before .before .before .before .before .args .size) (ttlOf (now (c .before .before .before .before .before .before .args .m))) (hopsOf (now (c .before .before .before .before .before .before .args .m)))) (hopsOf (now (c .before .before .before .before .before .before .args .m))) (c .before .before .before .before .before .before .args .clock) (payloadOf (now (c .before .before .before .before .before .before .args .m))) (c .before .before .pong-answer .ensures) (c .before .if1 .taken) (c .quietly .ensures)
+returns c =
+    let at-if1 = c .before in
+    let at-pong-answer = at-if1 .before in
+    let start = at-pong-answer .before .before .before .before in
+    pong-refused (start .args .x) (pongNumber (start .args .size) (ttlOf (now (start .args .m))) (hopsOf (now (start .args .m))))
+    (hopsOf (now (start .args .m))) (start .args .clock) (payloadOf (now (start .args .m))) (at-pong-answer .pong-answer .ensures)
+    (at-if1 .if1 .taken) (c .quietly .ensures)
 
 add-n : tie.Need-add-n
 add-n c = search needs
@@ -42,7 +48,15 @@ quietly-requires-2 : tie.Need-quietly-requires-2
 quietly-requires-2 c κs = search needs
 
 returns-2 : tie.Need-returns-2
-returns-2 c = pong-done (c .before .before .before .before .before .before .before .before .args .x) (pongNumber (c .before .before .before .before .before .before .before .before .args .size) (ttlOf (now (c .before .before .before .before .before .before .before .before .args .m))) (hopsOf (now (c .before .before .before .before .before .before .before .before .args .m)))) (hopsOf (now (c .before .before .before .before .before .before .before .before .args .m))) (c .before .before .before .before .before .before .before .before .args .clock) (payloadOf (now (c .before .before .before .before .before .before .before .before .args .m))) (c .before .before .before .before .pong-answer .ensures) (c .before .before .before .if1 .left) (payload-part (now (c .before .before .before .before .before .before .before .before .args .m)) (c .before .before .before .before .before .before .before .before .args .size) (c .before .before .before .before .before .before .before .before .pre .0)) (c .before .store-pong .ensures) (c .quietly2 .ensures)
+returns-2 c =
+    let at-store-pong = c .before in
+    let at-if1 = at-store-pong .before .before in
+    let at-pong-answer = at-if1 .before in
+    let start = at-pong-answer .before .before .before .before in
+    pong-done (start .args .x) (pongNumber (start .args .size) (ttlOf (now (start .args .m))) (hopsOf (now (start .args .m))))
+    (hopsOf (now (start .args .m))) (start .args .clock) (payloadOf (now (start .args .m))) (at-pong-answer .pong-answer .ensures)
+    (at-if1 .if1 .left) (payload-part (now (start .args .m)) (start .args .size) (start .pre .0)) (at-store-pong .store-pong .ensures)
+    (c .quietly2 .ensures)
 
 pub pong-step-spec : {M : Type 1} → statement M
 pong-step-spec =

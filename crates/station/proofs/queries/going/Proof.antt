@@ -24,7 +24,14 @@ passing-requires : tie.Need-passing-requires
 passing-requires c κs = search needs
 
 returns-2 : tie.Need-returns-2
-returns-2 c = going-some (c .before .before .before .before .before .before .args .lines) (c .before .before .before .before .before .before .args .room) (c .before .before .before .before .before .before .args .l) (c .before .before .before .before .before .before .args .life) (now (c .before .before .before .before .before .before .args .text)) (now (c .before .before .before .before .before .before .args .route)) (c .before .before .before .if1 .left) (c .before .before .before .before .before .before .pre) (c .before .before .lives .ensures) (c .before .tables-of .ensures) (c .passing .ensures)
+returns-2 c =
+    let at-tables-of = c .before in
+    let at-lives = at-tables-of .before in
+    let at-if1 = at-lives .before in
+    let start = at-if1 .before .before .before in
+    going-some (start .args .lines) (start .args .room) (start .args .l) (start .args .life) (now (start .args .text))
+    (now (start .args .route)) (at-if1 .if1 .left) (start .pre) (at-lives .lives .ensures) (at-tables-of .tables-of .ensures)
+    (c .passing .ensures)
 
 pub going-spec : {M : Type 1} → statement M
 going-spec =

@@ -38,7 +38,17 @@ quietly-requires : tie.Need-quietly-requires
 quietly-requires c κs = search needs
 
 returns : tie.Need-returns
-returns c = query-refused (c .before .before .before .before .before .before .before .before .before .before .args .x) (queryBy (c .before .before .before .before .before .before .before .before .before .before .args .seen) (now (c .before .before .before .before .before .before .before .before .before .before .args .m))) (queryLines (c .before .before .before .before .before .before .before .before .before .before .args .room) (c .before .before .before .before .before .before .before .before .before .before .args .lines) (c .before .before .before .before .before .before .before .before .before .before .args .l) (now (c .before .before .before .before .before .before .before .before .before .before .args .m)) (now (c .before .before .before .before .before .before .before .before .before .before .args .route))) (now (c .before .before .before .before .before .before .before .before .before .before .args .m)) (now (c .before .before .before .before .before .before .before .before .before .before .args .out)) (asked-number (c .before .before .before .before .before .before .before .before .before .before .args .size) (now (c .before .before .before .before .before .before .before .before .before .before .args .m)) (c .before .before .before .before .before .before .before .before .before .before .pre .0) (c .before .before .before .text-length .result) (c .before .before .before .text-length .ensures) (c .before .before .before .before .before .before .before .before .before .before .args .seen) (c .before .before .query .ensures)) (c .before .if1 .taken) (c .quietly .ensures)
+returns c =
+    let at-if1 = c .before in
+    let at-query = at-if1 .before in
+    let at-text-length = at-query .before in
+    let start = at-text-length .before .before .before .before .before .before .before in
+    query-refused (start .args .x) (queryBy (start .args .seen) (now (start .args .m)))
+    (queryLines (start .args .room) (start .args .lines) (start .args .l) (now (start .args .m)) (now (start .args .route)))
+    (now (start .args .m)) (now (start .args .out))
+    (asked-number (start .args .size) (now (start .args .m)) (start .pre .0) (at-text-length .text-length .result)
+    (at-text-length .text-length .ensures) (start .args .seen) (at-query .query .ensures))
+    (at-if1 .if1 .taken) (c .quietly .ensures)
 
 add-end : tie.Need-add-end
 add-end c = let g = query-goes _ _ _ _ (sym (c .before .query .ensures) ∙ c .if1 .left) in omega (arith, asked-fits (c .before .before .before .before .before .before .before .before .before .args .size) (now (c .before .before .before .before .before .before .before .before .before .args .m)) (c .before .before .before .before .before .before .before .before .before .pre .0) (c .before .before .text-length .result) (c .before .before .text-length .ensures) (g .text))
@@ -53,7 +63,12 @@ part-going-start : tie.Need-part-going-start
 part-going-start c = search needs
 
 part-going-end : tie.Need-part-going-end
-part-going-end c = let g = query-goes _ _ _ _ (sym (c .before .before .query .ensures) ∙ c .before .if1 .left) in asked-within (c .before .before .before .before .before .before .before .before .before .before .args .size) (now (c .before .before .before .before .before .before .before .before .before .before .args .m)) (c .before .before .before .before .before .before .before .before .before .before .pre .0) (c .before .before .before .text-length .result) (c .before .before .before .text-length .ensures) (g .text)
+part-going-end c =
+    let at-if1 = c .before in
+    let at-query = at-if1 .before in
+    let at-text-length = at-query .before in
+    let start = at-text-length .before .before .before .before .before .before .before in
+    let g = query-goes _ _ _ _ (sym (at-query .query .ensures) ∙ at-if1 .if1 .left) in asked-within (start .args .size) (now (start .args .m)) (start .pre .0) (at-text-length .text-length .result) (at-text-length .text-length .ensures) (g .text)
 
 going-requires : tie.Need-going-requires
 going-requires c κs = search needs
@@ -74,7 +89,46 @@ same-length : tie.Need-same-length
 same-length c = search needs
 
 returns-2 : tie.Need-returns-2
-returns-2 c = query-done (c .before .before .before .before .before .before .before .before .before .before .before .before .before .before .before .before .before .args .x) (queryBy (c .before .before .before .before .before .before .before .before .before .before .before .before .before .before .before .before .before .args .seen) (now (c .before .before .before .before .before .before .before .before .before .before .before .before .before .before .before .before .before .args .m))) (queryLines (c .before .before .before .before .before .before .before .before .before .before .before .before .before .before .before .before .before .args .room) (c .before .before .before .before .before .before .before .before .before .before .before .before .before .before .before .before .before .args .lines) (c .before .before .before .before .before .before .before .before .before .before .before .before .before .before .before .before .before .args .l) (now (c .before .before .before .before .before .before .before .before .before .before .before .before .before .before .before .before .before .args .m)) (now (c .before .before .before .before .before .before .before .before .before .before .before .before .before .before .before .before .before .args .route))) (now (c .before .before .before .before .before .before .before .before .before .before .before .before .before .before .before .before .before .args .m)) (now (c .before .before .before .before .before .before .before .before .before .before .before .before .before .before .before .before .before .args .out)) (asked-number (c .before .before .before .before .before .before .before .before .before .before .before .before .before .before .before .before .before .args .size) (now (c .before .before .before .before .before .before .before .before .before .before .before .before .before .before .before .before .before .args .m)) (c .before .before .before .before .before .before .before .before .before .before .before .before .before .before .before .before .before .pre .0) (c .before .before .before .before .before .before .before .before .before .before .text-length .result) (c .before .before .before .before .before .before .before .before .before .before .text-length .ensures) (c .before .before .before .before .before .before .before .before .before .before .before .before .before .before .before .before .before .args .seen) (c .before .before .before .before .before .before .before .before .before .query .ensures)) (c .before .before .before .before .before .before .before .before .if1 .left) (asked-lines (c .before .before .before .before .before .before .before .before .before .before .before .before .before .before .before .before .before .args .size) (now (c .before .before .before .before .before .before .before .before .before .before .before .before .before .before .before .before .before .args .m)) (c .before .before .before .before .before .before .before .before .before .before .before .before .before .before .before .before .before .pre .0) (c .before .before .before .before .before .before .before .before .before .before .text-length .result) (c .before .before .before .before .before .before .before .before .before .before .text-length .ensures) (c .before .before .before .before .before .before .before .before .before .before .before .before .before .before .before .before .before .args .room) (c .before .before .before .before .before .before .before .before .before .before .before .before .before .before .before .before .before .args .lines) (c .before .before .before .before .before .before .before .before .before .before .before .before .before .before .before .before .before .args .l) (now (c .before .before .before .before .before .before .before .before .before .before .before .before .before .before .before .before .before .args .route)) (c .before .before .before .before .before .before .before .life-of .ensures) (c .before .before .before .before .before .going .ensures)) (pass-if-count (now (c .before .before .before .before .before .before .before .before .before .before .before .before .before .before .before .before .before .args .m)) (now (c .before .before .before .before .before .before .before .before .before .before .before .before .before .before .before .before .before .args .out)) (c .before .before .before .before .before .before .before .before .before .before .before .before .before .before .before .before .before .args .size) (c .before .before .before .before .before .before .before .life-of .result - 1) (hopsOf (now (c .before .before .before .before .before .before .before .before .before .before .before .before .before .before .before .before .before .args .m)) + 1) (c .before .before .before .before .before .before .before .before .before .before .before .before .before .before .before .before .before .pre .0) (c .before .before .before .before .before .before .before .before .before .before .before .before .before .before .before .before .before .pre .1) (c .before .before .before .before .before .before .before .before .before .before .before .before .before .before .before .before .before .pre .2) (λ i. omega (arith, c .before .before .before .before .before .before .before .before .before .before .before .before .before .before .before .before .shared-slice-known .given i)) (c .before .before .before .before .any-line .ensures ∙ ap isSent (asked-lines (c .before .before .before .before .before .before .before .before .before .before .before .before .before .before .before .before .before .args .size) (now (c .before .before .before .before .before .before .before .before .before .before .before .before .before .before .before .before .before .args .m)) (c .before .before .before .before .before .before .before .before .before .before .before .before .before .before .before .before .before .pre .0) (c .before .before .before .before .before .before .before .before .before .before .text-length .result) (c .before .before .before .before .before .before .before .before .before .before .text-length .ensures) (c .before .before .before .before .before .before .before .before .before .before .before .before .before .before .before .before .before .args .room) (c .before .before .before .before .before .before .before .before .before .before .before .before .before .before .before .before .before .args .lines) (c .before .before .before .before .before .before .before .before .before .before .before .before .before .before .before .before .before .args .l) (now (c .before .before .before .before .before .before .before .before .before .before .before .before .before .before .before .before .before .args .route)) (c .before .before .before .before .before .before .before .life-of .ensures) (c .before .before .before .before .before .going .ensures))) (c .before .before .pass-if .ensures .0)) (asked-length (c .before .before .before .before .before .before .before .before .before .before .before .before .before .before .before .before .before .args .size) (now (c .before .before .before .before .before .before .before .before .before .before .before .before .before .before .before .before .before .args .m)) (c .before .before .before .before .before .before .before .before .before .before .before .before .before .before .before .before .before .pre .0) (c .before .before .before .before .before .before .before .before .before .before .text-length .result) (c .before .before .before .before .before .before .before .before .before .before .text-length .ensures)) (query-bytes (now (c .before .before .before .before .before .before .before .before .before .before .before .before .before .before .before .before .before .args .m)) (now (c .before .before .before .before .before .before .before .before .before .before .before .before .before .before .before .before .before .args .out)) (queryLines (c .before .before .before .before .before .before .before .before .before .before .before .before .before .before .before .before .before .args .room) (c .before .before .before .before .before .before .before .before .before .before .before .before .before .before .before .before .before .args .lines) (c .before .before .before .before .before .before .before .before .before .before .before .before .before .before .before .before .before .args .l) (now (c .before .before .before .before .before .before .before .before .before .before .before .before .before .before .before .before .before .args .m)) (now (c .before .before .before .before .before .before .before .before .before .before .before .before .before .before .before .before .before .args .route))) (c .before .before .before .before .before .before .before .before .before .before .before .before .before .before .before .before .before .pre .3) (c .before .before .before .before .before .before .before .life-of .ensures) (pass-if-bytes (now (c .before .before .before .before .before .before .before .before .before .before .before .before .before .before .before .before .before .args .m)) (now (c .before .before .before .before .before .before .before .before .before .before .before .before .before .before .before .before .before .args .out)) (c .before .before .before .before .before .before .before .before .before .before .before .before .before .before .before .before .before .args .size) (c .before .before .before .before .before .before .before .life-of .result - 1) (hopsOf (now (c .before .before .before .before .before .before .before .before .before .before .before .before .before .before .before .before .before .args .m)) + 1) (c .before .before .before .before .before .before .before .before .before .before .before .before .before .before .before .before .before .pre .0) (c .before .before .before .before .before .before .before .before .before .before .before .before .before .before .before .before .before .pre .1) (c .before .before .before .before .before .before .before .before .before .before .before .before .before .before .before .before .before .pre .2) (λ i. omega (arith, c .before .before .before .before .before .before .before .before .before .before .before .before .before .before .before .before .shared-slice-known .given i)) (c .before .before .before .before .any-line .ensures ∙ ap isSent (asked-lines (c .before .before .before .before .before .before .before .before .before .before .before .before .before .before .before .before .before .args .size) (now (c .before .before .before .before .before .before .before .before .before .before .before .before .before .before .before .before .before .args .m)) (c .before .before .before .before .before .before .before .before .before .before .before .before .before .before .before .before .before .pre .0) (c .before .before .before .before .before .before .before .before .before .before .text-length .result) (c .before .before .before .before .before .before .before .before .before .before .text-length .ensures) (c .before .before .before .before .before .before .before .before .before .before .before .before .before .before .before .before .before .args .room) (c .before .before .before .before .before .before .before .before .before .before .before .before .before .before .before .before .before .args .lines) (c .before .before .before .before .before .before .before .before .before .before .before .before .before .before .before .before .before .args .l) (now (c .before .before .before .before .before .before .before .before .before .before .before .before .before .before .before .before .before .args .route)) (c .before .before .before .before .before .before .before .life-of .ensures) (c .before .before .before .before .before .going .ensures))) (c .before .before .pass-if .ensures .1)))
+returns-2 c =
+    let at-pass-if = c .before .before in
+    let at-any-line = at-pass-if .before .before in
+    let at-going = at-any-line .before in
+    let at-life-of = at-going .before .before in
+    let at-if1 = at-life-of .before in
+    let at-query = at-if1 .before in
+    let at-text-length = at-query .before in
+    let at-shared-slice-known = at-text-length .before .before .before .before .before .before in
+    let start = at-shared-slice-known .before in
+    query-done (start .args .x) (queryBy (start .args .seen) (now (start .args .m)))
+    (queryLines (start .args .room) (start .args .lines) (start .args .l) (now (start .args .m)) (now (start .args .route)))
+    (now (start .args .m)) (now (start .args .out))
+    (asked-number (start .args .size) (now (start .args .m)) (start .pre .0) (at-text-length .text-length .result)
+    (at-text-length .text-length .ensures) (start .args .seen) (at-query .query .ensures))
+    (at-if1 .if1 .left)
+    (asked-lines (start .args .size) (now (start .args .m)) (start .pre .0) (at-text-length .text-length .result)
+    (at-text-length .text-length .ensures) (start .args .room) (start .args .lines) (start .args .l) (now (start .args .route))
+    (at-life-of .life-of .ensures) (at-going .going .ensures))
+    (pass-if-count (now (start .args .m)) (now (start .args .out)) (start .args .size) (at-life-of .life-of .result - 1)
+    (hopsOf (now (start .args .m)) + 1) (start .pre .0) (start .pre .1) (start .pre .2)
+    (λ i. omega (arith, at-shared-slice-known .shared-slice-known .given i))
+    (at-any-line .any-line .ensures ∙ ap isSent
+    (asked-lines (start .args .size) (now (start .args .m)) (start .pre .0) (at-text-length .text-length .result)
+    (at-text-length .text-length .ensures) (start .args .room) (start .args .lines) (start .args .l) (now (start .args .route))
+    (at-life-of .life-of .ensures) (at-going .going .ensures)))
+    (at-pass-if .pass-if .ensures .0))
+    (asked-length (start .args .size) (now (start .args .m)) (start .pre .0) (at-text-length .text-length .result)
+    (at-text-length .text-length .ensures))
+    (query-bytes (now (start .args .m)) (now (start .args .out))
+    (queryLines (start .args .room) (start .args .lines) (start .args .l) (now (start .args .m)) (now (start .args .route))) (start .pre .3)
+    (at-life-of .life-of .ensures)
+    (pass-if-bytes (now (start .args .m)) (now (start .args .out)) (start .args .size) (at-life-of .life-of .result - 1)
+    (hopsOf (now (start .args .m)) + 1) (start .pre .0) (start .pre .1) (start .pre .2)
+    (λ i. omega (arith, at-shared-slice-known .shared-slice-known .given i))
+    (at-any-line .any-line .ensures ∙ ap isSent
+    (asked-lines (start .args .size) (now (start .args .m)) (start .pre .0) (at-text-length .text-length .result)
+    (at-text-length .text-length .ensures) (start .args .room) (start .args .lines) (start .args .l) (now (start .args .route))
+    (at-life-of .life-of .ensures) (at-going .going .ensures)))
+    (at-pass-if .pass-if .ensures .1)))
 
 pub query-step-spec : {M : Type 1} → statement M
 query-step-spec =

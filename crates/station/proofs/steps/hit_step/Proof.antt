@@ -25,10 +25,22 @@ quietly-requires : tie.Need-quietly-requires
 quietly-requires c κs = search needs
 
 returns : tie.Need-returns
-returns c = hit-refused (c .before .before .before .before .before .before .before .args .x) (c .before .before .before .before .before .before .before .args .asker) (c .before .before .before .before .before .before .before .args .size) (hitNumber (c .before .before .before .before .before .before .before .args .size) (ttlOf (now (c .before .before .before .before .before .before .before .args .m))) (hopsOf (now (c .before .before .before .before .before .before .before .args .m))) (c .before .before .before .before .before .before .before .args .found) (c .before .before .before .before .before .before .before .args .asker)) (hitOn (now (c .before .before .before .before .before .before .before .args .m))) (now (c .before .before .before .before .before .before .before .args .out)) (c .before .before .hit .ensures) (c .before .if1 .taken) (c .quietly .ensures)
+returns c =
+    let at-if1 = c .before in
+    let at-hit = at-if1 .before in
+    let start = at-hit .before .before .before .before .before in
+    hit-refused (start .args .x) (start .args .asker) (start .args .size)
+    (hitNumber (start .args .size) (ttlOf (now (start .args .m))) (hopsOf (now (start .args .m))) (start .args .found) (start .args .asker))
+    (hitOn (now (start .args .m))) (now (start .args .out)) (at-hit .hit .ensures) (at-if1 .if1 .taken) (c .quietly .ensures)
 
 returns-2 : tie.Need-returns-2
-returns-2 c = hit-here (c .before .before .before .before .before .before .before .args .x) (c .before .before .before .before .before .before .before .args .asker) (c .before .before .before .before .before .before .before .args .size) (hitNumber (c .before .before .before .before .before .before .before .args .size) (ttlOf (now (c .before .before .before .before .before .before .before .args .m))) (hopsOf (now (c .before .before .before .before .before .before .before .args .m))) (c .before .before .before .before .before .before .before .args .found) (c .before .before .before .before .before .before .before .args .asker)) (hitOn (now (c .before .before .before .before .before .before .before .args .m))) (now (c .before .before .before .before .before .before .before .args .out)) (c .before .before .hit .ensures) (c .before .if1 .left) (c .if2 .taken)
+returns-2 c =
+    let at-if1 = c .before in
+    let at-hit = at-if1 .before in
+    let start = at-hit .before .before .before .before .before in
+    hit-here (start .args .x) (start .args .asker) (start .args .size)
+    (hitNumber (start .args .size) (ttlOf (now (start .args .m))) (hopsOf (now (start .args .m))) (start .args .found) (start .args .asker))
+    (hitOn (now (start .args .m))) (now (start .args .out)) (at-hit .hit .ensures) (at-if1 .if1 .left) (c .if2 .taken)
 
 add-n : tie.Need-add-n
 add-n c = search needs
@@ -37,7 +49,13 @@ sub-pass-on : tie.Need-sub-pass-on
 sub-pass-on c = let g = hit-goes (c .before .before .before .before .before .before .before .args .size) _ _ (c .before .before .before .before .before .before .before .args .found) (c .before .before .before .before .before .before .before .args .asker) (sym (c .before .before .hit .ensures) ∙ c .before .if1 .left) (c .if2 .left) in omega arith
 
 add-pass-on : tie.Need-add-pass-on
-add-pass-on c = let g = hit-goes (c .before .before .before .before .before .before .before .args .size) _ _ (c .before .before .before .before .before .before .before .args .found) (c .before .before .before .before .before .before .before .args .asker) (sym (c .before .before .hit .ensures) ∙ c .before .if1 .left) (c .if2 .left) in omega (arith, g .rises, c .before .before .before .before .before .before .shared-slice-known .given 18)
+add-pass-on c =
+    let at-if1 = c .before in
+    let at-hit = at-if1 .before in
+    let at-shared-slice-known = at-hit .before .before .before .before in
+    let start = at-shared-slice-known .before in
+    let g = hit-goes (start .args .size) _ _ (start .args .found) (start .args .asker) (sym (at-hit .hit .ensures) ∙ at-if1 .if1 .left) (c .if2 .left) in
+    omega (arith, g .rises, at-shared-slice-known .shared-slice-known .given 18)
 
 pass-on-requires : tie.Need-pass-on-requires
 pass-on-requires c κs = search needs
@@ -49,7 +67,23 @@ same-length : tie.Need-same-length
 same-length c = search needs
 
 returns-3 : tie.Need-returns-3
-returns-3 c = let m = now (c .before .before .before .before .before .before .before .before .before .before .before .before .args .m) in hit-on (c .before .before .before .before .before .before .before .before .before .before .before .before .args .x) (c .before .before .before .before .before .before .before .before .before .before .before .before .args .asker) (c .before .before .before .before .before .before .before .before .before .before .before .before .args .size) (hitNumber (c .before .before .before .before .before .before .before .before .before .before .before .before .args .size) (ttlOf (now (c .before .before .before .before .before .before .before .before .before .before .before .before .args .m))) (hopsOf (now (c .before .before .before .before .before .before .before .before .before .before .before .before .args .m))) (c .before .before .before .before .before .before .before .before .before .before .before .before .args .found) (c .before .before .before .before .before .before .before .before .before .before .before .before .args .asker)) (hitOn (now (c .before .before .before .before .before .before .before .before .before .before .before .before .args .m))) (now (c .before .before .before .before .before .before .before .before .before .before .before .before .args .out)) (c .before .before .before .before .before .before .before .hit .ensures) (c .before .before .before .before .before .before .if1 .left) (c .before .before .before .before .before .if2 .left) (pass-count (now (c .before .before .before .before .before .before .before .before .before .before .before .before .args .m)) (now (c .before .before .before .before .before .before .before .before .before .before .before .before .args .out)) (c .before .before .before .before .before .before .before .before .before .before .before .before .args .size) (ttlOf (now (c .before .before .before .before .before .before .before .before .before .before .before .before .args .m)) - 1) (hopsOf (now (c .before .before .before .before .before .before .before .before .before .before .before .before .args .m)) + 1) (c .before .before .before .before .before .before .before .before .before .before .before .before .pre .0) (c .before .before .before .before .before .before .before .before .before .before .before .before .pre .1) (c .before .before .before .before .before .before .before .before .before .before .before .before .pre .2) (λ i. omega (arith, c .before .before .before .before .before .before .before .before .before .before .before .shared-slice-known .given i)) (c .before .before .before .pass-on .ensures .0)) (c .only-to .ensures) (pass-bytes (now (c .before .before .before .before .before .before .before .before .before .before .before .before .args .m)) (now (c .before .before .before .before .before .before .before .before .before .before .before .before .args .out)) (c .before .before .before .before .before .before .before .before .before .before .before .before .args .size) (ttlOf (now (c .before .before .before .before .before .before .before .before .before .before .before .before .args .m)) - 1) (hopsOf (now (c .before .before .before .before .before .before .before .before .before .before .before .before .args .m)) + 1) (c .before .before .before .before .before .before .before .before .before .before .before .before .pre .0) (c .before .before .before .before .before .before .before .before .before .before .before .before .pre .1) (c .before .before .before .before .before .before .before .before .before .before .before .before .pre .2) (λ i. omega (arith, c .before .before .before .before .before .before .before .before .before .before .before .shared-slice-known .given i)) (c .before .before .before .pass-on .ensures .1) ∙ ap (λ k. over 0 (message (numberOf m) k (ttlOf m - 1) (hopsOf m + 1) (payloadOf m)) (now (c .before .before .before .before .before .before .before .before .before .before .before .before .args .out))) (c .before .before .before .before .before .before .before .before .before .before .before .before .pre .3))
+returns-3 c =
+    let at-pass-on = c .before .before .before in
+    let at-if2 = at-pass-on .before .before in
+    let at-if1 = at-if2 .before in
+    let at-hit = at-if1 .before in
+    let at-shared-slice-known = at-hit .before .before .before .before in
+    let start = at-shared-slice-known .before in
+    let m = now (start .args .m) in
+    hit-on (start .args .x) (start .args .asker) (start .args .size)
+    (hitNumber (start .args .size) (ttlOf m) (hopsOf m) (start .args .found) (start .args .asker)) (hitOn m) (now (start .args .out))
+    (at-hit .hit .ensures) (at-if1 .if1 .left) (at-if2 .if2 .left)
+    (pass-count m (now (start .args .out)) (start .args .size) (ttlOf m - 1) (hopsOf m + 1) (start .pre .0) (start .pre .1) (start .pre .2)
+    (λ i. omega (arith, at-shared-slice-known .shared-slice-known .given i)) (at-pass-on .pass-on .ensures .0))
+    (c .only-to .ensures)
+    (pass-bytes m (now (start .args .out)) (start .args .size) (ttlOf m - 1) (hopsOf m + 1) (start .pre .0) (start .pre .1) (start .pre .2)
+    (λ i. omega (arith, at-shared-slice-known .shared-slice-known .given i)) (at-pass-on .pass-on .ensures .1) ∙ ap
+    (λ k. over 0 (message (numberOf m) k (ttlOf m - 1) (hopsOf m + 1) (payloadOf m)) (now (start .args .out))) (start .pre .3))
 
 pub hit-step-spec : {M : Type 1} → statement M
 hit-step-spec =

@@ -30,7 +30,11 @@ same-length : tie.Need-same-length
 same-length c = search needs
 
 returns : tie.Need-returns
-returns c = update-done (c .before .before .before .before .before .before .before .before .before .args .room) (c .before .before .before .before .before .before .before .before .before .args .l) (c .before .before .before .before .before .before .before .before .before .args .x) (c .before .before .before .before .before .before .before .before .before .args .ttl) (c .before .before .before .before .before .before .before .before .before .args .hops) (now (c .before .before .before .before .before .before .before .before .before .args .payload)) (now (c .before .before .before .before .before .before .before .before .before .args .route)) (c .before .before .before .before .before .before .before .before .before .pre) (c .before .before .before .before .update .ensures .0) (c .before .before .before .before .update .ensures .1) (c .quietly .ensures)
+returns c =
+    let at-update = c .before .before .before .before in
+    let start = at-update .before .before .before .before .before in
+    update-done (start .args .room) (start .args .l) (start .args .x) (start .args .ttl) (start .args .hops) (now (start .args .payload))
+    (now (start .args .route)) (start .pre) (at-update .update .ensures .0) (at-update .update .ensures .1) (c .quietly .ensures)
 
 pub update-step-spec : {M : Type 1} → statement M
 update-step-spec =

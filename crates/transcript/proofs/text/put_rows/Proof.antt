@@ -2,7 +2,7 @@ use Rattle.transcript.proofs.Writing.{part-rises, part-within, part-siz
 use mathlib.Core.Path.{sym, _∙_}
 use native.Mathlib.Omega.{arith}
 use Prim.Native.Nat.{_-_}
-use Rattle.transcript.proofs.Writing.{Rows, rows-start, rows-on, rows-end, here-good, event-rises, event-within}
+use Rattle.transcript.proofs.Writing.{Rows, rows-start, rows-on, rows-end}
 use borrow.Author.Needs.{needs}
 use Rattle.transcript.proofs.text.put_rows.Statement.{statement}
 use Rattle.transcript.proofs.text.put_rows.Tie as tie

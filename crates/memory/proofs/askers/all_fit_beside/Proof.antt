@@ -9,8 +9,8 @@ use borrow.Author.Needs.{needs}
 use Rattle.laws.specs.Tests.{all}
 use Rattle.memory.specs.Order.{fitsBeside}
 use Rattle.memory.proofs.AskerLaws.{all-suc}
-use Rattle.memory.proofs.askers.fit_beside.Statement.{statement}
-use Rattle.memory.proofs.askers.fit_beside.Tie as tie
+use Rattle.memory.proofs.askers.all_fit_beside.Statement.{statement}
+use Rattle.memory.proofs.askers.all_fit_beside.Tie as tie
 
 abbrev Inv-loop : tie.InvT-loop
 Inv-loop part line good₀ i₀ good i = (i ≤ length part) × (good ≡ all (fitsBeside line) (take i part))
@@ -52,8 +52,8 @@ returns c =
     let l = c .before .loop in
     l .inv .1 ∙ ap (all (fitsBeside (a .line))) (take-all (l .i) (a .part .now) (search needs))
 
-pub fit-beside-spec : {M : Type 1} → statement M
-fit-beside-spec =
+pub all-fit-beside-spec : {M : Type 1} → statement M
+all-fit-beside-spec =
     tie.close
     (tie.spec
     Inv-loop
