@@ -2,17 +2,19 @@
 use mathlib.Core.Path.{_≡_, refl, sym, ap, _∙_}
 use mathlib.Core.Bool.{Bool, true, false, not, _||_, and-false}
 use mathlib.Core.List.{List, [], _∷_, map}
-use Prim.Native.Nat.{ℕ, zero, suc, _+_, _-_, _≤_, _<_}
+use Prim.Native.Nat.{ℕ, zero, suc, _+_, _-_, _%_, _≤_, _<_}
 use native.Mathlib.Nat.{sub-zero}
 use native.Mathlib.Omega.{arith}
-use lib.ListN.{length, length-set}
+use lib.Bits.{bitOr}
+use lib.ListN.{length, getD, length-set}
+use borrow.Author.Tests.{ne-eqb}
 use Rattle.laws.specs.Tests.{any}
 use Rattle.laws.specs.Ring.{placesBefore}
 use Rattle.laws.proofs.RingScan.{back-pos, places-more, places-round}
 use Rattle.protocol.specs.Memory.{Query, Found, Absent, At, later, pickFound, find, noTwice}
 use Rattle.memory.specs.Queries.{queryIn, queriesBefore, looked}
 use Rattle.memory.specs.Order.{sameAs, Passed}
-use Rattle.memory.proofs.FilterLaws.{joined, marked-more}
+use Rattle.memory.proofs.FilterLaws.{joined, marked-more, unmarked-new}
 
 -- found is what some query has
 pub found-any : (qs : List Query) (q : Query) → looked (find qs (q .number)) .found ≡ any (sameAs q) qs
@@ -24,6 +26,17 @@ found-any (x ∷ xs) q = by (sameAs q x) (find xs (q .number)) (found-any xs q)
     by true f e = refl
     by false Absent e = e
     by false (At n k) e = e
+
+found-none : (f : Found) → looked f .found ≡ false → f ≡ Absent
+found-none Absent e = refl
+found-none (At n k) e = cc
+
+-- a number with a bit that its word lacks is not found among the queries passed
+pub lacks-absent : (filter : List ℕ) (qs : List Query) (low high : ℕ) → Passed filter qs
+    → (bitOr (getD filter (low % 1024) 0) low ≡ getD filter (low % 1024) 0 → ⊥) → find qs (record { lo = low; hi = high }) ≡ Absent
+lacks-absent filter qs low high known lacks =
+    let q : Query = record { number = record { lo = low; hi = high }; asker = 0 } in
+    found-none (find qs (q .number)) (found-any qs q ∙ unmarked-new filter q (ne-eqb _ _ lacks) qs (known .has))
 
 module _ (q : Query) (qs : List Query) where
   -- one query more

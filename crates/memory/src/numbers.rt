@@ -55,25 +55,27 @@ fn no_twice_in<'a>(
     true
 }
 
-// The kept places are those just below `next`, and, where these are fewer than `count`, those at the end of the slices.
+// The kept places are those just below `next`, and, where these are fewer than `count`, those at the end of the slices. The filter is
+// handed in empty: bits that no number brought only cost look-ups.
 pub(crate) fn no_twice<'a>(
     lo: &'a [u64],
     hi: &'a [u64],
     asker: &'a [u8],
     next: usize,
     count: usize,
+    filter: &mut [u64; 1024],
 ) -> bool
-    requires { ⌜ (next < length (now lo)) × (count ≤ length (now lo)) ⌝ }
+    requires { ⌜ (next < length (now lo)) × (count ≤ length (now lo)) × (length (now filter) ≡ 1024) ⌝ }
     ensures { λ r. ⌜ r ≡ noTwice (queriesBefore (now (lo .entry)) (now (hi .entry)) (now (asker .entry)) next count) ⌝ }
+    ensures { λ r. ⌜ (r ≡ true → Passed (now (filter .exit)) (queriesBefore (now (lo .entry)) (now (hi .entry)) (now (asker .entry)) next count)) ⌝ }
 {
-    let mut filter = [0; 1024];
     if count <= next {
-        return no_twice_in(lo, hi, asker, next - count, next, 0, &mut filter);
+        return no_twice_in(lo, hi, asker, next - count, next, 0, filter);
     }
     let capacity = lo.len();
     let round = count - next;
-    if !no_twice_in(lo, hi, asker, capacity - round, capacity, 0, &mut filter) {
+    if !no_twice_in(lo, hi, asker, capacity - round, capacity, 0, filter) {
         return false;
     }
-    no_twice_in(lo, hi, asker, 0, next, round, &mut filter)
+    no_twice_in(lo, hi, asker, 0, next, round, filter)
 }

@@ -16,7 +16,7 @@ pub struct Looked {
     pub asker: u8,
 }
 
-fn absent() -> Looked
+pub(crate) fn absent() -> Looked
     ensures { λ r. ⌜ r ≡ looked Absent ⌝ }
 {
     Looked {

@@ -15,7 +15,7 @@ use Rattle.protocol.specs.declared.Line.{Line}
 use Rattle.protocol.specs.declared.Station.{Station}
 use Rattle.protocol.specs.declared.Own.{Own}
 use Rattle.laws.specs.Bytes.{little}
-use Rattle.protocol.specs.Memory.{Number, Query, Found, Absent, At, isFound, askerOf, numberIn, find, remembered, seen}
+use Rattle.protocol.specs.Memory.{Number, isFound, askerOf, numberIn, find, remembered, seen}
 use Rattle.protocol.specs.Lines.{lineAt, withPong}
 use Rattle.protocol.specs.Order.{inOrder}
 use Rattle.protocol.specs.Outcomes.{Outcome, quiet}
@@ -27,7 +27,7 @@ use Rattle.protocol.proofs.InOrder.{facts-at}
 use Rattle.refusals.specs.Numbers.{hitNumber}
 use Rattle.memory.specs.declared.search.Looked.{Looked}
 use Rattle.memory.specs.Queries.{queriesIn, looked}
-use Rattle.memory.proofs.StationLaws.{remembered-is}
+use Rattle.memory.proofs.StationLaws.{remembered-is, looked-found, looked-asker}
 use Rattle.pinging.specs.Numbers.{probing, pongNumber}
 use Rattle.pinging.specs.Sending.{pongsFor}
 use Rattle.pinging.proofs.Joined.{ping-is, pong-is, kept-is, pongs-are}
@@ -38,33 +38,25 @@ use Rattle.station.proofs.LineLaws.{line-in}
 use Rattle.station.proofs.StateLaws.{not-zero}
 use Rattle.station.proofs.StepLaws.{takes-ping, takes-pong, takes-update, takes-query, takes-hit, takes-none, takes-refusal, other-kind, payload-length, payload-part, update-acted, update-route, update-sent, hit-acted, hit-sent, hit-route, query-acted, query-sent, query-route}
 
--- what a look-up hands back
-pub found-is : (f : Found) → looked f .found ≡ isFound f
-found-is Absent = refl
-found-is (At n a) = refl
-
-pub asker-is : (f : Found) → looked f .asker ≡ askerOf f
-asker-is Absent = refl
-asker-is (At n a) = refl
-
--- a look-up by the two halves of the message's number
+-- a look-up in the lent memory, by the two halves of the message's number
 abbrev halves : ℕ → ℕ → Number
 halves a b = record { lo = a; hi = b }
 
-pub look-is : (qs : List Query) (m : List ℕ) {a b : ℕ} {k : Looked} → k ≡ looked (find qs (halves a b)) → a ≡ little (take 8 m) → b ≡ little (take 8 (drop 8 m))
-    → k ≡ looked (find qs (numberIn m))
-look-is qs m ek ea eb = ek ∙ ap₂ (λ a b. looked (find qs (halves a b))) ea eb
+pub look-is : (s : Station) (m : List ℕ) → length (s .lo) ≡ 512 → {a b : ℕ} {k : Looked}
+    → k ≡ looked (find (queriesIn (s .lo) (s .hi) (s .asker) (s .next) (s .count)) (halves a b)) → a ≡ little (take 8 m) → b ≡ little (take 8 (drop 8 m))
+    → k ≡ looked (find (remembered s) (numberIn m))
+look-is s m held ek ea eb =
+    ek
+    ∙ ap₂ (λ a b. looked (find (queriesIn (s .lo) (s .hi) (s .asker) (s .next) (s .count)) (halves a b))) ea eb
+    ∙ ap (λ q. looked (find q (numberIn m))) (sym (remembered-is s held))
 
--- whether a number is remembered, by the lent memory
-module _ (s : Station) (m : List ℕ) (held : length (s .lo) ≡ 512) {k : Looked} (ek : k ≡ looked (find (queriesIn (s .lo) (s .hi) (s .asker) (s .next) (s .count)) (numberIn m))) where
-  looks : k ≡ looked (hitFound s m)
-  looks = ek ∙ ap (λ q. looked (find q (numberIn m))) (sym (remembered-is s held))
-
+-- whether a number is remembered, and who asked
+module _ (s : Station) (m : List ℕ) {k : Looked} (ek : k ≡ looked (find (remembered s) (numberIn m))) where
   pub seen-is : k .found ≡ seen s (numberIn m)
-  seen-is = ap (λ (x : Looked). x .found) looks ∙ found-is (hitFound s m)
+  seen-is = ap (λ (x : Looked). x .found) ek ∙ looked-found (hitFound s m)
 
-  pub asked-by : k .asker ≡ askerOf (hitFound s m)
-  asked-by = ap (λ (x : Looked). x .asker) looks ∙ asker-is (hitFound s m)
+  asked-by : k .asker ≡ askerOf (hitFound s m)
+  asked-by = ap (λ (x : Looked). x .asker) ek ∙ looked-asker (hitFound s m)
 
 -- a ping
 module _ (s : Station) (l clock : ℕ) (own : Own) (m route : List ℕ) (out : ℕ) (inside : l < length (s .lines)) (order : inOrder s ≡ true) (room : 4119 ≤ out) where
@@ -182,13 +174,13 @@ module _ (s : Station) (l clock : ℕ) (own : Own) (m out route : List ℕ) wher
         (ap (λ b. over 0 b out) (update-sent s l m route))
         (ea ∙ ap (λ q. updateRoute (s .room) l (lineAt s l) (ttlOf m) (hopsOf m) q route) p ∙ update-route s l m route)
 
-    -- the query of a number, found in the lent memory
-    module _ (held : length (s .lo) ≡ 512) (k : Looked) (ek : k ≡ looked (find (queriesIn (s .lo) (s .hi) (s .asker) (s .next) (s .count)) (numberIn m))) where
+    -- given the query that has the message's number
+    module _ (k : Looked) (ek : k ≡ looked (find (remembered s) (numberIn m))) where
       found-here : k .found ≡ seen s (numberIn m)
-      found-here = seen-is s m held ek
+      found-here = seen-is s m ek
 
       asker-here : k .asker ≡ askerOf (hitFound s m)
-      asker-here = asked-by s m held ek
+      asker-here = asked-by s m ek
 
       pub act-query : {n : ℕ} {r : Acted} {o : List ℕ} → n ≡ 0 → kindOf m ≡ 0x80
           → r ≡ queryActed (lineAt s l) (queryBy (k .found) m) (queryLines (s .room) (s .lines) l m route) m

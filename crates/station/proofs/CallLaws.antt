@@ -21,7 +21,7 @@ use Rattle.protocol.specs.declared.Line.{Line}
 use Rattle.protocol.specs.declared.Station.{Station}
 use Rattle.protocol.specs.declared.Own.{Own}
 use Rattle.protocol.specs.declared.Handled.{Handled}
-use Rattle.protocol.specs.Memory.{find, numberIn, remember}
+use Rattle.protocol.specs.Memory.{find, numberIn, remember, remembered}
 use Rattle.protocol.specs.Lines.{nowhere, partOf}
 use Rattle.protocol.specs.Order.{inOrder}
 use Rattle.protocol.specs.Outcomes.{Outcome, quiet, nobody, pickOutcome, handled, usedOf, writtenFor}
@@ -32,7 +32,7 @@ use Rattle.protocol.proofs.InOrder.{state-facts}
 use Rattle.refusals.specs.Numbers.{ownNumber}
 use Rattle.refusals.proofs.Joined.{own-is}
 use Rattle.memory.specs.declared.search.Looked.{Looked}
-use Rattle.memory.specs.Queries.{queriesIn, looked}
+use Rattle.memory.specs.Queries.{looked}
 use Rattle.forwarding.specs.Messages.{sendable, countIf, writtenIf}
 use Rattle.forwarding.specs.Passing.{passingOf}
 use Rattle.forwarding.proofs.LineLaws.{flag-of, each-same}
@@ -92,13 +92,12 @@ module _ (s : Station) (line clock : ℕ) (own : Own) (m out route : List ℕ) (
 
 -- an own query: its refusals
 module _ (s : Station) (number text : List ℕ) (out route : ℕ) where
-  pub own-refusal-is : {order zero : Bool} {k : Looked} {a : ℕ} → length (s .lo) ≡ 512 → order ≡ inOrder s
-      → k ≡ looked (find (queriesIn (s .lo) (s .hi) (s .asker) (s .next) (s .count)) (numberIn number)) → zero ≡ any (eqb 0) text
+  pub own-refusal-is : {order zero : Bool} {k : Looked} {a : ℕ} → order ≡ inOrder s → k ≡ looked (find (remembered s) (numberIn number)) → zero ≡ any (eqb 0) text
       → a ≡ ownNumber order (s .room) out route (length text) zero (k .found) → a ≡ firstOf (ownRules s number text out route)
-  own-refusal-is {order} {zero} {k} held eo ek ez ea =
+  own-refusal-is {order} {zero} {k} eo ek ez ea =
       ea
       ∙ ap (λ b. ownNumber b (s .room) out route (length text) zero (k .found)) eo
-      ∙ ap₂ (λ z f. ownNumber (inOrder s) (s .room) out route (length text) z f) ez (seen-is s number held ek)
+      ∙ ap₂ (λ z f. ownNumber (inOrder s) (s .room) out route (length text) z f) ez (seen-is s number ek)
       ∙ sym (own-is s number text out route)
 
   -- one that is not refused fits the output area

@@ -47,10 +47,14 @@ module _ (lines : List Line) (f : Line → Bool) where
   same-test line = test-by line (ltb line 8) refl
 
 module _ (s : Station) (line : ℕ) where
-  pub early-here : (m : List ℕ) (out route : ℕ) → earlyNumber (inOrder s) (s .room) out route line (lineAt s (line % 8) .live) m ≡ early s line m out route
+  early-here : (m : List ℕ) (out route : ℕ) → earlyNumber (inOrder s) (s .room) out route line (lineAt s (line % 8) .live) m ≡ early s line m out route
   unfolding earlyNumber early
   early-here m out route =
       ap (λ t. firstOf ((not (inOrder s), 1) ∷ (areaTest (s .room) out route, 2) ∷ (t, 3) ∷ extentRules m)) (same-test (s .lines) (λ x. not (x .live)) line)
+
+  pub early-of : {n : ℕ} {order : Bool} (m : List ℕ) (out route : ℕ) → order ≡ inOrder s → n ≡ earlyNumber order (s .room) out route line (lineAt s (line % 8) .live) m
+      → n ≡ early s line m out route
+  early-of m out route eo en = en ∙ ap (λ o. earlyNumber o (s .room) out route line (lineAt s (line % 8) .live) m) eo ∙ early-here m out route
 
   pub opening-here : openingNumber (inOrder s) line (lineAt s (line % 8) .live) ≡ firstOf (openingRules s line)
   unfolding openingNumber

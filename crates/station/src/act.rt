@@ -3,20 +3,17 @@ ghost use mathlib.Core.Path.{_≡_};
 ghost use Prim.Native.Nat.{_<_};
 ghost use lib.ListN.{length};
 ghost use Rattle.laws.specs.Parts.{over};
-ghost use Rattle.protocol.specs.Memory.{find, numberIn};
-ghost use Rattle.memory.specs.Queries.{queriesIn, looked};
+ghost use Rattle.protocol.specs.Memory.{find, numberIn, remembered};
+ghost use Rattle.memory.specs.Queries.{looked};
 ghost use Rattle.station.specs.Acting.{stationOf, Fit, actOutcome, actedFor};
 use crate::acted::Acted;
 use crate::acted::quietly;
-use crate::numbers::high_half;
-use crate::numbers::low_half;
 use crate::pings::ping_step;
 use crate::pings::pong_step;
 use crate::queries::query_step;
 use crate::steps::hit_step;
 use crate::steps::update_step;
 use memory::search::Looked;
-use memory::search::find;
 use protocol::Line;
 use protocol::Own;
 use refusals::payload_size;
@@ -32,26 +29,11 @@ const QUERY: u8 = 0x80;
 
 const HIT: u8 = 0x81;
 
-// The query that has the message's number.
-pub(crate) fn look<'a>(
-    lo: &'a [u64; 512],
-    hi: &'a [u64; 512],
-    asker: &'a [u8; 512],
-    next: usize,
-    count: usize,
-    m: &[u8],
-) -> Looked
-    ensures query { λ r. ⌜ r ≡ looked (find (queriesIn (now (lo .entry)) (now (hi .entry)) (now (asker .entry)) next count) (numberIn (now (m .entry)))) ⌝ }
-    ensures capacity { λ _. ⌜ length (now (lo .entry)) ≡ 512 ⌝ }
-{
-    let low = low_half(m);
-    let high = high_half(m);
-    find(lo, hi, asker, next, count, low, high)
-}
-
-// `early` is the first refusal, 0 for none; then the message is whole and its line open. The other lines' records are only read.
+// `early` is the first refusal, 0 for none; then the message is whole and its line open. `known` is the query that has its number. The
+// other lines' records are only read, and of the lent memory nothing is.
 pub(crate) fn act<'a>(
     early: u8,
+    known: Looked,
     lo: &'a [u64; 512],
     hi: &'a [u64; 512],
     asker: &'a [u8; 512],
@@ -68,6 +50,7 @@ pub(crate) fn act<'a>(
 ) -> Acted
     requires { ⌜ l < 8 ⌝ }
     requires { ⌜ (early ≡ 0 → Fit (stationOf room lines (now lo) (now hi) (now asker) count next) l (now m) (length (now out)) (length (now route))) ⌝ }
+    requires { ⌜ known ≡ looked (find (remembered (stationOf room lines (now lo) (now hi) (now asker) count next)) (numberIn (now m))) ⌝ }
     ensures acted { λ r. ⌜ r ≡ actedFor early (stationOf room lines (now (lo .entry)) (now (hi .entry)) (now (asker .entry)) count next) l clock own (now (m .entry)) (now (route .entry)) ⌝ }
     ensures output { λ _. ⌜ now (out .exit) ≡ over 0 (actOutcome early (stationOf room lines (now (lo .entry)) (now (hi .entry)) (now (asker .entry)) count next) l clock own (now (m .entry)) (now (route .entry)) .sent) (now (out .entry)) ⌝ }
     ensures area { λ _. ⌜ now (route .exit) ≡ actOutcome early (stationOf room lines (now (lo .entry)) (now (hi .entry)) (now (asker .entry)) count next) l clock own (now (m .entry)) (now (route .entry)) .route ⌝ }
@@ -90,11 +73,9 @@ pub(crate) fn act<'a>(
         return update_step(room, j, x, m[17], m[18], &m[23..n], route);
     }
     if kind == QUERY {
-        let known = look(lo, hi, asker, next, count, m);
         return query_step(room, lines, j, x, known.found, size, m, out, route);
     }
     if kind == HIT {
-        let known = look(lo, hi, asker, next, count, m);
         return hit_step(x, known.found, known.asker, size, m, out);
     }
     quietly(7, x)

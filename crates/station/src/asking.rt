@@ -8,12 +8,11 @@ ghost use Rattle.protocol.specs.Queries.{usualLimit, ownBytes};
 ghost use Rattle.protocol.specs.Calls.{ownRules, ownOutcome, ownResult};
 ghost use Rattle.station.specs.Acting.{stationOf};
 ghost use Rattle.station.specs.Steps.{ownLines, ownWritten, sentBy};
-use crate::act::look;
 use crate::lines::lives;
 use crate::lines::tables_of;
 use crate::numbers::high_half;
 use crate::numbers::low_half;
-use crate::order::in_order;
+use crate::order::survey;
 use crate::ring::count_after;
 use crate::ring::keep_byte;
 use crate::ring::keep_word;
@@ -54,10 +53,9 @@ fn own_refusal<'a>(
 ) -> u8
     ensures { λ r. ⌜ r ≡ firstOf (ownRules (stationOf room lines (now (lo .entry)) (now (hi .entry)) (now (asker .entry)) count next) number (now (text .entry)) out route) ⌝ }
 {
-    let order = in_order(lo, hi, asker, next, count, room, lines);
-    let known = look(lo, hi, asker, next, count, &number);
+    let s = survey(lo, hi, asker, next, count, room, lines, &number);
     let zero = any_zero(text);
-    refusals::own(order, room, out, route, text.len(), zero, known.found)
+    refusals::own(s.order, room, out, route, text.len(), zero, s.known.found)
 }
 
 // An own query that is answered so is written where it goes to some line.

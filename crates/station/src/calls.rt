@@ -10,7 +10,7 @@ use crate::act::act;
 use crate::acted::Acted;
 use crate::numbers::high_half;
 use crate::numbers::low_half;
-use crate::order::in_order;
+use crate::order::survey;
 use crate::ring::count_after;
 use crate::ring::keep_byte;
 use crate::ring::keep_word;
@@ -19,29 +19,6 @@ use protocol::Handled;
 use protocol::Line;
 use protocol::Own;
 use protocol::Station;
-
-// The refusals before the message's type counts.
-fn first_refusal<'a>(
-    lo: &'a [u64; 512],
-    hi: &'a [u64; 512],
-    asker: &'a [u8; 512],
-    next: usize,
-    count: usize,
-    room: usize,
-    lines: [Line; 8],
-    line: u32,
-    out: usize,
-    route: usize,
-    m: &[u8],
-) -> u8
-    ensures number { λ r. ⌜ r ≡ early (stationOf room lines (now (lo .entry)) (now (hi .entry)) (now (asker .entry)) count next) line (now (m .entry)) out route ⌝ }
-    ensures eight { λ _. ⌜ length lines ≡ 8 ⌝ }
-{
-    let j = (line % 8) as usize;
-    let x = lines[j];
-    let order = in_order(lo, hi, asker, next, count, room, lines);
-    refusals::early(order, room, out, route, line, x.live, m)
-}
 
 // How many bytes of the message are used: none where nothing is consumed, else its header and payload.
 fn used_of(answer: u8, m: &[u8]) -> usize
@@ -78,22 +55,15 @@ fn arrive<'a>(
     ensures area { λ _. ⌜ now (route .exit) ≡ messageOutcome (stationOf room lines (now (lo .entry)) (now (hi .entry)) (now (asker .entry)) count next) line clock own (now (m .entry)) (length (now (out .entry))) (now (route .entry)) .route ⌝ }
     ensures eight { λ _. ⌜ length lines ≡ 8 ⌝ }
 {
-    let early = first_refusal(
-        lo,
-        hi,
-        asker,
-        next,
-        count,
-        room,
-        lines,
-        line,
-        out.len(),
-        route.len(),
-        m,
-    );
+    let s = survey(lo, hi, asker, next, count, room, lines, m);
+    let j = (line % 8) as usize;
+    let x = lines[j];
+    let early = refusals::early(s.order, room, out.len(), route.len(), line, x.live, m);
+    let known = s.known;
     let l = line % 8;
     act(
         early,
+        known,
         lo,
         hi,
         asker,

@@ -1,9 +1,14 @@
 // Whether a state is in order.
 ghost use mathlib.Core.Path.{_≡_};
 ghost use Rattle.laws.specs.Tests.{all};
+ghost use Rattle.protocol.specs.Memory.{find, numberIn, remembered};
 ghost use Rattle.protocol.specs.Order.{lineInOrder, inOrder};
+ghost use Rattle.memory.specs.Queries.{looked};
 ghost use Rattle.station.specs.Acting.{stationOf};
 use crate::lines::lives;
+use crate::numbers::high_half;
+use crate::numbers::low_half;
+use memory::order::Surveyed;
 use pinging::order::line_in_order;
 use protocol::Line;
 
@@ -38,4 +43,30 @@ pub fn in_order<'a>(
         return false;
     }
     lines_in_order(lines, room)
+}
+
+// The same, and the query that has the message's number.
+pub(crate) fn survey<'a>(
+    lo: &'a [u64; 512],
+    hi: &'a [u64; 512],
+    asker: &'a [u8; 512],
+    next: usize,
+    count: usize,
+    room: usize,
+    lines: [Line; 8],
+    m: &[u8],
+) -> Surveyed
+    ensures order { λ r. ⌜ r .order ≡ inOrder (stationOf room lines (now (lo .entry)) (now (hi .entry)) (now (asker .entry)) count next) ⌝ }
+    ensures known { λ r. ⌜ r .known ≡ looked (find (remembered (stationOf room lines (now (lo .entry)) (now (hi .entry)) (now (asker .entry)) count next)) (numberIn (now (m .entry)))) ⌝ }
+{
+    let live = lives(lines);
+    let low = low_half(m);
+    let high = high_half(m);
+    let s = memory::order::survey(lo, hi, asker, next, count, live, low, high);
+    if !s.order {
+        return s;
+    }
+    let order = lines_in_order(lines, room);
+    let known = s.known;
+    Surveyed { order, known }
 }

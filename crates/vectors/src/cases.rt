@@ -21,7 +21,27 @@ fn opened() -> World {
     World { state, route }
 }
 
-// A message of a line, its row with line 1's mark and four entries after it, and what it leaves.
+// The row but for the bytes written: line 1's table has this mark, and its entries stand in its part of the route area.
+fn words(
+    label: &[u8],
+    answer: u8,
+    used: usize,
+    to: [bool; 8],
+    search: bool,
+    mark: u8,
+    part: &[u8],
+) {
+    io::write_all(1, b"case");
+    print::word(label);
+    print::number(answer as u64);
+    print::number(used as u64);
+    print::flags(to);
+    print::flag(search);
+    print::number(mark as u64);
+    print::list(part);
+}
+
+// A message of a line, its row, and what it leaves.
 fn row(label: &[u8], w: World, line: u32, m: &[u8]) -> World {
     let before = w.state;
     let mut route = w.route;
@@ -34,18 +54,19 @@ fn row(label: &[u8], w: World, line: u32, m: &[u8]) -> World {
         calls: true,
     };
     let done = station::calls::message(before, line, 0, own, m, &mut out, &mut route);
-    io::write_all(1, b"case");
-    print::word(label);
-    print::number(done.answer as u64);
-    print::number(done.used as u64);
-    let to = done.to;
-    print::flags(to);
-    print::flag(done.search);
     let state = done.state;
     let neighbour = state.lines[1];
     let table = neighbour.table;
-    print::number(table.mark as u64);
-    print::list(&route[4..8]);
+    let to = done.to;
+    words(
+        label,
+        done.answer,
+        done.used,
+        to,
+        done.search,
+        table.mark,
+        &route[4..8],
+    );
     print::hex(&out, done.written);
     print::end();
     World { state, route }

@@ -94,8 +94,9 @@ fn areas() {
 }
 
 // A long run: every entry 127 goes at 4 bits, every entry 1 at 8.
-fn run(new: &[u8], bits: u8, size: usize, out: &mut [u8]) {
-    let r = tablewriter::write_table(number(), false, new, 0, new, 127, size, out);
+fn run(new: &[u8], bits: u8, size: usize) {
+    let mut out = [0u8; 131072];
+    let r = tablewriter::write_table(number(), false, new, 0, new, 127, size, &mut out);
     io::write_all(1, b"run");
     print::number(new.len() as u64);
     print::number(bits as u64);
@@ -105,21 +106,24 @@ fn run(new: &[u8], bits: u8, size: usize, out: &mut [u8]) {
     print::end();
 }
 
-fn runs() {
-    let mut out = [0u8; 131072];
+fn near_runs() {
     let near = [1u8; 65536];
-    run(&near, 8, 257, &mut out);
-    run(&near, 8, 258, &mut out);
-    run(&near, 8, 4091, &mut out);
+    run(&near, 8, 257);
+    run(&near, 8, 258);
+    run(&near, 8, 4091);
+}
+
+fn far_runs() {
     let far = [127u8; 65536];
-    run(&far, 4, 128, &mut out);
-    run(&far, 4, 129, &mut out);
-    run(&[127u8; 4], 4, 1, &mut out);
+    run(&far, 4, 128);
+    run(&far, 4, 129);
+    run(&[127u8; 4], 4, 1);
 }
 
 pub fn all() {
     accepted();
     refused();
     areas();
-    runs();
+    near_runs();
+    far_runs();
 }
