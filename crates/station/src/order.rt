@@ -55,7 +55,7 @@ pub(crate) fn survey<'a>(
     }
 }
 
-// The same without a message: a number of ones is never looked up, but where a word of the filter is all ones.
+// The same without a message. It is asked with a number of ones, which is looked up only where a word of the filter is all ones.
 pub fn in_order<'a>(
     lo: &'a [u64; 512],
     hi: &'a [u64; 512],
