@@ -55,7 +55,7 @@ fn no_twice_in<'a>(
     true
 }
 
-// The kept places are those just below `next`, and, where these are fewer than `count`, those at the end of the slices. The filter is
+// The kept places are those just below `next`, and, where these are fewer than `count`, those at the end of the arrays. The filter is
 // handed in empty: bits that no number brought only cost look-ups.
 pub(crate) fn no_twice<'a>(
     lo: &'a [u64; 512],

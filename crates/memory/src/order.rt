@@ -27,8 +27,9 @@ fn fits<'a>(lo: &'a [u64], _asker: &'a [u8], next: usize, count: usize) -> bool
     ring_fits(lo.len(), next, count)
 }
 
-// Where they are in order, the filter has the numbers of all.
-fn slices_in_order<'a>(
+// Where they are in order, the filter has the numbers of all. The askers are lent on as a copy: parts of the state's own array would make
+// the compiler copy the whole state.
+fn arrays_in_order<'a>(
     lo: &'a [u64; 512],
     hi: &'a [u64; 512],
     asker: &'a [u8; 512],
@@ -69,7 +70,7 @@ pub fn survey<'a>(
     ensures capacity { λ _. ⌜ length (now (lo .entry)) ≡ 512 ⌝ }
 {
     let mut filter = [0; 1024];
-    let order = slices_in_order(lo, hi, asker, next, count, live, &mut filter);
+    let order = arrays_in_order(lo, hi, asker, next, count, live, &mut filter);
     let h = (low % 1024) as usize;
     let word = filter[h];
     if order {

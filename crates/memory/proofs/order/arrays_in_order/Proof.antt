@@ -8,8 +8,8 @@ use borrow.Author.Tests.{not-true, not-false}
 use borrow.Author.Needs.{needs}
 use Rattle.memory.proofs.OrderLaws.{order-unfit, order-unasked, order-asked}
 use Rattle.memory.proofs.QueryLaws.{fits-next, fits-count, kept-all}
-use Rattle.memory.proofs.order.slices_in_order.Statement.{statement}
-use Rattle.memory.proofs.order.slices_in_order.Tie as tie
+use Rattle.memory.proofs.order.arrays_in_order.Statement.{statement}
+use Rattle.memory.proofs.order.arrays_in_order.Tie as tie
 
 fits-requires : tie.Need-fits-requires
 fits-requires c κs = search needs
@@ -65,8 +65,8 @@ returns-3 c =
     let o = order-asked (a .lo .now) (a .hi .now) (a .asker .now) (a .next) (a .count) (a .live) same f (sym (r .ensures) ∙ not-false (r .result) (c .before .before .if2 .left)) in
     (c .no-twice .ensures .0 ∙ o, ((λ t. rw (kept-all (a .lo .now) (a .hi .now) (a .asker .now) (a .next) (a .count) f) (c .no-twice .ensures .1 t)), omega arith))
 
-pub slices-in-order-spec : {M : Type 1} → statement M
-slices-in-order-spec =
+pub arrays-in-order-spec : {M : Type 1} → statement M
+arrays-in-order-spec =
     tie.close
     (tie.spec
     fits-requires
