@@ -7,9 +7,9 @@ ghost use Rattle.tables.specs.Tables.{heldIn};
 ghost use Rattle.forwarding.specs.Passing.{passingOf, stops, leftBy};
 use keywords::cut::first_keyword;
 use keywords::hash::hash;
+use tablereader::admission::is_far;
 use tables::SETTLED;
 use tables::Table;
-use tables::admission::is_far;
 
 // Whether a message goes to any line.
 pub fn any_line(to: [bool; 8]) -> bool

@@ -86,5 +86,5 @@ pub fn line_in_order(x: Line, room: usize) -> bool
     if !low_hops(x) {
         return false;
     }
-    tables::order::in_order(x.table, room)
+    tablereader::order::in_order(x.table, room)
 }

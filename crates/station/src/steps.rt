@@ -29,7 +29,7 @@ pub(crate) fn update_step(
     let start = l * room;
     let end = start + room;
     let table = x.table;
-    let u = tables::updates::update(table, ttl, hops, payload, &mut route[start..end]);
+    let u = tablereader::updates::update(table, ttl, hops, payload, &mut route[start..end]);
     let mut y = x;
     let t = u.table;
     y.table = t;

@@ -1,11 +1,8 @@
 pub mod TestLaws
 pub mod PatchFacts
 pub mod NumberLaws
-pub mod UnpackLaws
-pub mod FieldLaws
 pub mod TurnLaws
 pub mod UpdateLaws
-pub mod AdmissionLaws
 pub mod AnswerLaws
 pub mod OrderLaws
 pub mod KeepLaws

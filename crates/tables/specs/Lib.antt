@@ -1,6 +1,5 @@
 -- Route tables: updates and admission.
 pub mod Patch
-pub mod Unpacking
 pub mod Tables
 pub mod Updates
 pub mod Admission

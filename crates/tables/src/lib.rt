@@ -1,21 +1,15 @@
-// Floor 2: one neighbour's route table: updates read on its part of the route area, and whether it withholds a query.
-// Nothing here knows of lines or neighbours.
-pub mod admission;
-mod fields;
-mod numbers;
-pub mod order;
-mod turns;
-pub mod updates;
+// Floor 2: what is kept of one neighbour's route table. The rules of updates and of withholding are the definitions of specs/, with laws in
+// proofs/; the code that meets them is crate tablereader. Nothing here knows of lines or neighbours.
 
 // The marks of a table that takes a PATCH: RESET and no number yet, inside a run, and a whole run done.
-const WAITING: u8 = 1;
+pub const WAITING: u8 = 1;
 
-const RUNNING: u8 = 2;
+pub const RUNNING: u8 = 2;
 
 pub const SETTLED: u8 = 3;
 
 // The mark of a table after an update that was refused.
-const BROKEN: u8 = 4;
+pub const BROKEN: u8 = 4;
 
 // What is kept of a table beside its entries, which stand in the lent part, one byte an entry.
 #[repr(C)]

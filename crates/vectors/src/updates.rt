@@ -38,7 +38,7 @@ fn table_words(t: Table) {
 fn row_by(label: &[u8], from: Case, ttl: u8, hops: u8, payload: &[u8]) -> Case {
     let before = from.table;
     let mut part = from.part;
-    let r = tables::updates::update(before, ttl, hops, payload, &mut part);
+    let r = tablereader::updates::update(before, ttl, hops, payload, &mut part);
     let table = r.table;
     io::write_all(1, b"update");
     print::word(label);
@@ -93,7 +93,7 @@ fn withheld(label: &[u8], c: Case, ttl: u8, text: &[u8]) {
     print::word(label);
     print::number(ttl as u64);
     print::shown(text);
-    if tables::admission::withheld(table, &part, ttl, text) {
+    if tablereader::admission::withheld(table, &part, ttl, text) {
         print::number(1);
     } else {
         print::number(0);
@@ -105,9 +105,9 @@ fn withheld(label: &[u8], c: Case, ttl: u8, text: &[u8]) {
 fn two() -> Case {
     let mut part = [7u8; 8];
     let none = start().table;
-    let r = tables::updates::update(none, 1, 0, b"\x00\x04\x00\x00\x00\x02", &mut part);
+    let r = tablereader::updates::update(none, 1, 0, b"\x00\x04\x00\x00\x00\x02", &mut part);
     let waiting = r.table;
-    let s = tables::updates::update(
+    let s = tablereader::updates::update(
         waiting,
         1,
         0,

@@ -1,0 +1,3 @@
+pub mod UnpackLaws
+pub mod FieldLaws
+pub mod AdmissionLaws
