@@ -16,10 +16,10 @@ use Rattle.tables.specs.Patch.{gain, loss, sumOf, fits, added, allFit}
 use Rattle.tables.specs.Tables.{Held, noTable, ready, settled}
 use Rattle.tables.specs.Updates.{lengthIn, infinityIn, bitsIn, numbersIn, isPatch, isLast, inRange, updateAnswer, updated, resetBy, movedOn, patchBy, brokenBy}
 use Rattle.protocol.specs.Outcomes.{Outcome, unsent}
-use Rattle.protocol.specs.Runs.{Call, Open, Close, Message, Ask, Made}
-use Rattle.protocol.specs.Expected.{Expected, wiped, opens, closes, brings, asks, brought, isUpdateOf, feed, expected}
-use Rattle.protocol.specs.History.{Update, noted, updatesOf, accepted, isReset, signed, carried, underWay, wholeRuns, total, sumAt, beforeRun, insideRun, spoiled, speaks}
-use Rattle.protocol.specs.Demand3.{Agrees, AllAgree}
+use Rattle.protocol.specs.Runs.{Call, Open, Close, Message, Ask}
+use Rattle.protocol.specs.Expected.{Expected, wiped, opens, closes, brings, asks, brought, isUpdateOf, feed}
+use Rattle.protocol.specs.History.{Update, noted, accepted, isReset, signed, carried, underWay, wholeRuns, total, sumAt, beforeRun, insideRun, spoiled, speaks}
+use Rattle.protocol.specs.Demand3.{Agrees}
 use Rattle.protocol.proofs.Updates.{Patches, by-update, patched-length}
 
 -- a raw number is its gain less its loss, and adding it to an entry is the sum of the two where that does not fall below 0
@@ -97,7 +97,7 @@ pub record Accounts (h : Held) (us : List Update) : Type 0 where
 abbrev pub noHeld : Held
 noHeld = record { table = noTable; entries = [] }
 
-nothing-yet : Accounts noHeld []
+pub nothing-yet : Accounts noHeld []
 nothing-yet = record { patchable = refl; speaking = refl; reached = λ _. refl; totals = λ j h. absurd (omega arith) }
 
 abbrev update : List ℕ → ℕ → Update
@@ -199,7 +199,7 @@ module _ (L room : ℕ) (o : Outcome) (e : Expected) (us : List Update) (q : Acc
       go true = nothing-yet
       go false = q
 
-  account-call : (c : Call) → Agrees L room e c o → Accounts (feed L room (brought c) (unsent (o .answer)) e .held) (noted L c (o .answer) us)
+  pub account-call : (c : Call) → Agrees L room e us c o → Accounts (feed L room (brought c) (unsent (o .answer)) e .held) (noted L c (o .answer) us)
   unfolding feed
   account-call (Open l) h = go (unsent (o .answer)) refl
     where
@@ -226,8 +226,3 @@ module _ (L room : ℕ) (o : Outcome) (e : Expected) (us : List Update) (q : Acc
       go : (b : Bool) → Accounts (feed L room asks b e .held) us
       go true = q
       go false = q
-
--- the whole log
-pub account : (L room : ℕ) (log : List Made) → AllAgree L room log → Accounts (expected L room log .held) (updatesOf L log)
-account L room [] a = nothing-yet
-account L room (d ∷ ds) a = account-call L room (d .outcome) (expected L room ds) (updatesOf L ds) (account L room ds (a .1)) (d .call) (a .0)

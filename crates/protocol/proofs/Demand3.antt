@@ -1,12 +1,12 @@
 -- Demand 3, proved: the invariant holds at the start, each call keeps it, and so does every list of calls.
 -- Assumes nothing.
-use Prim.Native.Nat.{ℕ, _*_, _/_, _≤_, _<_, zero-le}
+use Prim.Native.Nat.{ℕ, _-_, _*_, _/_, _≤_, _<_, zero-le}
 use native.Mathlib.Omega.{arith}
 use native.Mathlib.Nat.{mul-le-mul-right}
 use mathlib.Core.Path.{_≡_, refl, sym, ap, ap₂, _∙_, subst}
 use mathlib.Core.Bool.{Bool, true, false, cond, not, _&&_, and-false}
 use mathlib.Core.Logic.{_↔_}
-use mathlib.Core.List.{List, [], _∷_}
+use mathlib.Core.List.{List, [], _∷_, _++_}
 use lib.Dec.{eqb, leb}
 use lib.ListN.{length, getD, take, drop, set, length-set, length-take}
 use lib.Seq.{take-take}
@@ -27,25 +27,25 @@ use Rattle.protocol.specs.Memory.{remember}
 use Rattle.protocol.specs.Lines.{emptyLine, nowhere, lineAt, withLine, withTable, pingedAt, withPong, partOf, heldAt}
 use Rattle.protocol.specs.Order.{inOrder}
 use Rattle.protocol.specs.Outcomes.{Outcome, quiet, unsent}
-use Rattle.protocol.specs.Queries.{usualLimit, queryType, passes, goesOn, queryRules, queryTaken, queryOutcome, ownTaken, lifeOf}
+use Rattle.protocol.specs.Queries.{usualLimit, queryType, textIn, passes, goesOn, queryRules, queryTaken, queryOutcome, ownTaken, lifeOf}
 use Rattle.protocol.specs.Hits.{hitType, hitRules, hitFound, hitTaken, hitOutcome}
 use Rattle.protocol.specs.Pings.{pingType, pongType, isProbe, pingRules, pingTaken, pingOutcome, pongRules, arrivedPong, pongOutcome}
 use Rattle.protocol.specs.Calls.{openingRules, opening, closedState, closingRules, closing, early, updateOutcome, byType, arriving, ownRules, asking, messageOutcome, ownOutcome}
 use Rattle.protocol.specs.Runs.{Area, Same, Other, Call, Open, Close, Message, Ask, World, lent, keptArea, outcomeOf, areaAfter, step, run, start, FairArea, FairCall, Fair}
 use Rattle.protocol.specs.Expected.{Expected, wiped, brings, asks, brought, isUpdateOf, expectedAnswer, hears, feed, expected}
 use Rattle.protocol.specs.History.{Update, updatesOf, sumAt}
-use Rattle.protocol.specs.Demand3.{GoesTo, Agrees, AllAgree, entriesAt, Stands, Demand3}
+use Rattle.protocol.specs.Demand3.{lifeLeft, MayGo, Forwarded, Agrees, entriesAt, Stands, Demand3}
 use Rattle.protocol.proofs.Updates.{Sound, sound-updated, updated-within, update-sent}
-use Rattle.protocol.proofs.Account.{Accounts, noHeld, account}
-use Rattle.protocol.proofs.Forwarding.{goes-iff, own-goes-iff}
+use Rattle.protocol.proofs.Account.{Accounts, noHeld, nothing-yet, account-call}
+use Rattle.protocol.proofs.Forwarding.{goes-iff, own-goes-iff, forwarded}
 use Rattle.protocol.proofs.Outcomes.{other-type, of-pick, of-refused, eachLine-at, all-unsent, none-unsent, LetIn, let-in, early-unsent, asked-in}
 use Rattle.protocol.proofs.InOrder.{closed-mark}
 use Rattle.protocol.proofs.Matching.{Matches, LeftAlone, left-alone, untouched, line-set, other-line, same-line}
 
 -- what a call has to leave where e was expected before it
-abbrev pub Good : ℕ → ℕ → Call → Expected → List ℕ → Outcome → Type 0
-Good L room c e area o =
-    Matches L room (feed L room (brought c) (unsent (o .answer)) e) (o .state) (areaAfter c area (o .route)) × Agrees L room e c o
+abbrev Good : ℕ → ℕ → Call → Expected → List Update → List ℕ → Outcome → Type 0
+Good L room c e us area o =
+    Matches L room (feed L room (brought c) (unsent (o .answer)) e) (o .state) (areaAfter c area (o .route)) × Agrees L room e us c o
 
 feed-unsent : (L room : ℕ) (c : Call) (n : ℕ) (e : Expected) → unsent n ≡ true → feed L room (brought c) (unsent n) e ≡ e
 unfolding feed
@@ -71,7 +71,8 @@ read-as {P = P} e f = subst (λ (x : Bool). (x ≡ true) ↔ P) (sym e) f
 not-update : (L l : ℕ) (m : List ℕ) → eqb (kindOf m) routeUpdate ≡ false → isUpdateOf L l m ≡ false
 not-update L l m k = ap (λ b. eqb l L && b) k ∙ and-false (eqb l L)
 
-module _ (L room : ℕ) (seven : L ≤ 7) (e : Expected) (s : Station) (area : List ℕ) (q : Matches L room e s area) where
+module _ (L room : ℕ) (seven : L ≤ 7) (e : Expected) (us : List Update) (t : Accounts (e .held) us)
+    (s : Station) (area : List ℕ) (q : Matches L room e s area) where
   below : L < length (s .lines)
   below = omega (arith, q .eight)
 
@@ -86,10 +87,12 @@ module _ (L room : ℕ) (seven : L ≤ 7) (e : Expected) (s : Station) (area : L
   -- a message that is no update of line L and leaves it alone
   module _ (l clock : ℕ) (own : Own) (m : List ℕ) (out : ℕ) where
     abbrev Goods : Outcome → Type 0
-    Goods o = Good L room (Message l clock own m out Same) e area o
+    Goods o = Good L room (Message l clock own m out Same) e us area o
 
     aside : (o : Outcome) → unsent (o .answer) ≡ false → isUpdateOf L l m ≡ false → LeftAlone L s area (o .state) (o .route)
-        → (o .answer ≡ 0 → kindOf m ≡ 0x80 → ((getD (o .to) L false ≡ true) ↔ GoesTo e L l m)) → Goods o
+        → (o .answer ≡ 0 → kindOf m ≡ 0x80
+        → Forwarded e us (MayGo e L l m) (textIn (payloadOf m)) (lifeLeft m - 1) (getD (o .to) L false))
+        → Goods o
     aside o u v w g = (
       subst (λ (x : Expected). Matches L room x (o .state) (o .route)) (sym (feed-message L room l m (o .answer) e false u v)) (left-alone q w),
       ((λ _ y. absurd (clash y v)), g),
@@ -137,7 +140,8 @@ module _ (L room : ℕ) (seven : L ≤ 7) (e : Expected) (s : Station) (area : L
         let v : isUpdateOf L l m ≡ false = not-update L l m (other-type m queryType routeUpdate k refl) in
         of-refused Goods (firstOf (queryRules usualLimit s m)) s area (queryTaken usualLimit s l m area)
         (λ _. aside (queryTaken usualLimit s l m area) refl v (record { room = refl; count = refl; live = refl; table = refl; part = refl })
-        (λ _ _. read-as (eachLine-at (λ k. goesOn usualLimit l k (lineAt s k .live) (heldAt s k area) m) L seven ∙ goes-same) (goes-iff room e (q .sound) L l m)))
+        (λ _ _. forwarded room e (q .sound) us (t .speaking) (MayGo e L l m) (textIn (payloadOf m)) (lifeLeft m - 1) _
+        (read-as (eachLine-at (λ k. goesOn usualLimit l k (lineAt s k .live) (heldAt s k area) m) L seven ∙ goes-same) (goes-iff room e (q .sound) L l m))))
         (λ n. refused-aside (firstOf (queryRules usualLimit s m)) (none-unsent (queryRules usualLimit s m) refl) v n)
 
     unknown-good : eqb (kindOf m) routeUpdate ≡ false → Goods (quiet 7 s area)
@@ -190,7 +194,7 @@ module _ (L room : ℕ) (seven : L ≤ 7) (e : Expected) (s : Station) (area : L
         ∙ over-read (L * s .room) (then′ .entries) area (omega arith) in
         ap (λ (x : Table). heldIn x (partOf (s .room) L (over (L * s .room) (then′ .entries) area))) t ∙ (λ i. record { table = then′ .table; entries = g i })
 
-    own-update : Good L room (Message L clock own m out Same) e area (updateOutcome s L m area)
+    own-update : Good L room (Message L clock own m out Same) e us area (updateOutcome s L m area)
     unfolding updateOutcome
     own-update =
         let u : isUpdateOf L L m ≡ true = ap₂ (λ a b. a && b) (eq-eqb L L refl) k in
@@ -211,43 +215,43 @@ module _ (L room : ℕ) (seven : L ≤ 7) (e : Expected) (s : Station) (area : L
         )
 
   update-good : (l clock : ℕ) (own : Own) (m : List ℕ) (out : ℕ) → LetIn s l m (length area) → eqb (kindOf m) routeUpdate ≡ true
-      → Good L room (Message l clock own m out Same) e area (updateOutcome s l m area)
+      → Good L room (Message l clock own m out Same) e us area (updateOutcome s l m area)
   update-good l clock own m out d k = go (eqb l L) refl
     where
-      go : (b : Bool) → eqb l L ≡ b → Good L room (Message l clock own m out Same) e area (updateOutcome s l m area)
+      go : (b : Bool) → eqb l L ≡ b → Good L room (Message l clock own m out Same) e us area (updateOutcome s l m area)
       go true z =
-          subst (λ (x : ℕ). lineAt s x .live ≡ true → Good L room (Message x clock own m out Same) e area (updateOutcome s x m area)) (sym (eqb-true l L z))
+          subst (λ (x : ℕ). lineAt s x .live ≡ true → Good L room (Message x clock own m out Same) e us area (updateOutcome s x m area)) (sym (eqb-true l L z))
           (λ o. own-update clock own m out o (d .room) k) (d .live)
       go false z = other-update l clock own m out (d .line) (d .room) (λ y. eqb-false l L z (sym y)) k
 
   -- an arriving message
   types-good : (l clock : ℕ) (own : Own) (m : List ℕ) (out : ℕ) → LetIn s l m (length area)
-      → Good L room (Message l clock own m out Same) e area (byType usualLimit s l clock own m area)
+      → Good L room (Message l clock own m out Same) e us area (byType usualLimit s l clock own m area)
   unfolding byType
   types-good l clock own m out d =
-      of-pick (λ o. Good L room (Message l clock own m out Same) e area o) (eqb (kindOf m) pingType) _ _
+      of-pick (λ o. Good L room (Message l clock own m out Same) e us area o) (eqb (kindOf m) pingType) _ _
       (λ k. ping-good l clock own m out k)
-      (λ _. of-pick (λ o. Good L room (Message l clock own m out Same) e area o) (eqb (kindOf m) pongType) _ _
+      (λ _. of-pick (λ o. Good L room (Message l clock own m out Same) e us area o) (eqb (kindOf m) pongType) _ _
       (λ k. pong-good l clock own m out k)
-      (λ _. of-pick (λ o. Good L room (Message l clock own m out Same) e area o) (eqb (kindOf m) routeUpdate) _ _
+      (λ _. of-pick (λ o. Good L room (Message l clock own m out Same) e us area o) (eqb (kindOf m) routeUpdate) _ _
       (λ k. update-good l clock own m out d k)
-      (λ u. of-pick (λ o. Good L room (Message l clock own m out Same) e area o) (eqb (kindOf m) queryType) _ _
+      (λ u. of-pick (λ o. Good L room (Message l clock own m out Same) e us area o) (eqb (kindOf m) queryType) _ _
       (λ k. query-good l clock own m out k)
-      (λ _. of-pick (λ o. Good L room (Message l clock own m out Same) e area o) (eqb (kindOf m) hitType) _ _
+      (λ _. of-pick (λ o. Good L room (Message l clock own m out Same) e us area o) (eqb (kindOf m) hitType) _ _
       (λ k. hit-good l clock own m out k)
       (λ _. unknown-good l clock own m out u)))))
 
   -- an area of another room is refused
   passed-good : (l clock : ℕ) (own : Own) (m : List ℕ) (out : ℕ) (a : Area) → FairArea room a → early s l m out (length (lent a area)) ≡ 0
-      → Good L room (Message l clock own m out a) e area (byType usualLimit s l clock own m (lent a area))
+      → Good L room (Message l clock own m out a) e us area (byType usualLimit s l clock own m (lent a area))
   passed-good l clock own m out Same f z = types-good l clock own m out (let-in s l m out (length area) z)
   passed-good l clock own m out (Other x) f z = absurd (f (let-in s l m out (length x) z .room ∙ q .sameRoom))
 
   message-good : (l clock : ℕ) (own : Own) (m : List ℕ) (out : ℕ) (a : Area) → FairArea room a
-      → Good L room (Message l clock own m out a) e area (messageOutcome s l clock own m out (lent a area))
+      → Good L room (Message l clock own m out a) e us area (messageOutcome s l clock own m out (lent a area))
   unfolding arriving
   message-good l clock own m out a f =
-      of-refused (λ o. Good L room (Message l clock own m out a) e area o) (early s l m out (length (lent a area))) s (lent a area) (byType usualLimit s l clock own m (lent a area))
+      of-refused (λ o. Good L room (Message l clock own m out a) e us area o) (early s l m out (length (lent a area))) s (lent a area) (byType usualLimit s l clock own m (lent a area))
       (λ z. passed-good l clock own m out a f z)
       (λ n. let u : unsent (early s l m out (length (lent a area))) ≡ true = early-unsent s l m out (length (lent a area)) n in (
         rw (feed-unsent L room (Message l clock own m out a) (early s l m out (length (lent a area))) e u, kept-lent a area) q,
@@ -259,18 +263,19 @@ module _ (L room : ℕ) (seven : L ≤ 7) (e : Expected) (s : Station) (area : L
   own-same text = read-same (λ b h. passes b h text usualLimit) (λ h. refl)
 
   asked-good : (number text : List ℕ) (out : ℕ) (a : Area) → FairArea room a → firstOf (ownRules s number text out (length (lent a area))) ≡ 0
-      → Good L room (Ask number text out a) e area (ownTaken usualLimit s number text (lent a area))
+      → Good L room (Ask number text out a) e us area (ownTaken usualLimit s number text (lent a area))
   unfolding remember
   asked-good number text out Same f z = (
     rw (feed-ask L room false e) (left-alone q (record { room = refl; count = refl; live = refl; table = refl; part = refl })),
-    (λ _. read-as (eachLine-at (λ k. passes (lineAt s k .live) (heldAt s k area) text usualLimit) L seven ∙ own-same text) (own-goes-iff room e (q .sound) text)),
+    (λ _. forwarded room e (q .sound) us (t .speaking) (e .live ≡ true) text 7 _
+        (read-as (eachLine-at (λ k. passes (lineAt s k .live) (heldAt s k area) text usualLimit) L seven ∙ own-same text) (own-goes-iff room e (q .sound) text))),
   )
   asked-good number text out (Other x) f z = absurd (f (asked-in s number text out (length x) z .room ∙ q .sameRoom))
 
-  ask-good : (number text : List ℕ) (out : ℕ) (a : Area) → FairArea room a → Good L room (Ask number text out a) e area (ownOutcome s number text out (lent a area))
+  ask-good : (number text : List ℕ) (out : ℕ) (a : Area) → FairArea room a → Good L room (Ask number text out a) e us area (ownOutcome s number text out (lent a area))
   unfolding asking
   ask-good number text out a f =
-      of-refused (λ o. Good L room (Ask number text out a) e area o) (firstOf (ownRules s number text out (length (lent a area)))) s (lent a area) (ownTaken usualLimit s number text (lent a area))
+      of-refused (λ o. Good L room (Ask number text out a) e us area o) (firstOf (ownRules s number text out (length (lent a area)))) s (lent a area) (ownTaken usualLimit s number text (lent a area))
       (λ z. asked-good number text out a f z)
       (λ n. (rw (feed-ask L room (unsent (firstOf (ownRules s number text out (length (lent a area))))) e, kept-lent a area) q, (λ z. absurd (n z))))
 
@@ -296,52 +301,66 @@ module _ (L room : ℕ) (seven : L ≤ 7) (e : Expected) (s : Station) (area : L
       (λ y. anew s′ live r (z ∙ ap (λ k. set (s .lines) k (emptyLine live)) (eqb-true l L y)))
       (λ y. left-alone q (other-line L s s′ area l (emptyLine live) r z area refl (λ w. eqb-false l L y (sym w))))
 
-  opening-good : (l : ℕ) → Good L room (Open l) e area (opening s l)
+  opening-good : (l : ℕ) → Good L room (Open l) e us area (opening s l)
   unfolding opening feed
   opening-good l =
-      of-refused (λ o. Good L room (Open l) e area o) (firstOf (openingRules s l)) s [] (quiet 0 (withLine s l (emptyLine true)) [])
+      of-refused (λ o. Good L room (Open l) e us area o) (firstOf (openingRules s l)) s [] (quiet 0 (withLine s l (emptyLine true)) [])
       (λ _. (turned (withLine s l (emptyLine true)) l true refl refl, (λ _. refl)))
       (λ n. let u = all-unsent (openingRules s l) refl n in (rw (feed-unsent L room (Open l) (firstOf (openingRules s l)) e u) q, (λ v. absurd (clash u v))))
 
-  closing-good : (l : ℕ) → Good L room (Close l) e area (closing s l)
+  closing-good : (l : ℕ) → Good L room (Close l) e us area (closing s l)
   unfolding closing feed
   closing-good l =
-      of-refused (λ o. Good L room (Close l) e area o) (firstOf (closingRules s l)) s [] (quiet 0 (closedState s l) [])
+      of-refused (λ o. Good L room (Close l) e us area o) (firstOf (closingRules s l)) s [] (quiet 0 (closedState s l) [])
       (λ _. (turned (closedState s l) l false refl refl, (λ _. refl)))
       (λ n. let u = all-unsent (closingRules s l) refl n in (rw (feed-unsent L room (Close l) (firstOf (closingRules s l)) e u) q, (λ v. absurd (clash u v))))
 
--- every call, and every list
-module _ (L room : ℕ) (seven : L ≤ 7) where
-  pub call-good : (c : Call) (e : Expected) (w : World) → Matches L room e (w .state) (w .area) → FairCall room c → Good L room c e (w .area) (outcomeOf w c)
-  call-good (Open l) e w q f = opening-good L room seven e (w .state) (w .area) q l
-  call-good (Close l) e w q f = closing-good L room seven e (w .state) (w .area) q l
-  call-good (Message l clock own m out a) e w q f = message-good L room seven e (w .state) (w .area) q l clock own m out a f
-  call-good (Ask number text out a) e w q f = ask-good L room seven e (w .state) (w .area) q number text out a f
+-- every call
+module _ (L room : ℕ) (seven : L ≤ 7) (e : Expected) (us : List Update) (t : Accounts (e .held) us)
+    (w : World) (q : Matches L room e (w .state) (w .area)) where
+  call-good : (c : Call) → FairCall room c → Good L room c e us (w .area) (outcomeOf w c)
+  call-good (Open l) f = opening-good L room seven e us t (w .state) (w .area) q l
+  call-good (Close l) f = closing-good L room seven e us t (w .state) (w .area) q l
+  call-good (Message l clock own m out a) f = message-good L room seven e us t (w .state) (w .area) q l clock own m out a f
+  call-good (Ask number text out a) f = ask-good L room seven e us t (w .state) (w .area) q number text out a f
 
-  pub list-good : (cs : List Call) (w : World) → Fair room cs → AllAgree L room (w .log) → Matches L room (expected L room (w .log)) (w .state) (w .area)
-      → AllAgree L room (run w cs .log) × Matches L room (expected L room (run w cs .log)) (run w cs .state) (run w cs .area)
-  list-good [] w f a q = (a, q)
-  list-good (c ∷ cs) w f a q =
-      let g = call-good c (expected L room (w .log)) w q (f .0) in
-      list-good cs (step w c) (f .1) (g .1, a) (g .0)
+-- what is known of line L at a place of a list: the invariant, and what its updates come to
+record Known (L room : ℕ) (w : World) : Type 0 where
+  matches : Matches L room (expected L room (w .log)) (w .state) (w .area)
+  accounts : Accounts (expected L room (w .log) .held) (updatesOf L (w .log))
+
+-- and so every list
+module _ (L room : ℕ) (seven : L ≤ 7) where
+  known-good : (w : World) → Known L room w → (c : Call) → FairCall room c
+      → Good L room c (expected L room (w .log)) (updatesOf L (w .log)) (w .area) (outcomeOf w c)
+  known-good w k = call-good L room seven (expected L room (w .log)) (updatesOf L (w .log)) (k .accounts) w (k .matches)
+
+  known-on : (cs : List Call) (w : World) → Known L room w → Fair room cs → Known L room (run w cs)
+  known-on [] w k f = k
+  known-on (c ∷ cs) w k f =
+      let g = known-good w k c (f .0) in
+      let t = account-call L room (outcomeOf w c) (expected L room (w .log)) (updatesOf L (w .log)) (k .accounts) c (g .1) in
+      known-on cs (step w c) (record { matches = g .0; accounts = t }) (f .1)
 
 -- what stands, from the invariant and the account
 module _ (L room : ℕ) (e : Expected) (us : List Update) (s : Station) (area : List ℕ) (q : Matches L room e s area) (t : Accounts (e .held) us) where
-  stands : Stands L e us s area
+  stands : Stands L room e us s area
   stands = go (lineAt s L .live) refl
     where
-      go : (b : Bool) → lineAt s L .live ≡ b → Stands L e us s area
+      go : (b : Bool) → lineAt s L .live ≡ b → Stands L room e us s area
       go true o =
           let h : e .held ≡ heldAt s L area = q .whileOpen o in
           let long : lineAt s L .table .length ≤ s .room = rw (ap (λ (x : Held). x .table .length) h, ← q .sameRoom) at (q .sound .within) in
           let same : entriesAt s L area ≡ e .held .entries
           = sym (take-take (lineAt s L .table .length) (s .room) (drop (L * s .room) area) long) ∙ sym (ap (λ (x : Held). x .entries) h) in
           record {
+            room′ = q .sameRoom;
             live = sym (q .live);
             mark = sym (ap (λ (x : Held). x .table .mark) h);
             long = λ _. sym (q .sound .full ∙ ap (λ (x : Held). x .table .length) h);
             infinity = λ _. sym (ap (λ (x : Held). x .table .infinity) h);
             entries = λ _. same;
+            closed = λ z. absurd (clash (q .live ∙ o) z);
             sums = λ j l.
                 ap (λ es. pos (getD es j 0)) same
                 ∙ t .totals j l
@@ -353,17 +372,19 @@ module _ (L room : ℕ) (e : Expected) (us : List Update) (s : Station) (area : 
           let n : length (e .held .entries) ≡ 0 = ap (λ (x : Held). length (x .entries)) h in
           let m : lineAt s L .table .mark ≡ e .held .table .mark = q .whileClosed o .1 ∙ sym (ap (λ (x : Held). x .table .mark) h) in
           record {
+            room′ = q .sameRoom;
             live = sym (q .live);
             mark = m;
-            long = λ p. absurd (omega arith);
-            infinity = λ p. absurd (omega arith);
-            entries = λ p. absurd (omega arith);
+            long = λ z. absurd (clash z (q .live ∙ o));
+            infinity = λ z. absurd (clash z (q .live ∙ o));
+            entries = λ z. absurd (clash z (q .live ∙ o));
+            closed = λ _. ap (λ (x : Held). x .entries) h;
             sums = λ j p. absurd (omega arith);
             speaking = ap (λ k. eqb k settled) m ∙ t .speaking;
           }
 
 -- the invariant holds at the start: the line is closed
-pub begins : (s : Station) (area : List ℕ) (L : ℕ) → length (s .lines) ≡ 8 → inOrder s ≡ true → L ≤ 7 → lineAt s L .live ≡ false
+begins : (s : Station) (area : List ℕ) (L : ℕ) → length (s .lines) ≡ 8 → inOrder s ≡ true → L ≤ 7 → lineAt s L .live ≡ false
     → Matches L (s .room) (wiped false) s area
 begins s area L eight order seven closed =
     record {
@@ -375,12 +396,28 @@ begins s area L eight order seven closed =
       sound = record { full = refl; within = zero-le; good = refl };
     }
 
+-- a part of a fair list is fair
+pub fair-parts : (room : ℕ) (bs ds : List Call) → Fair room (bs ++ ds) → Fair room bs × Fair room ds
+fair-parts room [] ds f = (tt, f)
+fair-parts room (c ∷ bs) ds f = let p = fair-parts room bs ds (f .1) in ((f .0, p .0), p .1)
+
 pub demand3 : Demand3
 demand3 s area L cs eight order seven closed fair =
-    let w : World = run (start s area) cs in
-    let g = list-good L (s .room) seven cs (start s area) fair tt (begins s area L eight order seven closed) in
     record {
-      room′ = g .1 .sameRoom;
-      calls = g .0;
-      stands = stands L (s .room) (expected L (s .room) (w .log)) (updatesOf L (w .log)) (w .state) (w .area) (g .1) (account L (s .room) (w .log) (g .0));
+      stands = λ before after e.
+          let w : World = run (start s area) before in
+          let k = known before after e in
+          stands L (s .room) (expected L (s .room) (w .log)) (updatesOf L (w .log)) (w .state) (w .area) (k .matches) (k .accounts);
+      calls = λ before c after e.
+          let w : World = run (start s area) before in
+          known-good L (s .room) seven w (known before (c ∷ after) e) c (parts before (c ∷ after) e .1 .0) .1;
     }
+  where
+    parts : (before after : List Call) → cs ≡ before ++ after → Fair (s .room) before × Fair (s .room) after
+    parts before after e = fair-parts (s .room) before after (subst (λ (x : List Call). Fair (s .room) x) e fair)
+
+    known : (before after : List Call) → cs ≡ before ++ after → Known L (s .room) (run (start s area) before)
+    known before after e =
+        known-on L (s .room) seven before (start s area)
+        (record { matches = begins s area L eight order seven closed; accounts = nothing-yet })
+        (parts before after e .0)

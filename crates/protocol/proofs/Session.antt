@@ -90,7 +90,7 @@ unfolding own first second reset everyMark marked update keptPlaces message keyw
 mark-answers = refl
 
 -- the premises of demand 3 can be met: this list, its line, this area
-session-claimed : Claimed 1 4 marked
+session-claimed : Claimed (fresh 32 .state) (replicate 32 0) 1 everyMark
 unfolding own first second reset everyMark marked fresh
 session-claimed =
     demand3 (fresh 32 .state) (replicate 32 0) 1 everyMark refl (fresh-in-order 32 .order) (omega arith) refl

@@ -1,10 +1,25 @@
--- Demand 3, one claim about a list of calls: a spoiled keyword update never hides a neighbour. The answers of its updates, what stands of the
--- line at the end, and the lines that each query goes on to, all read with the expected table (document 01's slate).
-use Prim.Native.Nat.{ℕ, zero, suc, _+_, _-_, _*_, _/_, _≤_, _<_, min}
+-- Demand 3, one claim about a list of calls: a spoiled keyword update never hides a neighbour.
+-- `Demand3` takes every list of openings, closings, arriving messages and own queries, refused ones included, from any
+-- state in order with line L closed, over any route area. `Claimed` speaks of each place of that list, its end among them.
+-- What is expected of a line, document 01's slate, is specs/Expected; the updates of its opening are specs/History.
+-- The sentences of the demand, in our words, and what carries each:
+--   a call gets the state that the last one left .. the area as it was left or one of another room: Runs `run`, `Fair`
+--   the updates of L are answered as expected: `Agrees`, the first part for a message
+--   those refused by 1 to 5 count as unsent: Expected `fed`, History `noted`
+--   its table stands as expected, the mark, and length, Infinity and entries while there are any: `Stands`, live to closed
+--   each entry is Infinity plus the sum of its numbers accepted since the last accepted RESET: `Stands`, sums
+--   a query answered 0 goes on to L exactly if the rules of queries, read with what is expected, say so: `Forwarded`, exactly
+--   no query that goes on is withheld before any accepted RESET of the opening: `Forwarded`, noReset
+--   nor before a first finished run since the last accepted RESET: `Forwarded`, noRun
+--   nor inside a later run: `Forwarded`, midRun
+--   nor from an update refused by 14, 15 or 16 to the next accepted RESET: `Forwarded`, afterRefusal
+--   otherwise one is withheld exactly if some keyword's entry is Infinity or exceeds the TTL to be sent: `Forwarded`, otherwise
+--   and the mark is settled exactly outside those four periods: `Stands`, speaking
+use Prim.Native.Nat.{ℕ, zero, suc, _-_, _*_, _/_, _≤_, _<_, min}
 use mathlib.Core.Path.{_≡_}
 use mathlib.Core.Bool.{Bool, true, false, cond}
 use mathlib.Core.Logic.{_↔_, _⊎_}
-use mathlib.Core.List.{List, [], _∷_, List·Memᴰ}
+use mathlib.Core.List.{List, [], _∷_, _++_, List·Memᴰ}
 use lib.Dec.{eqb, leb}
 use lib.IntN.{pos, _+ℤ_}
 use lib.ListN.{length, getD, take, drop}
@@ -17,9 +32,9 @@ use Rattle.protocol.specs.Lines.{lineAt}
 use Rattle.protocol.specs.Order.{inOrder}
 use Rattle.protocol.specs.Outcomes.{Outcome, unsent}
 use Rattle.protocol.specs.Queries.{textIn}
-use Rattle.protocol.specs.Runs.{Call, Open, Close, Message, Ask, Made, World, run, start, Fair}
+use Rattle.protocol.specs.Runs.{Call, Open, Close, Message, Ask, World, outcomeOf, run, start, Fair}
 use Rattle.protocol.specs.Expected.{Expected, expected, expectedAnswer, isUpdateOf}
-use Rattle.protocol.specs.History.{Update, updatesOf, speaks, sumAt}
+use Rattle.protocol.specs.History.{Update, updatesOf, sumAt, beforeReset, beforeRun, insideRun, spoiled, speaks}
 
 -- b where n is 2 to the power b: how often n can be halved
 abbrev pub halvings : ℕ → ℕ → ℕ
@@ -29,65 +44,86 @@ halvings (suc f) n = cond (leb n 1) 0 (suc (halvings f (n / 2)))
 abbrev pub bitsOf : ℕ → ℕ
 bitsOf n = halvings 32 n
 
--- the entry of a keyword
-abbrev pub entryFor : Expected → List ℕ → ℕ
-entryFor e k = getD (e .held .entries) (placeOf (bitsOf (length (e .held .entries))) k) 0
+-- the entry of a keyword, in a table of n entries
+abbrev pub entryIn : List ℕ → (n : ℕ) → List ℕ → ℕ
+entryIn es n k = getD es (placeOf (bitsOf n) k) 0
 
--- a text to be sent with this TTL is withheld: settled, and some keyword's entry is Infinity or exceeds the TTL
+-- some keyword's entry is Infinity or exceeds the TTL to be sent
+abbrev pub Stops : List ℕ → (n infinity : ℕ) → List ℕ → ℕ → Type 0
+Stops es n infinity text ttl =
+    (k : List ℕ) × List·Memᴰ k (keywordsOf text) × ((entryIn es n k ≡ infinity) ⊎ (ttl < entryIn es n k))
+
+-- of what is expected
+abbrev pub Stopped : Expected → List ℕ → ℕ → Type 0
+Stopped e = Stops (e .held .entries) (length (e .held .entries)) (e .held .table .infinity)
+
+-- a text to be sent with this TTL is withheld by what is expected
 abbrev pub Withheld : Expected → List ℕ → ℕ → Type 0
-Withheld e text ttl =
-    (e .held .table .mark ≡ settled)
-    × ((k : List ℕ) × List·Memᴰ k (keywordsOf text) × ((entryFor e k ≡ e .held .table .infinity) ⊎ (ttl < entryFor e k)))
+Withheld e text ttl = (e .held .table .mark ≡ settled) × Stopped e text ttl
 
--- an arriving query, which came by line l, goes on to line L
-abbrev pub GoesTo : Expected → (L l : ℕ) → List ℕ → Type 0
-GoesTo e L l m =
-    (e .live ≡ true)
-    × (L ≡ l → ⊥)
-    × (2 ≤ min (ttlOf m) (7 - hopsOf m))
-    × (Withheld e (textIn (payloadOf m)) (min (ttlOf m) (7 - hopsOf m) - 1) → ⊥)
+-- document 01's life of a query
+abbrev pub lifeLeft : List ℕ → ℕ
+lifeLeft m = min (ttlOf m) (7 - hopsOf m)
 
--- an own query does
-abbrev pub OwnGoesTo : Expected → List ℕ → Type 0
-OwnGoesTo e text = (e .live ≡ true) × (Withheld e text 7 → ⊥)
+-- an arriving query, which came by line l, goes on to line L but for its table: that line is open, it is another one,
+-- and life is 2 or more
+abbrev pub MayGo : Expected → (L l : ℕ) → List ℕ → Type 0
+MayGo e L l m = (e .live ≡ true) × (L ≡ l → ⊥) × (2 ≤ lifeLeft m)
 
--- a call and its outcome, read with what was expected before it
-abbrev pub Agrees : (L room : ℕ) → Expected → Call → Outcome → Type 0
-Agrees L room e (Open l) o = unsent (o .answer) ≡ false → o .answer ≡ 0
-Agrees L room e (Close l) o = unsent (o .answer) ≡ false → o .answer ≡ 0
-Agrees L room e (Message l clock own m out a) o =
+-- a query answered 0, with its text and the TTL to be sent. `may` says that it goes on to the line but for the line's
+-- table, and `sent` whether it was sent there. Before it e was expected of the line, and us are the updates of the
+-- line's opening until then
+pub record Forwarded (e : Expected) (us : List Update) (may : Type 0) (text : List ℕ) (ttl : ℕ) (sent : Bool) : Type 0 where
+  pub exactly : (sent ≡ true) ↔ (may × (Withheld e text ttl → ⊥))
+  pub noReset : beforeReset us ≡ true → may → sent ≡ true
+  pub noRun : beforeRun us ≡ true → may → sent ≡ true
+  pub midRun : insideRun us ≡ true → may → sent ≡ true
+  pub afterRefusal : spoiled us ≡ true → may → sent ≡ true
+  pub otherwise : speaks us ≡ true → may → (sent ≡ false) ↔ Stopped e text ttl
+
+-- a call and its outcome, read with what was expected before it and the updates until then. An opening or closing that
+-- is not unsent is done
+abbrev pub Agrees : (L room : ℕ) → Expected → List Update → Call → Outcome → Type 0
+Agrees L room e us (Open l) o = unsent (o .answer) ≡ false → o .answer ≡ 0
+Agrees L room e us (Close l) o = unsent (o .answer) ≡ false → o .answer ≡ 0
+Agrees L room e us (Message l clock own m out a) o =
     (unsent (o .answer) ≡ false → isUpdateOf L l m ≡ true → o .answer ≡ expectedAnswer room e m)
-    × (o .answer ≡ 0 → kindOf m ≡ 0x80 → ((getD (o .to) L false ≡ true) ↔ GoesTo e L l m))
-Agrees L room e (Ask n text out a) o = o .answer ≡ 0 → ((getD (o .to) L false ≡ true) ↔ OwnGoesTo e text)
-
--- every call of the log
-abbrev pub AllAgree : (L room : ℕ) → List Made → Type 0
-AllAgree L room [] = Unit {0}
-AllAgree L room (d ∷ ds) = Agrees L room (expected L room ds) (d .call) (d .outcome) × AllAgree L room ds
+    × (o .answer ≡ 0 → kindOf m ≡ 0x80
+    → Forwarded e us (MayGo e L l m) (textIn (payloadOf m)) (lifeLeft m - 1) (getD (o .to) L false))
+Agrees L room e us (Ask n text out a) o = o .answer ≡ 0 → Forwarded e us (e .live ≡ true) text 7 (getD (o .to) L false)
 
 -- the entries of a line in an area
 abbrev pub entriesAt : Station → ℕ → List ℕ → List ℕ
 entriesAt s l area = take (lineAt s l .table .length) (drop (l * s .room) area)
 
--- what stands of line L at the end is what was expected, and what the updates of the opening come to. There is a table where there are
--- entries, since a RESET writes at least four
-pub record Stands (L : ℕ) (e : Expected) (us : List Update) (s : Station) (area : List ℕ) : Type 0 where
+-- what stands of line L is what is expected, and what the updates of the opening come to. Of a closed line no entries are
+-- expected; an open one without an accepted RESET has length 0
+pub record Stands (L room : ℕ) (e : Expected) (us : List Update) (s : Station) (area : List ℕ) : Type 0 where
+  pub room′ : s .room ≡ room
   pub live : lineAt s L .live ≡ e .live
   pub mark : lineAt s L .table .mark ≡ e .held .table .mark
-  pub long : 0 < length (e .held .entries) → lineAt s L .table .length ≡ length (e .held .entries)
-  pub infinity : 0 < length (e .held .entries) → lineAt s L .table .infinity ≡ e .held .table .infinity
-  pub entries : 0 < length (e .held .entries) → entriesAt s L area ≡ e .held .entries
+  pub long : e .live ≡ true → lineAt s L .table .length ≡ length (e .held .entries)
+  pub infinity : e .live ≡ true → lineAt s L .table .infinity ≡ e .held .table .infinity
+  pub entries : e .live ≡ true → entriesAt s L area ≡ e .held .entries
+  pub closed : e .live ≡ false → e .held .entries ≡ []
   pub sums : (j : ℕ) → j < length (e .held .entries)
       → pos (getD (entriesAt s L area) j 0) ≡ pos (lineAt s L .table .infinity) +ℤ sumAt us j
   pub speaking : eqb (lineAt s L .table .mark) settled ≡ speaks us
 
--- the whole claim of a list that has been run
-pub record Claimed (L room : ℕ) (w : World) : Type 0 where
-  pub room′ : w .state .room ≡ room
-  pub calls : AllAgree L room (w .log)
-  pub stands : Stands L (expected L room (w .log)) (updatesOf L (w .log)) (w .state) (w .area)
+-- where w has been reached: what stands there, and a call that is made there
+abbrev pub StandsAt : (L room : ℕ) → World → Type 0
+StandsAt L room w = Stands L room (expected L room (w .log)) (updatesOf L (w .log)) (w .state) (w .area)
 
--- every list of calls, from any state in order with the line closed, each with the route area as it was left or one of another room
+abbrev pub AgreesAt : (L room : ℕ) → World → Call → Type 0
+AgreesAt L room w c = Agrees L room (expected L room (w .log)) (updatesOf L (w .log)) c (outcomeOf w c)
+
+-- the whole claim of a list of calls: at each place of it, where the calls before have been made
+pub record Claimed (s : Station) (area : List ℕ) (L : ℕ) (cs : List Call) : Type 0 where
+  pub stands : (before after : List Call) → cs ≡ before ++ after → StandsAt L (s .room) (run (start s area) before)
+  pub calls : (before : List Call) (c : Call) (after : List Call) → cs ≡ before ++ (c ∷ after)
+      → AgreesAt L (s .room) (run (start s area) before) c
+
+-- every list of calls, from any state in order with the line closed
 abbrev pub Demand3 : Type 0
 Demand3 =
     (s : Station) (area : List ℕ) (L : ℕ) (cs : List Call)
@@ -96,4 +132,4 @@ Demand3 =
     → L ≤ 7
     → lineAt s L .live ≡ false
     → Fair (s .room) cs
-    → Claimed L (s .room) (run (start s area) cs)
+    → Claimed s area L cs

@@ -1,14 +1,12 @@
--- Demand 3 at any place of a list of calls, in the demand's own words: which lines a query goes on to, read off the updates of the line's
--- opening and off what then stands in state and route area. No expected table is mentioned here.
-use Prim.Native.Nat.{ℕ, _-_, _≤_, _<_, min}
+-- Demand 3 after a list of calls, without an expected table: which lines the next query goes on to, read off the updates of
+-- the line's opening and off what then stands in state and route area. A corollary of specs/Demand3.
+use Prim.Native.Nat.{ℕ, _-_, _≤_, _<_}
 use mathlib.Core.Path.{_≡_}
 use mathlib.Core.Bool.{Bool, true, false}
-use mathlib.Core.Logic.{_↔_, _⊎_}
-use mathlib.Core.List.{List, [], _∷_, List·Memᴰ}
+use mathlib.Core.Logic.{_↔_}
+use mathlib.Core.List.{List}
 use lib.ListN.{length, getD}
-use Rattle.wire.specs.Header.{kindOf, ttlOf, hopsOf, payloadOf}
-use Rattle.keywords.specs.Keywords.{keywordsOf}
-use Rattle.keywords.specs.Hash.{placeOf}
+use Rattle.wire.specs.Header.{kindOf, payloadOf}
 use Rattle.protocol.specs.declared.Station.{Station}
 use Rattle.protocol.specs.declared.Own.{Own}
 use Rattle.protocol.specs.Lines.{lineAt}
@@ -18,23 +16,18 @@ use Rattle.protocol.specs.Queries.{textIn}
 use Rattle.protocol.specs.Calls.{messageOutcome, ownOutcome}
 use Rattle.protocol.specs.Runs.{Call, World, run, start, Fair}
 use Rattle.protocol.specs.History.{Update, updatesOf, speaks}
-use Rattle.protocol.specs.Demand3.{bitsOf, entriesAt}
+use Rattle.protocol.specs.Demand3.{Stops, entriesAt}
+pub use Rattle.protocol.specs.Demand3.{lifeLeft}
 
--- the entry of a keyword that stands in the route area
-abbrev pub standingEntry : World → ℕ → List ℕ → ℕ
-standingEntry w L k = getD (entriesAt (w .state) L (w .area)) (placeOf (bitsOf (lineAt (w .state) L .table .length)) k) 0
+-- some keyword's entry of line L that stands in the route area is Infinity or exceeds the TTL to be sent
+abbrev pub StoppedNow : World → ℕ → List ℕ → ℕ → Type 0
+StoppedNow w L =
+    Stops (entriesAt (w .state) L (w .area)) (lineAt (w .state) L .table .length) (lineAt (w .state) L .table .infinity)
 
--- line L withholds a text to be sent with this TTL: not in a quiet period (before an accepted RESET of the opening, before a first finished
--- run since the last, inside a later run, from a refused update to the next accepted RESET), and some keyword's entry is Infinity or exceeds it
+-- line L withholds a text to be sent with this TTL: not in a quiet period (before an accepted RESET of the opening, before
+-- a first finished run since the last, inside a later run, from a refused update to the next accepted RESET), and stopped
 abbrev pub WithheldNow : World → ℕ → List ℕ → ℕ → Type 0
-WithheldNow w L text ttl =
-    (speaks (updatesOf L (w .log)) ≡ true)
-    × ((k : List ℕ)
-    × List·Memᴰ k (keywordsOf text)
-    × ((standingEntry w L k ≡ lineAt (w .state) L .table .infinity) ⊎ (ttl < standingEntry w L k)))
-
-abbrev pub lifeLeft : List ℕ → ℕ
-lifeLeft m = min (ttlOf m) (7 - hopsOf m)
+WithheldNow w L text ttl = (speaks (updatesOf L (w .log)) ≡ true) × StoppedNow w L text ttl
 
 -- an arriving query answered 0 goes on to line L, an own query does
 pub record Forwards (w : World) (L : ℕ) : Type 0 where
