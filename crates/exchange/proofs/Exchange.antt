@@ -18,6 +18,7 @@ use Rattle.wire.specs.Header.{payloadOf}
 use Rattle.tables.specs.declared.Table.{Table}
 use Rattle.tables.specs.Tables.{Held, settled, betweenRuns, tableInOrder, heldIn}
 use Rattle.tables.specs.Updates.{isPatch}
+use Rattle.tables.proofs.OrderLaws.{limits}
 use Rattle.tablewriter.specs.Writer.{baseOf, bitsFor, dataOf, partsOf, runOf, messagesOf, joined, resetPayload, update, writerAnswer, writerBytes, writerResult, writerOut}
 use Rattle.tablewriter.specs.RoundTrip.{after, runPayloads, payloadsOf, Stands, ReadAs, settledTable, settledAs}
 use Rattle.tablewriter.proofs.Whole.{Small, Whole, AllWhole, payloads-small, all-whole}
@@ -29,7 +30,6 @@ use Rattle.protocol.specs.declared.Station.{Station}
 use Rattle.protocol.specs.Memory.{remembered}
 use Rattle.protocol.specs.Lines.{lineAt, withTable, partOf, heldAt}
 use Rattle.protocol.proofs.InOrder.{facts-at}
-use Rattle.protocol.proofs.Kept.{limits}
 use Rattle.protocol.proofs.Matching.{line-set, line-other}
 use Rattle.exchange.specs.Feeding.{Turn, Fed, fed}
 use Rattle.exchange.specs.Exchange.{Listening, SettledAt, Exchanged, StationRoundTrip}
@@ -106,7 +106,7 @@ module _ (number : List ℕ) (sixteen : length number ≡ 16) (old new : List �
 
 -- a settled table of a state in order is between runs
 between-runs : (room : ℕ) (t : Table) → tableInOrder room t ≡ true → t .mark ≡ settled → betweenRuns t ≡ true
-between-runs room t e k = rw k at (limits room t e (rw k) .1 .1 .1 .0)
+between-runs room t e k = rw k at (limits room t e (rw k) .position)
 
 module _ (s : Station) (L : ℕ) (area : List ℕ) (w : Listening s L area) where
   stands-at : (old : List ℕ) (infinity : ℕ) → SettledAt (heldAt s L area) old infinity → Stands (heldAt s L area) old infinity

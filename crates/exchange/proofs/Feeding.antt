@@ -17,6 +17,7 @@ use Rattle.wire.specs.Header.{sizeOf, payloadOf}
 use Rattle.tables.specs.declared.Table.{Table}
 use Rattle.tables.specs.Tables.{Held, heldIn}
 use Rattle.tables.specs.Updates.{isPatch, updated, patchBy, brokenBy}
+use Rattle.tables.proofs.KeepLaws.{moved-length, patched-length}
 use Rattle.tablewriter.specs.RoundTrip.{answerTo, after}
 use Rattle.tablewriter.proofs.Whole.{Whole}
 use Rattle.protocol.specs.declared.Line.{Line}
@@ -28,7 +29,7 @@ use Rattle.protocol.specs.Outcomes.{Outcome, quiet, usedOf}
 use Rattle.protocol.specs.Queries.{usualLimit}
 use Rattle.protocol.specs.Calls.{early, updateOutcome, byType, arriving, messageOutcome, messageResult}
 use Rattle.protocol.specs.Kept.{Kept}
-use Rattle.protocol.proofs.Updates.{by-update, patched-length, moved-length}
+use Rattle.protocol.proofs.Updates.{by-update}
 use Rattle.protocol.proofs.Kept.{order-kept}
 use Rattle.protocol.proofs.Matching.{line-set}
 use Rattle.protocol.proofs.Blind.{taken-before}

@@ -15,12 +15,13 @@ use Rattle.wire.specs.Header.{ttlOf, hopsOf, payloadOf}
 use Rattle.tables.specs.Patch.{gain, loss, sumOf, fits, added, allFit}
 use Rattle.tables.specs.Tables.{Held, noTable, ready, settled}
 use Rattle.tables.specs.Updates.{lengthIn, infinityIn, bitsIn, numbersIn, isPatch, isLast, inRange, updateAnswer, updated, resetBy, movedOn, patchBy, brokenBy}
+use Rattle.tables.proofs.KeepLaws.{patched-length}
 use Rattle.protocol.specs.Outcomes.{Outcome, unsent}
 use Rattle.protocol.specs.Runs.{Call, Open, Close, Message, Ask}
 use Rattle.protocol.specs.Expected.{Expected, wiped, opens, closes, brings, asks, brought, isUpdateOf, feed}
 use Rattle.protocol.specs.History.{Update, noted, accepted, isReset, signed, carried, underWay, wholeRuns, total, sumAt, beforeRun, insideRun, spoiled, speaks}
 use Rattle.protocol.specs.Demand3.{Agrees}
-use Rattle.protocol.proofs.Updates.{Patches, by-update, patched-length}
+use Rattle.protocol.proofs.Updates.{Patches, by-update}
 
 -- a raw number is its gain less its loss, and adding it to an entry is the sum of the two where that does not fall below 0
 signed-parts : (bits v : ℕ) → signed bits v ≡ pos (gain bits v) +ℤ negℤ (pos (loss bits v))

@@ -1,14 +1,13 @@
 -- The tests by which a query goes on, and what they say in words: the place of a keyword, what a table withholds, the lines it goes to.
 -- Assumes nothing.
-use Prim.Native.Nat.{ℕ, zero, suc, _+_, _-_, _*_, _/_, _^_, _≤_, _<_}
-use native.Mathlib.Nat.{mul-div-mul-right, mul-div-cancel, one-le-pow, pow-suc, mod-lt, div-eq-of-lt, mul-zero, zero-div}
+use Prim.Native.Nat.{ℕ, zero, suc, _-_, _*_, _/_, _^_, _≤_, _<_}
+use native.Mathlib.Nat.{mul-div-cancel, one-le-pow, pow-suc, div-eq-of-lt, mul-zero, zero-div}
 use native.Mathlib.Omega.{arith}
 use mathlib.Core.Path.{_≡_, refl, sym, ap, _∙_, subst}
 use mathlib.Core.Bool.{Bool, true, false, cond, not, _&&_, _||_}
 use mathlib.Core.Logic.{_↔_, _⊎_, inl, inr, ⊎-elim}
 use mathlib.Core.List.{List, [], _∷_, map, List·Memᴰ, List·Memᴰ·head, List·Memᴰ·tail, List·Memᴰ·cases-cons, List·Memᴰ·not-nil}
 use lib.Dec.{eqb, leb, ltb}
-use lib.Pow.{pow-add}
 use lib.ListN.{length, getD}
 use borrow.Author.Tests.{ltb-true, lt-ltb, leb-true, le-leb, lt-leb, eqb-true, eqb-false, eq-eqb, ne-eqb, not-true}
 use Rattle.laws.specs.Tests.{any, all}
@@ -16,6 +15,8 @@ use Rattle.laws.proofs.Refusals.{clash, and-fst, and-snd, and-intro, or-split, 
 use Rattle.wire.specs.Header.{payloadOf}
 use Rattle.keywords.specs.Keywords.{keywordsOf}
 use Rattle.keywords.specs.Hash.{hashOf, placeOf, scaled}
+use Rattle.keywords.proofs.HashLaws.{hash-below}
+use Rattle.keywords.proofs.PlaceLaws.{place-scaled}
 use Rattle.tables.specs.Tables.{settled, lengths}
 use Rattle.tables.specs.Admission.{far, entryOf, withholds}
 use Rattle.protocol.specs.Lines.{isOther}
@@ -25,13 +26,7 @@ use Rattle.protocol.specs.History.{Update, beforeReset, beforeRun, insid
 use Rattle.protocol.specs.Demand3.{halvings, bitsOf, entryIn, Stopped, Withheld, lifeLeft, MayGo, Forwarded}
 use Rattle.protocol.proofs.Updates.{Sound}
 
--- the place of a hash: scaled down to 2 to the power b it is the top b bits
-pub scaled-power : (b h : ℕ) → b ≤ 32 → scaled (2 ^ b) h ≡ h / 2 ^ (32 - b)
-scaled-power b h l =
-    let e : 32 - b + b ≡ 32 = omega arith in
-    let f : 2 ^ 32 ≡ 2 ^ (32 - b) * 2 ^ b = ap (λ x. 2 ^ x) (sym e) ∙ pow-add 2 (32 - b) b in
-    ap (λ x. h * 2 ^ b / x) f ∙ mul-div-mul-right h (2 ^ (32 - b)) (one-le-pow b 2 (omega arith))
-
+-- what `halvings` finds
 pub halvings-power : (f b : ℕ) → b ≤ f → halvings f (2 ^ b) ≡ b
 halvings-power zero b l = omega arith
 halvings-power (suc f) zero l = refl
@@ -57,10 +52,6 @@ lengths-powers : (n : ℕ) → any (eqb n) lengths ≡ true → (b : ℕ) × (b 
 unfolding exponents
 lengths-powers n e = power-among n exponents refl e
 
-hash-below : (k : List ℕ) → hashOf k < 2 ^ 32
-unfolding hashOf
-hash-below k = mod-lt _ (omega arith)
-
 pub scaled-place : (n : ℕ) (k : List ℕ) → any (eqb n) (0 ∷ lengths) ≡ true → scaled n (hashOf k) ≡ placeOf (bitsOf n) k
 scaled-place n k e =
     ⊎-elim
@@ -69,7 +60,7 @@ scaled-place n k e =
     (ap (λ x. x / 2 ^ 32) (mul-zero (hashOf k)) ∙ zero-div (2 ^ 32) ∙ sym (div-eq-of-lt (hash-below k))))
     (λ z. let b = lengths-powers n z in
     subst (λ (x : ℕ). scaled x (hashOf k) ≡ placeOf (bitsOf x) k) (sym (b .2))
-    (scaled-power (b .0) (hashOf k) (b .1) ∙ ap (λ x. placeOf x k) (sym (halvings-power 32 (b .0) (b .1)))))
+    (place-scaled (b .0) k (b .1) ∙ ap (λ x. placeOf x k) (sym (halvings-power 32 (b .0) (b .1)))))
     (or-split (eqb n 0) (any (eqb n) lengths) e)
 
 -- tests and what they say

@@ -1,26 +1,27 @@
 -- A state in order stays in order, whatever the call and its answer.
 -- Assumes nothing.
-use Prim.Native.Nat.{ℕ, zero, suc, _+_, _/_, _%_, _≤_, _<_, min}
+use Prim.Native.Nat.{ℕ, _+_, _/_, _%_, _≤_, _<_, min}
 use native.Mathlib.Omega.{arith}
 use mathlib.Core.Path.{_≡_, refl, sym, ap, _∙_}
 use mathlib.Core.Bool.{Bool, true, false, cond, not, _&&_, _||_}
 use mathlib.Core.List.{List, [], _∷_}
 use lib.Dec.{eqb, leb, ltb}
-use lib.ListN.{length, getD, set, replicate, length-set, length-map, length-take, length-drop, getD-replicate}
+use lib.ListN.{length, getD, set, length-set, length-map, length-take, length-drop, getD-replicate}
 use lib.Seq.{getD-set-same, getD-set-other}
 use borrow.Author.Tests.{leb-true, le-leb, ltb-true, lt-ltb, ltb-false, eqb-true, eqb-false, eq-eqb, not-false}
 use Rattle.laws.specs.Tests.{firstOf, all, any}
 use Rattle.laws.specs.Ring.{keptPlaces}
-use Rattle.laws.proofs.Refusals.{and-fst, and-snd, and-intro, or-fst, or-snd, or-rest, or-right, of-choice, Each, each, every-of, no-refusal, NoRefusal, all-getD, all-set, all-take, all-weaken, all-map}
+use Rattle.laws.proofs.Refusals.{and-fst, and-snd, and-intro, or-fst, or-snd, or-right, of-choice, no-refusal, NoRefusal, all-getD, all-set, all-take, all-weaken, all-map}
 use Rattle.wire.specs.Header.{kindOf, ttlOf, hopsOf, sizeOf, payloadOf, routeUpdate}
-use Rattle.tables.specs.declared.Table.{Table}
-use Rattle.tables.specs.Tables.{Held, running, settled, broken, ready, goodLength, goodInfinity, insideRun, betweenRuns, withinLimits, tableInOrder}
-use Rattle.tables.specs.Updates.{placeIn, sizeIn, bitsIn, numbersIn, isLast, updated, resetBy, movedOn, patchBy, brokenBy}
+use Rattle.tables.specs.Tables.{tableInOrder}
+use Rattle.tables.specs.Updates.{updated}
+use Rattle.tables.proofs.OrderLaws.{keeps-order}
+use Rattle.tables.proofs.BoundLaws.{all-replicate}
 use Rattle.protocol.specs.declared.Line.{Line}
 use Rattle.protocol.specs.declared.Station.{Station}
 use Rattle.protocol.specs.declared.Own.{Own}
 use Rattle.protocol.specs.Memory.{capacity, here, gone, numberIn, Number, sameNumber, remembered, seen, remember, noTwice, left}
-use Rattle.protocol.specs.Lines.{lineCount, emptyLine, nowhere, lineAt, withLine, withTable, pingedAt, withPong, pongCapacity, storedPongs, heldAt}
+use Rattle.protocol.specs.Lines.{lineCount, emptyLine, nowhere, lineAt, withLine, withTable, pingedAt, withPong, pongCapacity, storedPongs, partOf, heldAt}
 use Rattle.protocol.specs.Order.{askerFits, lineInOrder, inOrder}
 use Rattle.protocol.specs.Outcomes.{quiet}
 use Rattle.protocol.specs.Queries.{usualLimit, queryType, queryRules, queryTaken, queryOutcome, ownTaken}
@@ -29,64 +30,9 @@ use Rattle.protocol.specs.Pings.{pingType, pongType, isProbe, pingRules,
 use Rattle.protocol.specs.Calls.{fresh, freshState, openingRules, opening, closedState, closingRules, closing, early, updateOutcome, byType, arriving, ownRules, asking, messageOutcome, ownOutcome}
 use Rattle.protocol.specs.Runs.{Call, Open, Close, Message, Ask, lent, outcomeOf, step, run}
 use Rattle.protocol.specs.Kept.{sizedLine, Sized, Kept, FreshInOrder, OrderKept, OrderKeptByLists, asked, leftBy}
-use Rattle.protocol.proofs.Updates.{Resets, Patches, by-update}
 use Rattle.protocol.proofs.Outcomes.{of-pick, of-refused, LetIn, let-in, asked-in}
 use Rattle.protocol.proofs.InOrder.{StateFacts, LineFacts, state-facts, state-order, line-order, facts-at}
 use Rattle.protocol.proofs.Memory.{remembered-newest, remembered-left, stored-newest, seen-any, noTwice-take, noTwice-new, noTwice-left}
-
--- a table stays in order
-abbrev pub limitTests : ℕ → Table → List Bool
-limitTests room t =
-    goodLength (t .length)
-    ∷ leb (t .length) room
-    ∷ goodInfinity (t .infinity)
-    ∷ cond (eqb (t .mark) running) (insideRun t) (betweenRuns t)
-    ∷ []
-
-abbrev runTests : Table → List Bool
-runTests t = leb 2 (t .place) ∷ leb (t .place) (t .size) ∷ (eqb (t .bits) 4 || eqb (t .bits) 8) ∷ leb (t .at) (t .length) ∷ []
-
-pub limits : (room : ℕ) (t : Table) → tableInOrder room t ≡ true → ready (t .mark) ≡ true → Each (limitTests room t)
-unfolding tableInOrder
-limits room t e r =
-    each (limitTests room t)
-    (or-rest (not (ready (t .mark))) (withinLimits room t) (and-snd (leb (t .mark) broken) (not (ready (t .mark)) || withinLimits room t) e) (rw r))
-
-reset-in-order : (room : ℕ) (p : List ℕ) → Resets room p → tableInOrder room (resetBy p .table) ≡ true
-unfolding tableInOrder resetBy
-reset-in-order room p r =
-    let t = r .tests in
-    every-of (limitTests room (resetBy p .table)) (t .1 .1 .0, (t .1 .1 .1 .0, (t .1 .1 .1 .1 .0, (refl, tt))))
-
-patch-in-order : (room : ℕ) (h : Held) (p : List ℕ) → length (h .entries) ≤ h .table .length → tableInOrder room (h .table) ≡ true → Patches h p
-    → tableInOrder room (patchBy h p .table) ≡ true
-unfolding tableInOrder patchBy movedOn
-patch-in-order room h p long e z = go (isLast p) refl
-  where
-    t : Table
-    t = h .table
-
-    w : Each (limitTests room t)
-    w = limits room t e (z .turn .0)
-
-    go : (b : Bool) → isLast p ≡ b → tableInOrder room (patchBy h p .table) ≡ true
-    go true y = rw y (every-of (limitTests room (record { mark = settled; length = t .length; infinity = t .infinity; place = 1; size = 0; bits = 0; at = 0 })) (w .0, (w .1 .0, (w .1 .1 .0, (refl, tt)))))
-    go false y =
-        let a : 1 ≤ placeIn p = leb-true 1 (placeIn p) (z .tests .1 .1 .0) in
-        let b : placeIn p ≤ sizeIn p = leb-true (placeIn p) (sizeIn p) (z .tests .1 .1 .1 .0) in
-        let c : placeIn p ≡ sizeIn p → ⊥ = eqb-false (placeIn p) (sizeIn p) y in
-        let d : t .at + length (numbersIn p) ≤ length (h .entries) = leb-true (t .at + length (numbersIn p)) (length (h .entries)) (z .turn .1 .1 .1 .0) in
-        let inside = every-of (runTests (record { mark = running; length = t .length; infinity = t .infinity; place = placeIn p + 1; size = sizeIn p; bits = bitsIn p; at = t .at + length (numbersIn p) }))
-        (le-leb 2 (placeIn p + 1) (omega arith), (le-leb (placeIn p + 1) (sizeIn p) (omega arith), (z .tests .1 .1 .1 .1 .1 .0, (le-leb (t .at + length (numbersIn p)) (t .length) (omega arith), tt)))) in
-        rw y
-        (every-of (limitTests room (record { mark = running; length = t .length; infinity = t .infinity; place = placeIn p + 1; size = sizeIn p; bits = bitsIn p; at = t .at + length (numbersIn p) }))
-        (w .0, (w .1 .0, (w .1 .1 .0, (inside, tt)))))
-
-pub updated-in-order : (room : ℕ) (h : Held) (ttl hops : ℕ) (p : List ℕ) → length (h .entries) ≤ h .table .length → tableInOrder room (h .table) ≡ true
-    → tableInOrder room (updated room h ttl hops p .table) ≡ true
-unfolding tableInOrder brokenBy
-updated-in-order room h ttl hops p long e =
-    by-update (λ _ (g : Held). tableInOrder room (g .table) ≡ true) room h ttl hops p (patch-in-order room h p long e) (reset-in-order room p) (λ _ _. refl)
 
 -- one line's record is set: the askers still fit where an open line stays open
 module _ (s : Station) (z : Sized s) (o : inOrder s ≡ true) (l : ℕ) (l≤7 : l ≤ 7) (x : Line) where
@@ -210,14 +156,13 @@ module _ (s : Station) (z : Sized s) (o : inOrder s ≡ true) (l : ℕ) (m route
   kept-update : Kept s (updateOutcome s l m route .state)
   unfolding updateOutcome storedPongs
   kept-update =
-      let long : length (heldAt s l route .entries) ≤ lineAt s l .table .length = simp length-take (omega arith) in
       kept-line s z o l (d .line) (withTable (lineAt s l) (updated (s .room) (heldAt s l route) (ttlOf m) (hopsOf m) (payloadOf m) .table)) (λ v. v)
       (record {
         empty = rw (d .live);
         count = was .count;
         next = was .next;
         hops = was .hops;
-        table = updated-in-order (s .room) (heldAt s l route) (ttlOf m) (hopsOf m) (payloadOf m) long (was .table);
+        table = keeps-order (s .room) (lineAt s l .table) (partOf (s .room) l route) (ttlOf m) (hopsOf m) (payloadOf m) (was .table);
       })
       was-sized
 
@@ -337,10 +282,6 @@ order-kept-by-lists w (c ∷ cs) z o =
     one (Ask number text out a) = order-kept (w .state) z o .asks number text out (lent a (w .area))
 
 -- a fresh state
-all-replicate : {A : Type 0} (f : A → Bool) (n : ℕ) (x : A) → f x ≡ true → all f (replicate n x) ≡ true
-all-replicate f zero x e = refl
-all-replicate f (suc n) x e = and-intro (f x) (all f (replicate n x)) e (all-replicate f n x e)
-
 fresh-order : (room : ℕ) → inOrder (freshState room) ≡ true
 unfolding remembered keptPlaces noTwice
 fresh-order room =

@@ -1,6 +1,6 @@
 -- The two halves of a number tell its 16 bytes.
 -- Assumes nothing.
-use Prim.Native.Nat.{ℕ, zero, suc, _+_, _*_, _≤_, _<_}
+use Prim.Native.Nat.{ℕ, _+_, _*_, _≤_, _<_}
 use native.Mathlib.Omega.{arith}
 use mathlib.Core.Path.{_≡_, refl, sym, ap, ap₂, _∙_}
 use mathlib.Core.Bool.{true}
@@ -13,6 +13,7 @@ use Rattle.laws.specs.Tests.{all}
 use Rattle.laws.specs.Bytes.{little}
 use Rattle.laws.proofs.Refusals.{and-fst, and-snd, and-intro, all-take}
 use Rattle.wire.specs.Header.{numberOf}
+use Rattle.tables.proofs.BoundLaws.{all-drop}
 use Rattle.protocol.specs.Memory.{Number, numberIn}
 use Rattle.protocol.specs.Demand2.{SameBytes}
 use Rattle.protocol.proofs.Origins.{same-number}
@@ -30,11 +31,6 @@ little-tells (x ∷ xs) (y ∷ ys) p q n e =
     let t : little xs ≡ little ys = omega arith in
     ap₂ _∷_ h (little-tells xs ys (and-snd (ltb x 256) (all (λ x. ltb x 256) xs) p) (and-snd (ltb y 256) (all (λ x. ltb x 256) ys) q) (omega arith) t)
 
-all-drop : (n : ℕ) (xs : List ℕ) → all (λ x. ltb x 256) xs ≡ true → all (λ x. ltb x 256) (drop n xs) ≡ true
-all-drop zero xs p = p
-all-drop (suc n) [] p = refl
-all-drop (suc n) (x ∷ xs) p = all-drop n xs (and-snd (ltb x 256) (all (λ x. ltb x 256) xs) p)
-
 -- the 16 bytes are the halves' 8 and 8
 halves : (a : List ℕ) → numberOf a ≡ take 8 a ++ take 8 (drop 8 a)
 halves a = take-add 8 8 a
@@ -51,7 +47,7 @@ same-bytes a b p q h k = (
       halves a
       ∙ ap₂ _++_
       (little-tells (take 8 a) (take 8 b) (all-take (λ x. ltb x 256) 8 a p) (all-take (λ x. ltb x 256) 8 b q) (length-low a h ∙ sym (length-low b k)) (ap (λ (x : Number). x .lo) n))
-      (little-tells (take 8 (drop 8 a)) (take 8 (drop 8 b)) (all-take (λ x. ltb x 256) 8 (drop 8 a) (all-drop 8 a p)) (all-take (λ x. ltb x 256) 8 (drop 8 b) (all-drop 8 b q))
+      (little-tells (take 8 (drop 8 a)) (take 8 (drop 8 b)) (all-take (λ x. ltb x 256) 8 (drop 8 a) (all-drop (λ x. ltb x 256) 8 a p)) (all-take (λ x. ltb x 256) 8 (drop 8 b) (all-drop (λ x. ltb x 256) 8 b q))
       (length-high a h ∙ sym (length-high b k)) (ap (λ (x : Number). x .hi) n))
       ∙ sym (halves b)),
   (λ e. let s : take 8 a ++ take 8 (drop 8 a) ≡ take 8 b ++ take 8 (drop 8 b) = sym (halves a) ∙ e ∙ halves b in

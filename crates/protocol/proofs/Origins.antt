@@ -14,6 +14,7 @@ use Rattle.laws.specs.Tests.{all}
 use Rattle.laws.specs.Ring.{placesBefore, ringFits, keptPlaces}
 use Rattle.laws.proofs.Refusals.{clash, and-fst, and-snd, or-fst, or-snd, of-choice}
 use Rattle.laws.proofs.Rings.{map-take}
+use Rattle.laws.proofs.Ranks.{places-length}
 use Rattle.protocol.specs.declared.Line.{Line}
 use Rattle.protocol.specs.declared.Station.{Station}
 use Rattle.protocol.specs.Memory.{capacity, here, gone, Number, sameNumber, Query, queryAt, remembered, Found, Absent, At, later, pickFound, find, isFound, askerOf, noTwice, left}
@@ -249,10 +250,6 @@ standing-now x who n =
 standing-base : (qs : List Query) → qs ≡ map standing (map (λ q. past (λ l. false) (q .number) (q .asker) 0) qs)
 standing-base [] = refl
 standing-base (q ∷ qs) = ap₂ _∷_ (standing-now (q .number) (q .asker) 0) (standing-base qs)
-
-places-length : (c p n : ℕ) → length (placesBefore c p n) ≡ n
-places-length c p zero = refl
-places-length c p (suc n) = ap suc (places-length c _ n)
 
 remembered-length : (s : Station) → length (remembered s) ≤ capacity
 unfolding remembered keptPlaces

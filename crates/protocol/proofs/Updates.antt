@@ -1,19 +1,18 @@
 -- What an update leaves: its three cases, and that a table keeps as many entries as it is long, within its room.
 -- Assumes nothing.
-use Prim.Native.Nat.{ℕ, suc, _+_, _≤_}
+use Prim.Native.Nat.{ℕ, _≤_}
 use native.Mathlib.Omega.{arith}
-use mathlib.Core.Path.{_≡_, refl, sym, ap, _∙_, subst}
+use mathlib.Core.Path.{_≡_, refl, sym, _∙_, subst}
 use mathlib.Core.Bool.{Bool, true, false, not, _&&_, _||_}
-use mathlib.Core.List.{List, [], _∷_}
+use mathlib.Core.List.{List, _∷_}
 use lib.Dec.{eqb, leb}
-use lib.ListN.{length, getD, take, drop, length-append, length-replicate, take-append-drop}
+use lib.ListN.{length, getD, length-replicate}
 use borrow.Author.Tests.{leb-true, eqb-true, eqb-false, not-false}
 use Rattle.laws.specs.Tests.{firstOf, every, any}
-use Rattle.laws.proofs.Refusals.{clash, of-choice, Each, each, NoRefusal, no-refusal, answer-in, refusal-in, and-rest, or-right}
-use Rattle.tables.specs.declared.Table.{Table}
-use Rattle.tables.specs.Patch.{added}
-use Rattle.tables.specs.Tables.{Held, lengths, goodLength, goodInfinity, ready, running}
-use Rattle.tables.specs.Updates.{lengthIn, infinityIn, placeIn, sizeIn, bitsIn, numbersIn, isPatch, isLast, resetTests, patchTests, turnTests, goodReset, goodPatch, inTurn, inRange, updateAnswer, updated, resetBy, movedOn, patchBy, brokenBy, pickHeld}
+use Rattle.laws.proofs.Refusals.{clash, Each, each, NoRefusal, no-refusal, answer-in, refusal-in, and-rest, or-right}
+use Rattle.tables.specs.Tables.{Held, lengths, goodLength}
+use Rattle.tables.specs.Updates.{lengthIn, infinityIn, isPatch, resetTests, patchTests, turnTests, goodReset, goodPatch, inTurn, inRange, updateAnswer, updated, resetBy, patchBy, brokenBy, pickHeld}
+use Rattle.tables.proofs.KeepLaws.{moved-length, patched-length}
 use Rattle.protocol.specs.Outcomes.{unsent}
 use Rattle.protocol.specs.Blind.{updateRules}
 
@@ -77,26 +76,6 @@ pub update-range : (room : ℕ) (h : Held) (ttl hops : ℕ) (p : List ℕ) → (
     → (leb 14 (updateAnswer room h ttl hops p) && leb (updateAnswer room h ttl hops p) 16) ≡ true
 unfolding updateAnswer
 update-range room h ttl hops p n = refusal-in (λ k. leb 14 k && leb k 16) (updateRules room h ttl hops p) refl n
-
--- lengths
-added-length : (bits : ℕ) (vs es : List ℕ) → length (added bits vs es) ≡ length es
-unfolding added
-added-length bits [] es = refl
-added-length bits (v ∷ vs) [] = refl
-added-length bits (v ∷ vs) (e ∷ es) = ap suc (added-length bits vs es)
-
-pub patched-length : (h : Held) (p : List ℕ) → length (patchBy h p .entries) ≡ length (h .entries)
-unfolding patchBy
-patched-length h p =
-    let es : List ℕ = h .entries in
-    length-append (take (h .table .at) es) (added (bitsIn p) (numbersIn p) (drop (h .table .at) es))
-    ∙ ap (λ n. length (take (h .table .at) es) + n) (added-length (bitsIn p) (numbersIn p) (drop (h .table .at) es))
-    ∙ sym (length-append (take (h .table .at) es) (drop (h .table .at) es))
-    ∙ ap length (take-append-drop (h .table .at) es)
-
-pub moved-length : (t : Table) (p : List ℕ) → movedOn t p .length ≡ t .length
-unfolding movedOn
-moved-length t p = of-choice (λ (u : Table). u .length ≡ t .length) (isLast p) _ _ (λ _. refl) (λ _. refl)
 
 -- what is written stays within the room
 pub updated-within : (room : ℕ) (h : Held) (ttl hops : ℕ) (p : List ℕ) → length (h .entries) ≤ room → length (updated room h ttl hops p .entries) ≤ room

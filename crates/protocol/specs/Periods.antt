@@ -1,8 +1,8 @@
 -- Demand 3 after a list of calls, without an expected table: which lines the next query goes on to, read off the updates of
 -- the line's opening and off what then stands in state and route area. A corollary of specs/Demand3.
-use Prim.Native.Nat.{ℕ, _-_, _≤_, _<_}
+use Prim.Native.Nat.{ℕ, _-_, _≤_}
 use mathlib.Core.Path.{_≡_}
-use mathlib.Core.Bool.{Bool, true, false}
+use mathlib.Core.Bool.{true, false}
 use mathlib.Core.Logic.{_↔_}
 use mathlib.Core.List.{List}
 use lib.ListN.{length, getD}
@@ -11,11 +11,10 @@ use Rattle.protocol.specs.declared.Station.{Station}
 use Rattle.protocol.specs.declared.Own.{Own}
 use Rattle.protocol.specs.Lines.{lineAt}
 use Rattle.protocol.specs.Order.{inOrder}
-use Rattle.protocol.specs.Outcomes.{Outcome}
 use Rattle.protocol.specs.Queries.{textIn}
 use Rattle.protocol.specs.Calls.{messageOutcome, ownOutcome}
 use Rattle.protocol.specs.Runs.{Call, World, run, start, Fair}
-use Rattle.protocol.specs.History.{Update, updatesOf, speaks}
+use Rattle.protocol.specs.History.{updatesOf, speaks}
 use Rattle.protocol.specs.Demand3.{Stops, entriesAt}
 pub use Rattle.protocol.specs.Demand3.{lifeLeft}
 

@@ -14,8 +14,8 @@ use Rattle.tablereader.specs.Unpacking.{widened, unpacked}
 use borrow.Rule.Slice.PartMut.{putMid}
 use Rattle.laws.proofs.Parts.{part-tail}
 use Rattle.tables.proofs.TestLaws.{both-true}
-use Rattle.tables.proofs.PatchFacts.{four, numbers-append}
-use Rattle.tables.proofs.NumberLaws.{Adding, adding-on, fit-cut, testing-on, numbers-length}
+use Rattle.tables.proofs.PatchFacts.{four, numbers-length, numbers-append}
+use Rattle.tables.proofs.NumberLaws.{Adding, adding-on, fit-cut, testing-on}
 
 -- a 4-bit number and its 8-bit form add the same and take the same away ..
 gain-widened : (v : ℕ) → gain 8 (widened v) ≡ gain 4 v

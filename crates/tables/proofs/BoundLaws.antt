@@ -8,6 +8,7 @@ use lib.Dec.{leb}
 use lib.ListN.{take, drop, replicate}
 use borrow.Author.Tests.{leb-true, le-leb}
 use Rattle.laws.specs.Tests.{all}
+use Rattle.laws.proofs.Refusals.{all-take}
 use Rattle.tables.specs.Patch.{sumOf, fits, added, allFit}
 use Rattle.tables.specs.Tables.{Held, inBounds, entriesInBounds}
 use Rattle.tables.specs.Updates.{lengthIn, infinityIn, bitsIn, numbersIn, resetTests, turnTests, goodReset, inTurn, inRange, resetBy, patchBy, updated, brokenBy}
@@ -21,17 +22,12 @@ module _ {A : Type 0} (f : A → Bool) where
   all-append [] ys a b = b
   all-append (x ∷ xs) ys a b = let t = both-true (f x) (all f xs) a in rw (t .0) (all-append xs ys (t .1) b)
 
-  all-take : (k : ℕ) (xs : List A) → all f xs ≡ true → all f (take k xs) ≡ true
-  all-take zero xs a = refl
-  all-take (suc k) [] a = refl
-  all-take (suc k) (x ∷ xs) a = let t = both-true (f x) (all f xs) a in rw (t .0) (all-take k xs (t .1))
-
-  all-drop : (k : ℕ) (xs : List A) → all f xs ≡ true → all f (drop k xs) ≡ true
+  pub all-drop : (k : ℕ) (xs : List A) → all f xs ≡ true → all f (drop k xs) ≡ true
   all-drop zero xs a = a
   all-drop (suc k) [] a = refl
   all-drop (suc k) (x ∷ xs) a = all-drop k xs (both-true (f x) (all f xs) a .1)
 
-  all-replicate : (k : ℕ) (x : A) → f x ≡ true → all f (replicate k x) ≡ true
+  pub all-replicate : (k : ℕ) (x : A) → f x ≡ true → all f (replicate k x) ≡ true
   all-replicate zero x a = refl
   all-replicate (suc k) x a = rw a (all-replicate k x a)
 

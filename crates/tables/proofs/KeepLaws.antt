@@ -11,7 +11,7 @@ use Rattle.laws.proofs.Over.{over-own, over-front-of, over-length, over-behind}
 use Rattle.tables.specs.declared.Table.{Table}
 use Rattle.tables.specs.Patch.{added}
 use Rattle.tables.specs.Tables.{Held, heldIn, atRest, settled}
-use Rattle.tables.specs.Updates.{lengthIn, infinityIn, bitsIn, numbersIn, isLast, resetTests, turnTests, goodReset, inTurn, resetBy, patchBy, onward, movedOn, updated, brokenBy, partWith}
+use Rattle.tables.specs.Updates.{lengthIn, infinityIn, bitsIn, numbersIn, isLast, resetTests, goodReset, resetBy, patchBy, onward, movedOn, updated, brokenBy, partWith}
 use Rattle.tables.proofs.TestLaws.{every-true}
 use Rattle.tables.proofs.PatchFacts.{added-length, added-rest}
 use Rattle.tables.proofs.AnswerLaws.{each-way}
@@ -28,12 +28,13 @@ moved-keeps f t p a b = by (isLast p)
     by true = a
     by false = b
 
+pub moved-length : (t : Table) (p : List ℕ) → movedOn t p .length ≡ t .length
+moved-length t p = moved-keeps (λ u. u .length) t p refl refl
+
 -- a PATCH leaves as many entries as there were
-pub patched-length : (h : Held) (p : List ℕ) → inTurn h p ≡ true → length (patchBy h p .entries) ≡ length (h .entries)
-unfolding patchBy inTurn
-patched-length h p u =
-    let w = leb-true (h .table .at + length (numbersIn p)) (length (h .entries)) (every-true (turnTests h p) u .1 .1 .1 .0) in
-    simp (length-append, added-length, length-take, length-drop) (omega arith)
+pub patched-length : (h : Held) (p : List ℕ) → length (patchBy h p .entries) ≡ length (h .entries)
+unfolding patchBy
+patched-length h p = simp (length-append, added-length, length-take, length-drop) (omega arith)
 
 module _ (t : Table) (part : List ℕ) (ttl hops : ℕ) (p : List ℕ) where
   abbrev after : Held
@@ -51,12 +52,12 @@ module _ (t : Table) (part : List ℕ) (ttl hops : ℕ) (p : List ℕ) where
       (over-front-of (lengthIn p) (replicate (lengthIn p) (infinityIn p)) part
       (simp (length-replicate, length-take) (omega arith)))
 
-  after-patched : inTurn (heldIn t part) p ≡ true → heldIn (patchBy (heldIn t part) p .table) (partWith (patchBy (heldIn t part) p) part) ≡ patchBy (heldIn t part) p
+  after-patched : heldIn (patchBy (heldIn t part) p .table) (partWith (patchBy (heldIn t part) p) part) ≡ patchBy (heldIn t part) p
   unfolding patchBy
-  after-patched u =
+  after-patched =
       rw (
-        moved-keeps (λ u. u .length) t p refl refl,
-        over-front-of (t .length) (patchBy (heldIn t part) p .entries) part (patched-length (heldIn t part) p u),
+        moved-length t p,
+        over-front-of (t .length) (patchBy (heldIn t part) p .entries) part (patched-length (heldIn t part) p),
       )
 
   refused-fits : 0 + length (brokenBy (heldIn t part) .entries) ≤ length part
@@ -71,14 +72,14 @@ module _ (t : Table) (part : List ℕ) (ttl hops : ℕ) (p : List ℕ) where
 
   pub held-after : heldIn (after .table) (partWith after part) ≡ after
   held-after =
-      each-way (length part) (heldIn t part) ttl hops p (λ u. heldIn (u .table) (partWith u part) ≡ u) after-refused after-reset (λ g u r. after-patched u)
+      each-way (length part) (heldIn t part) ttl hops p (λ u. heldIn (u .table) (partWith u part) ≡ u) after-refused after-reset (λ g u r. after-patched)
 
   -- the part keeps its length, and what is behind the entries stays
   pub keeps-part : length (partWith after part) ≡ length part
   keeps-part =
       over-length 0 (after .entries) part
       (each-way (length part) (heldIn t part) ttl hops p (λ u. 0 + length (u .entries) ≤ length part) refused-fits reset-fits
-      (λ g u r. rw (patched-length (heldIn t part) p u) (omega (arith, length-take (t .length) part))))
+      (λ g u r. rw (patched-length (heldIn t part) p) (omega (arith, length-take (t .length) part))))
 
   pub keeps-behind : drop (length (after .entries)) (partWith after part) ≡ drop (length (after .entries)) part
   keeps-behind = over-behind (after .entries) part

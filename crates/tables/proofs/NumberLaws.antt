@@ -1,8 +1,8 @@
 -- Laws of the numbers of a PATCH, over the bits of a number.
-use Prim.Native.Nat.{ℕ, suc, _+_, _*_, _/_, _%_, _≤_, _<_}
+use Prim.Native.Nat.{ℕ, suc, _+_, _%_, _≤_, _<_}
 use mathlib.Core.Path.{_≡_, refl, sym, ap, _∙_}
 use mathlib.Core.Logic.{⊎-elim}
-use mathlib.Core.Bool.{Bool, true, false, cond, _&&_, false≢true, and-assoc, and-true}
+use mathlib.Core.Bool.{Bool, true, false, _&&_, false≢true, and-assoc, and-true}
 use mathlib.Core.List.{List, [], _∷_, _++_}
 use native.Mathlib.Omega.{arith}
 use native.Mathlib.Numerals.{add-one}
@@ -10,7 +10,7 @@ use lib.Dec.{eqb, leb, ltb}
 use lib.ListN.{length, getD, take, drop, set, length-set, take-append-drop, drop-of-length-le, length-drop}
 use lib.Seq.{length-take-le, drop-drop, drop-cons, take-suc-set, drop-set-lt, append-snoc}
 use borrow.Author.Tests.{eqb-true, ne-eqb, lt-ltb, le-leb, ltb-true, ltb-false, leb-true}
-use Rattle.tables.specs.Patch.{goodBits, numbers, numberCount, gain, loss, fits, sumOf, allFit, added}
+use Rattle.tables.specs.Patch.{goodBits, numbers, gain, loss, fits, sumOf, allFit, added}
 use Rattle.laws.proofs.Chunks.{and-both}
 use Rattle.tables.proofs.TestLaws.{either, both-true, same-test}
 use Rattle.tables.proofs.PatchFacts.{SumWithin, fits-exactly, small-number, large-number, addedAt, addedAt-length, added-twice, fit-twice, allFit-append}
@@ -25,21 +25,6 @@ pub numbers-whole : (bits : ℕ) (bytes : List ℕ) → (bits ≡ 4 → ⊥) →
 unfolding numbers
 numbers-whole bits [] n = refl
 numbers-whole bits (b ∷ bs) n = rw (ne-eqb bits 4 n) (ap (λ l. b ∷ l) (numbers-whole bits bs n))
-
-pub numbers-length : (bits : ℕ) (bytes : List ℕ) → length (numbers bits bytes) ≡ numberCount bits (length bytes)
-unfolding numbers
-numbers-length bits [] = by (eqb bits 4)
-  where
-    by : (t : Bool) → 0 ≡ 0 * cond t 2 1
-    by true = refl
-    by false = refl
-numbers-length bits (b ∷ bs) = by (eqb bits 4) (numbers-length bits bs)
-  where
-    by : (t : Bool)
-        → length (numbers bits bs) ≡ length bs * cond t 2 1
-        → length (cond t (b / 16 ∷ b % 16 ∷ numbers bits bs) (b ∷ numbers bits bs)) ≡ suc (length bs) * cond t 2 1
-    by true h = omega arith
-    by false h = omega arith
 
 -- the test of all numbers from place j on: the one at j, then those from j + 1 on
 pub fit-more : (bits infinity j : ℕ) (vs es : List ℕ) → j < length vs → j < length es

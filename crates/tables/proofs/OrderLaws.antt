@@ -15,12 +15,14 @@ use Rattle.tables.proofs.TestLaws.{both-true, every-true}
 use Rattle.tables.proofs.TurnLaws.{PatchFields, patch-fields, turn-within}
 use Rattle.tables.proofs.AnswerLaws.{each-way}
 
-record Limits (room : ℕ) (t : Table) : Type 0 where
+-- what "in order" says of a table that waits, runs or is settled
+pub record Limits (room : ℕ) (t : Table) : Type 0 where
   pub length : goodLength (t .length) ≡ true
   pub fits : leb (t .length) room ≡ true
   pub infinity : goodInfinity (t .infinity) ≡ true
+  pub position : cond (eqb (t .mark) running) (insideRun t) (betweenRuns t) ≡ true
 
-limits : (room : ℕ) (t : Table) → tableInOrder room t ≡ true → ready (t .mark) ≡ true → Limits room t
+pub limits : (room : ℕ) (t : Table) → tableInOrder room t ≡ true → ready (t .mark) ≡ true → Limits room t
 unfolding tableInOrder
 limits room t o r =
     let w : withinLimits room t ≡ true = rw r at (both-true (leb (t .mark) broken) (not (ready (t .mark)) || withinLimits room t) o .1) in
@@ -32,7 +34,7 @@ limits room t o r =
     ∷ cond (eqb (t .mark) running) (insideRun t) (betweenRuns t)
     ∷ [])
     w in
-    record { length = e .0; fits = e .1 .0; infinity = e .1 .1 .0 }
+    record { length = e .0; fits = e .1 .0; infinity = e .1 .1 .0; position = e .1 .1 .1 .0 }
 
 module _ (room : ℕ) (t : Table) (part : List ℕ) (ttl hops : ℕ) (p : List ℕ) (o : tableInOrder room t ≡ true) where
   order-refused : tableInOrder room (brokenBy (heldIn t part) .table) ≡ true

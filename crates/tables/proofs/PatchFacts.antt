@@ -3,11 +3,11 @@
 -- Assumes nothing.
 use Prim.Native.Nat.{ℕ, zero, suc, _+_, _-_, _*_, _/_, _%_, _^_, _≤_, _<_}
 use mathlib.Core.Path.{_≡_, refl, sym, ap, _∙_}
-use mathlib.Core.Bool.{Bool, true, false, _&&_, false≢true, and-assoc}
+use mathlib.Core.Bool.{Bool, true, false, cond, _&&_, false≢true, and-assoc}
 use mathlib.Core.List.{List, [], _∷_, _++_, append-assoc}
 use mathlib.Core.Logic.{_⊎_, inl, inr, _↔_}
 use native.Mathlib.Omega.{arith}
-use lib.Dec.{leb, ltb}
+use lib.Dec.{eqb, leb, ltb}
 use lib.Arith.{digits-div, digits-mod}
 use borrow.Author.Tests.{ltb-true, ltb-false, leb-true, lt-ltb, le-ltb, le-leb}
 use lib.ListN.{length, getD, take, drop, length-append, length-take, length-drop, take-append-drop}
@@ -30,12 +30,20 @@ abbrev pub Below : ℕ → List ℕ → Type 0
 Below n ns = Each (λ v. v < n) ns
 
 -- how many
-pub count : {bits : ℕ} → Width bits → (d : List ℕ) → length (numbers bits d) ≡ numberCount bits (length d)
+pub numbers-length : (bits : ℕ) (bytes : List ℕ) → length (numbers bits bytes) ≡ numberCount bits (length bytes)
 unfolding numbers
-count four [] = refl
-count four (b ∷ d) = let e : length (numbers 4 d) ≡ length d * 2 = count four d in omega arith
-count eight [] = refl
-count eight (b ∷ d) = let e : length (numbers 8 d) ≡ length d * 1 = count eight d in omega arith
+numbers-length bits [] = by (eqb bits 4)
+  where
+    by : (t : Bool) → 0 ≡ 0 * cond t 2 1
+    by true = refl
+    by false = refl
+numbers-length bits (b ∷ bs) = by (eqb bits 4) (numbers-length bits bs)
+  where
+    by : (t : Bool)
+        → length (numbers bits bs) ≡ length bs * cond t 2 1
+        → length (cond t (b / 16 ∷ b % 16 ∷ numbers bits bs) (b ∷ numbers bits bs)) ≡ suc (length bs) * cond t 2 1
+    by true h = omega arith
+    by false h = omega arith
 
 -- the first four bits of a byte come first
 pub first-bits-first : (b : ℕ) (d : List ℕ) → numbers 4 (b ∷ d) ≡ b / 16 ∷ b % 16 ∷ numbers 4 d

@@ -14,7 +14,7 @@ use Rattle.tables.specs.Patch.{goodBits, numbers, numberCount, allFit}
 use Rattle.tables.specs.Tables.{heldIn, ready, running}
 use Rattle.tables.specs.Updates.{placeIn, sizeIn, bitsIn, numbersIn, isLast, patchTests, turnTests, goodPatch, inTurn, inRange}
 use Rattle.tables.proofs.TestLaws.{every-true}
-use Rattle.tables.proofs.NumberLaws.{numbers-length}
+use Rattle.tables.proofs.PatchFacts.{numbers-length}
 
 -- what a PATCH whose fields are allowed has
 pub record PatchFields (p : List ℕ) : Type 0 where

@@ -2,7 +2,8 @@ use Prim.Native.Nat.{_-_, _*_}
 use native.Mathlib.Omega.{arith}
 use lib.ListN.{length, length-take, length-drop}
 use Rattle.tables.specs.Patch.{numbers}
-use Rattle.tables.proofs.NumberLaws.{Adding, adding-first, adding-end, numbers-length}
+use Rattle.tables.proofs.PatchFacts.{numbers-length}
+use Rattle.tables.proofs.NumberLaws.{Adding, adding-first, adding-end}
 use Rattle.tablereader.proofs.UnpackLaws.{block-fits, block-added}
 use borrow.Author.Needs.{needs}
 use Rattle.tablereader.proofs.numbers.add_nibbles.Statement.{statement}

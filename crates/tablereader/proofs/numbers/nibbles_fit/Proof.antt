@@ -4,7 +4,8 @@ use mathlib.Core.Bool.{_&&_}
 use native.Mathlib.Omega.{arith}
 use lib.ListN.{length, drop, length-take, length-drop}
 use Rattle.tables.specs.Patch.{numbers, allFit}
-use Rattle.tables.proofs.NumberLaws.{testing-end, numbers-length}
+use Rattle.tables.proofs.PatchFacts.{numbers-length}
+use Rattle.tables.proofs.NumberLaws.{testing-end}
 use Rattle.tablereader.proofs.UnpackLaws.{block-tested}
 use borrow.Author.Needs.{needs}
 use Rattle.tablereader.proofs.numbers.nibbles_fit.Statement.{statement}
