@@ -2,16 +2,18 @@
 -- Assumes nothing.
 use Prim.Native.Nat.{ℕ, _≤_}
 use native.Mathlib.Omega.{arith}
-use mathlib.Core.Path.{_≡_, refl, sym, _∙_, subst}
-use mathlib.Core.Bool.{Bool, true, false, not, _&&_, _||_}
+use mathlib.Core.Path.{_≡_, refl, sym, _∙_}
+use mathlib.Core.Bool.{true, false, not, _&&_}
+use mathlib.Core.Logic.{⊎-elim}
 use mathlib.Core.List.{List, _∷_}
 use lib.Dec.{eqb, leb}
 use lib.ListN.{length, getD, length-replicate}
-use borrow.Author.Tests.{leb-true, eqb-true, eqb-false, not-false}
-use Rattle.laws.specs.Tests.{firstOf, every, any}
-use Rattle.laws.proofs.Refusals.{clash, Each, each, NoRefusal, no-refusal, answer-in, refusal-in, and-rest, or-right}
+use borrow.Author.Tests.{ne-eqb, leb-true, eqb-true}
+use Rattle.laws.specs.Tests.{any}
+use Rattle.laws.proofs.Refusals.{Each, each, answer-in, refusal-in, or-right}
 use Rattle.tables.specs.Tables.{Held, lengths, goodLength}
-use Rattle.tables.specs.Updates.{lengthIn, infinityIn, isPatch, resetTests, patchTests, turnTests, goodReset, goodPatch, inTurn, inRange, updateAnswer, updated, resetBy, patchBy, brokenBy, pickHeld}
+use Rattle.tables.specs.Updates.{lengthIn, infinityIn, isPatch, resetTests, patchTests, turnTests, goodReset, goodPatch, inTurn, inRange, updateAnswer, updated, resetBy, patchBy, brokenBy}
+use Rattle.tables.proofs.AnswerLaws.{ways}
 use Rattle.tables.proofs.KeepLaws.{moved-length, patched-length}
 use Rattle.protocol.specs.Outcomes.{unsent}
 use Rattle.protocol.specs.Blind.{updateRules}
@@ -27,44 +29,28 @@ pub record Patches (h : Held) (p : List ℕ) : Type 0 where
   pub turn : Each (turnTests h p)
   pub range : inRange h p ≡ true
 
-reset-of : (room : ℕ) (p : List ℕ) → (goodReset room p || goodPatch p) ≡ true → isPatch p ≡ false → Resets room p
-unfolding goodReset goodPatch
-reset-of room p e v = go (every (resetTests room p)) refl e
-  where
-    go : (b : Bool) → every (resetTests room p) ≡ b → (b || every (patchTests p)) ≡ true → Resets room p
-    go true z f = record { variant = v; tests = each (resetTests room p) z }
-    go false z f = absurd (clash (each (patchTests p) f .1 .0) v)
+resets : (room : ℕ) (p : List ℕ) → goodReset room p ≡ true → Resets room p
+unfolding goodReset
+resets room p e =
+    let t = each (resetTests room p) e in
+    let z : getD p 0 0 ≡ 0 = eqb-true (getD p 0 0) 0 (t .1 .0) in
+    record { variant = ne-eqb (getD p 0 0) 1 (λ y. absurd (omega arith)); tests = t }
 
-patch-of : (room : ℕ) (h : Held) (p : List ℕ) → (goodReset room p || goodPatch p) ≡ true → isPatch p ≡ true → inTurn h p ≡ true → inRange h p ≡ true → Patches h p
-unfolding goodReset goodPatch inTurn
-patch-of room h p e v t r = go (every (resetTests room p)) refl e
-  where
-    go : (b : Bool) → every (resetTests room p) ≡ b → (b || every (patchTests p)) ≡ true → Patches h p
-    go true z f =
-        let a : getD p 0 0 ≡ 0 = eqb-true (getD p 0 0) 0 (each (resetTests room p) z .1 .0) in
-        let b : getD p 0 0 ≡ 1 = eqb-true (getD p 0 0) 1 v in
-        absurd (omega (arith, a, b))
-    go false z f = record { variant = v; tests = each (patchTests p) f; turn = each (turnTests h p) t; range = r }
+patches : (h : Held) (p : List ℕ) → goodPatch p ≡ true → inTurn h p ≡ true → inRange h p ≡ true → Patches h p
+unfolding goodPatch inTurn
+patches h p e u r = let t = each (patchTests p) e in record { variant = t .1 .0; tests = t; turn = each (turnTests h p) u; range = r }
 
 -- an update's answer, with what it leaves: a PATCH or a RESET was accepted, or only the mark is broken
 pub by-update : (P : ℕ → Held → Type 0) (room : ℕ) (h : Held) (ttl hops : ℕ) (p : List ℕ)
     → (Patches h p → P 0 (patchBy h p)) → (Resets room p → P 0 (resetBy p)) → ((n : ℕ) → (n ≡ 0 → ⊥) → P n (brokenBy h))
     → P (updateAnswer room h ttl hops p) (updated room h ttl hops p)
-unfolding updated updateAnswer
-by-update P room h ttl hops p f g b = go (firstOf (updateRules room h ttl hops p)) refl (eqb (firstOf (updateRules room h ttl hops p)) 0) refl (isPatch p) refl
-  where
-    go : (n : ℕ) → firstOf (updateRules room h ttl hops p) ≡ n → (a : Bool) → eqb n 0 ≡ a → (i : Bool) → isPatch p ≡ i
-        → P n (pickHeld a (pickHeld i (patchBy h p) (resetBy p)) (brokenBy h))
-    go n e false z i w = b n (eqb-false n 0 z)
-    go n e true z true w =
-        let y : n ≡ 0 = eqb-true n 0 z in
-        let q : NoRefusal (updateRules room h ttl hops p) = no-refusal (updateRules room h ttl hops p) refl (e ∙ y) in
-        subst (λ (k : ℕ). P k (patchBy h p)) (sym y)
-        (f (patch-of room h p (not-false (goodReset room p || goodPatch p) (q .1 .0)) w (and-rest (isPatch p) (inTurn h p) (q .1 .1 .0) w) (and-rest (isPatch p) (inRange h p) (q .1 .1 .1 .0) w)))
-    go n e true z false w =
-        let y : n ≡ 0 = eqb-true n 0 z in
-        let q : NoRefusal (updateRules room h ttl hops p) = no-refusal (updateRules room h ttl hops p) refl (e ∙ y) in
-        subst (λ (k : ℕ). P k (resetBy p)) (sym y) (g (reset-of room p (not-false (goodReset room p || goodPatch p) (q .1 .0)) w))
+by-update P room h ttl hops p f g b =
+    ⊎-elim
+    (λ w. rw (w .left) (b (updateAnswer room h ttl hops p) (w .number)))
+    (⊎-elim
+    (λ w. rw (w .number, w .left) (g (resets room p (w .fields))))
+    (λ w. rw (w .number, w .left) (f (patches h p (w .fields) (w .turn) (w .range)))))
+    (ways room h ttl hops p)
 
 -- its answer is never 1 to 5
 pub update-sent : (room : ℕ) (h : Held) (ttl hops : ℕ) (p : List ℕ) → not (unsent (updateAnswer room h ttl hops p)) ≡ true
