@@ -23,7 +23,7 @@ use Rattle.protocol.specs.Lines.{isOther}
 use Rattle.protocol.specs.Queries.{usualLimit, textIn, lifeOf, passes, goesOn}
 use Rattle.protocol.specs.Expected.{Expected}
 use Rattle.protocol.specs.History.{Update, beforeReset, beforeRun, insideRun, spoiled, speaks}
-use Rattle.protocol.specs.Demand3.{halvings, bitsOf, entryIn, Stopped, Withheld, lifeLeft, MayGo, Forwarded}
+use Rattle.protocol.specs.Demand3.{halvings, bitsOf, entryFor, Stopped, Withheld, lifeLeft, MayGo, Forwarded}
 use Rattle.protocol.proofs.Updates.{Sound}
 
 -- what `halvings` finds
@@ -96,20 +96,17 @@ module _ {A : Type 0} (f : A → Bool) (P : A → Type 0) (e : (x : A) → (f x 
 
 -- a table that is expected and sound
 module _ (room : ℕ) (e : Expected) (sound : Sound room (e .held)) where
-  abbrev entryFor : List ℕ → ℕ
-  entryFor k = entryIn (e .held .entries) (length (e .held .entries)) k
-
-  entry-same : (k : List ℕ) → entryOf (e .held) (hashOf k) ≡ entryFor k
+  entry-same : (k : List ℕ) → entryOf (e .held) (hashOf k) ≡ entryFor e k
   entry-same k =
       ap (λ i. getD (e .held .entries) i 0) (scaled-place (e .held .table .length) k (sound .good) ∙ ap (λ n. placeOf (bitsOf n) k) (sym (sound .full)))
 
   far-iff : (ttl : ℕ) (k : List ℕ)
-      → (far (e .held .table .infinity) ttl (entryOf (e .held) (hashOf k)) ≡ true) ↔ ((entryFor k ≡ e .held .table .infinity) ⊎ (ttl < entryFor k))
+      → (far (e .held .table .infinity) ttl (entryOf (e .held) (hashOf k)) ≡ true) ↔ ((entryFor e k ≡ e .held .table .infinity) ⊎ (ttl < entryFor e k))
   far-iff ttl k =
       rw (entry-same k)
-      (or-iff (eqb (entryFor k) (e .held .table .infinity)) (ltb ttl (entryFor k))
-      (eqb-true (entryFor k) (e .held .table .infinity), eq-eqb (entryFor k) (e .held .table .infinity))
-      (ltb-true ttl (entryFor k), lt-ltb ttl (entryFor k)))
+      (or-iff (eqb (entryFor e k) (e .held .table .infinity)) (ltb ttl (entryFor e k))
+      (eqb-true (entryFor e k) (e .held .table .infinity), eq-eqb (entryFor e k) (e .held .table .infinity))
+      (ltb-true ttl (entryFor e k), lt-ltb ttl (entryFor e k)))
 
   withheld-iff : (text : List ℕ) (ttl : ℕ) → (withholds (e .held) (keywordsOf text) ttl ≡ true) ↔ Withheld e text ttl
   unfolding withholds
@@ -117,7 +114,7 @@ module _ (room : ℕ) (e : Expected) (sound : Sound room (e .held)) where
       and-iff (eqb (e .held .table .mark) settled) (any (λ k. far (e .held .table .infinity) ttl (entryOf (e .held) (hashOf k))) (keywordsOf text))
       (eqb-true (e .held .table .mark) settled, eq-eqb (e .held .table .mark) settled)
       (any-iff (λ k. far (e .held .table .infinity) ttl (entryOf (e .held) (hashOf k)))
-      (λ k. (entryFor k ≡ e .held .table .infinity) ⊎ (ttl < entryFor k))
+      (λ k. (entryFor e k ≡ e .held .table .infinity) ⊎ (ttl < entryFor e k))
       (far-iff ttl)
       (keywordsOf text))
 
@@ -142,30 +139,29 @@ module _ (room : ℕ) (e : Expected) (sound : Sound room (e .held)) where
       )
 
   -- so the expected table withholds in no quiet period, and otherwise exactly what some keyword stops
-  module _ (us : List Update) (told : eqb (e .held .table .mark) settled ≡ speaks us) where
-    module _ (may : Type 0) (text : List ℕ) (ttl : ℕ) (sent : Bool)
-        (x : (sent ≡ true) ↔ (may × (Withheld e text ttl → ⊥))) where
-      quiet-sent : (beforeReset us || (spoiled us || (beforeRun us || insideRun us))) ≡ true → may → sent ≡ true
-      quiet-sent z m = x .1 (m, λ v. clash (sym told ∙ eq-eqb (e .held .table .mark) settled (v .0)) (ap not z))
+  module _ (us : List Update) (told : eqb (e .held .table .mark) settled ≡ speaks us)
+      (may : Type 0) (text : List ℕ) (ttl : ℕ) (sent : Bool) (x : (sent ≡ true) ↔ (may × (Withheld e text ttl → ⊥))) where
+    quiet-sent : (beforeReset us || (spoiled us || (beforeRun us || insideRun us))) ≡ true → may → sent ≡ true
+    quiet-sent z m = x .1 (m, λ v. clash (sym told ∙ eq-eqb (e .held .table .mark) settled (v .0)) (ap not z))
 
-      stopped-iff : speaks us ≡ true → may → (sent ≡ false) ↔ Stopped e text ttl
-      stopped-iff s m = ((λ z. stops z (withholds (e .held) (keywordsOf text) ttl) refl), (λ k. unsends k sent refl))
-        where
-          stops : sent ≡ false → (b : Bool) → withholds (e .held) (keywordsOf text) ttl ≡ b → Stopped e text ttl
-          stops z true y = withheld-iff text ttl .0 y .1
-          stops z false y = absurd (clash (x .1 (m, λ v. clash (withheld-iff text ttl .1 v) y)) z)
+    stopped-iff : speaks us ≡ true → may → (sent ≡ false) ↔ Stopped e text ttl
+    stopped-iff s m = ((λ z. stops z (withholds (e .held) (keywordsOf text) ttl) refl), (λ k. unsends k sent refl))
+      where
+        stops : sent ≡ false → (b : Bool) → withholds (e .held) (keywordsOf text) ttl ≡ b → Stopped e text ttl
+        stops z true y = withheld-iff text ttl .0 y .1
+        stops z false y = absurd (clash (x .1 (m, λ v. clash (withheld-iff text ttl .1 v) y)) z)
 
-          unsends : Stopped e text ttl → (b : Bool) → sent ≡ b → sent ≡ false
-          unsends k true y = absurd (x .0 y .1 (eqb-true (e .held .table .mark) settled (told ∙ s), k))
-          unsends k false y = y
+        unsends : Stopped e text ttl → (b : Bool) → sent ≡ b → sent ≡ false
+        unsends k true y = absurd (x .0 y .1 (eqb-true (e .held .table .mark) settled (told ∙ s), k))
+        unsends k false y = y
 
-      pub forwarded : Forwarded e us may text ttl sent
-      forwarded =
-          record {
-            exactly = x;
-            noReset = λ z. quiet-sent (or-left (beforeReset us) _ z);
-            noRun = λ z. quiet-sent (or-right (beforeReset us) _ (or-right (spoiled us) _ (or-left (beforeRun us) _ z)));
-            midRun = λ z. quiet-sent (or-right (beforeReset us) _ (or-right (spoiled us) _ (or-right (beforeRun us) _ z)));
-            afterRefusal = λ z. quiet-sent (or-right (beforeReset us) _ (or-left (spoiled us) _ z));
-            otherwise = stopped-iff;
-          }
+    pub forwarded : Forwarded e us may text ttl sent
+    forwarded =
+        record {
+          exactly = x;
+          noReset = λ z. quiet-sent (or-left (beforeReset us) _ z);
+          noRun = λ z. quiet-sent (or-right (beforeReset us) _ (or-right (spoiled us) _ (or-left (beforeRun us) _ z)));
+          midRun = λ z. quiet-sent (or-right (beforeReset us) _ (or-right (spoiled us) _ (or-right (beforeRun us) _ z)));
+          afterRefusal = λ z. quiet-sent (or-right (beforeReset us) _ (or-left (spoiled us) _ z));
+          otherwise = stopped-iff;
+        }

@@ -53,7 +53,10 @@ abbrev pub Stops : List ℕ → (n infinity : ℕ) → List ℕ → ℕ → Type
 Stops es n infinity text ttl =
     (k : List ℕ) × List·Memᴰ k (keywordsOf text) × ((entryIn es n k ≡ infinity) ⊎ (ttl < entryIn es n k))
 
--- of what is expected
+-- both, of what is expected
+abbrev pub entryFor : Expected → List ℕ → ℕ
+entryFor e = entryIn (e .held .entries) (length (e .held .entries))
+
 abbrev pub Stopped : Expected → List ℕ → ℕ → Type 0
 Stopped e = Stops (e .held .entries) (length (e .held .entries)) (e .held .table .infinity)
 
