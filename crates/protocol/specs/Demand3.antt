@@ -3,17 +3,18 @@
 -- state in order with line L closed, over any route area. `Claimed` speaks of each place of that list, its end among them.
 -- What is expected of a line, document 01's slate, is specs/Expected; the updates of its opening are specs/History.
 -- The sentences of the demand, in our words, and what carries each:
---   a call gets the state that the last one left .. the area as it was left or one of another room: Runs `run`, `Fair`
+--   a call gets the state that the last one left, and the area so, or one of another room: Runs `run`, `Fair`
 --   the updates of L are answered as expected: `Agrees`, the first part for a message
 --   those refused by 1 to 5 count as unsent: Expected `fed`, History `noted`
---   its table stands as expected, the mark, and length, Infinity and entries while there are any: `Stands`, live to closed
+--   its table stands as expected, mark, and length, Infinity and entries while there are any: `Stands`, live to closed
 --   each entry is Infinity plus the sum of its numbers accepted since the last accepted RESET: `Stands`, sums
---   a query answered 0 goes on to L exactly if the rules of queries, read with what is expected, say so: `Forwarded`, exactly
+--   a query answered 0 goes on to L exactly if the rules of queries, read with this, say so: `Forwarded`, exactly
 --   no query that goes on is withheld before any accepted RESET of the opening: `Forwarded`, noReset
 --   nor before a first finished run since the last accepted RESET: `Forwarded`, noRun
 --   nor inside a later run: `Forwarded`, midRun
 --   nor from an update refused by 14, 15 or 16 to the next accepted RESET: `Forwarded`, afterRefusal
---   otherwise one is withheld exactly if some keyword's entry is Infinity or exceeds the TTL to be sent: `Forwarded`, otherwise
+--   otherwise one is withheld exactly if some keyword's entry is Infinity or exceeds the TTL to be sent:
+--     `Forwarded`, otherwise
 --   and the mark is settled exactly outside those four periods: `Stands`, speaking
 use Prim.Native.Nat.{ℕ, zero, suc, _-_, _*_, _/_, _≤_, _<_, min}
 use mathlib.Core.Path.{_≡_}
