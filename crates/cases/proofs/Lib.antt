@@ -1,2 +1,3 @@
 -- Every case holds.
 pub mod Cases
+pub mod Precedence

@@ -3,3 +3,4 @@ pub mod CutLaws
 pub mod HashLaws
 pub mod PlaceLaws
 pub mod Vectors
+pub mod Cutting

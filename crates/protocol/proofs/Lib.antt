@@ -19,3 +19,4 @@ pub mod Back
 pub mod LateHits
 pub mod Numbers
 pub mod Blind
+pub mod Extent

@@ -15,3 +15,4 @@ pub mod Demand2
 pub mod Periods
 pub mod Kept
 pub mod Blind
+pub mod Extent

@@ -6,3 +6,4 @@ pub mod Listing
 pub mod Acting
 pub mod Writing
 pub mod Logged
+pub mod Claims

@@ -3,3 +3,4 @@ pub mod Files
 pub mod Rows
 pub mod Put
 pub mod Text
+pub mod Claims

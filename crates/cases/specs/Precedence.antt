@@ -1,0 +1,102 @@
+-- The order of refusals, by calls that deserve two numbers: each is answered by the one that comes first. One list, over the definitions that
+-- the contracts cite; a rule that takes another's place in definition and code alike makes a row of it wrong.
+use Prim.Native.Nat.{ℕ}
+use mathlib.Core.Path.{_≡_}
+use mathlib.Core.Bool.{Bool, true, false}
+use mathlib.Core.List.{List, [], _∷_, _++_}
+use lib.Dec.{eqb}
+use lib.ListN.{replicate, take}
+use Rattle.laws.specs.Tests.{all}
+use Rattle.wire.specs.Header.{header, message}
+use Rattle.protocol.specs.declared.Station.{Station}
+use Rattle.protocol.specs.Outcomes.{Outcome}
+use Rattle.protocol.specs.Calls.{fresh}
+use Rattle.protocol.specs.Runs.{Call, Open, Close, Message, Ask, Area, Same, Other, World, run, start, outcomeOf}
+use Rattle.cases.specs.Cases.{begun, own, output, number, update, query, p1, p2, p4, eb, opened, waits}
+
+-- after some calls, a call is answered by this number
+pub record Answer : Type 0 where
+  pub before : List Call
+  pub call : Call
+  pub number : ℕ
+
+abbrev pub row : List Call → Call → ℕ → Answer
+row before call number = record { before = before; call = call; number = number }
+
+abbrev pub isAnswered : Answer → Bool
+isAnswered a = eqb (outcomeOf (run begun (a .before)) (a .call) .answer) (a .number)
+
+-- bytes that arrive by a line at a clock, with areas that fit
+abbrev pub by : ℕ → ℕ → List ℕ → Call
+by line clock m = Message line clock own m output Same
+
+-- a header that says n bytes of payload, and no payload
+abbrev pub bare : ℕ → ℕ → ℕ → ℕ → List ℕ
+bare kind ttl hops n = header number kind ttl hops n
+
+unfoldable pub hit : ℕ → ℕ → ℕ → List ℕ
+hit size ttl hops = message number 0x81 ttl hops (replicate size 7)
+
+unfoldable pub ping : ℕ → ℕ → List ℕ
+ping ttl hops = message number 0x00 ttl hops []
+
+-- a query with the number of all these messages has come by line 0, or was asked here
+unfoldable pub came : List Call
+came = opened ++ (by 0 0 (query 3 1 eb) ∷ [])
+
+unfoldable pub asked : List Call
+asked = opened ++ (Ask number eb output Same ∷ [])
+
+unfoldable pub precedence : List Answer
+precedence =
+    -- areas before the line: the output area, a route area that is too short, and one of another room, each with no such line
+    row opened (Message 8 0 own (query 3 1 eb) 4118 Same) 2
+    ∷ row opened (Message 8 0 own (query 3 1 eb) output (Other (replicate 31 0))) 2
+    ∷ row opened (Message 2 0 own (query 3 1 eb) output (Other (replicate 40 0))) 2
+    -- the line before the extent: a line over 7, and a closed one, with no byte
+    ∷ row opened (by 8 0 []) 3
+    ∷ row opened (by 2 0 []) 3
+    -- no whole header before the payload's size: 22 bytes that begin to say a large one
+    ∷ row opened (by 0 0 (take 22 (bare 0x80 3 1 0xFFFFFF))) 4
+    -- the payload's size before its bytes: a header alone that says 4,097, and 4,096
+    ∷ row opened (by 0 0 (bare 0x80 3 1 4097)) 5
+    ∷ row opened (by 0 0 (bare 0x80 3 1 4096)) 4
+    -- extent before type, and type before all else
+    ∷ row opened (by 0 0 (bare 0x05 0 0 1)) 4
+    ∷ row opened (by 0 0 (bare 0x05 0 0 4097)) 5
+    ∷ row opened (by 0 0 (bare 0x05 0 255 0)) 7
+    -- queries: text, then TTL and Hops, then the number
+    ∷ row came (by 0 0 (message number 0x80 0 9 (0 ∷ 0 ∷ 0x65 ∷ []))) 6
+    ∷ row came (by 0 0 (query 16 0 eb)) 8
+    ∷ row came (by 0 0 (query 3 255 eb)) 8
+    ∷ row came (by 0 0 (query 3 1 eb)) 9
+    -- hits: size, TTL 0, not remembered, gone, delivered, TTL 1, Hops 255
+    ∷ row opened (by 0 0 (hit 26 0 0)) 6
+    ∷ row opened (by 0 0 (hit 27 0 0)) 8
+    ∷ row opened (by 0 0 (hit 27 1 255)) 10
+    ∷ row (came ++ (Close 0 ∷ [])) (by 1 0 (hit 27 1 255)) 11
+    ∷ row asked (by 0 0 (hit 27 1 255)) 0
+    ∷ row came (by 1 0 (hit 27 1 255)) 8
+    ∷ row came (by 1 0 (hit 27 2 255)) 12
+    -- pings: TTL 0 before too soon; pongs: size before TTL and Hops
+    ∷ row (opened ++ (by 0 5 (ping 7 0) ∷ [])) (by 0 6 (ping 0 0)) 8
+    ∷ row opened (by 0 0 (message number 0x01 0 9 (replicate 13 0))) 6
+    -- updates: fields, then turn, then sums
+    ∷ row opened (by 1 0 (update (1 ∷ 1 ∷ 1 ∷ 1 ∷ 4 ∷ 9 ∷ 9 ∷ []))) 14
+    ∷ row waits (by 1 0 (update (1 ∷ 2 ∷ 2 ∷ 0 ∷ 4 ∷ 0x10 ∷ []))) 15
+    ∷ row waits (by 1 0 (update p4)) 16
+    -- own queries: areas, length, a zero byte, the number
+    ∷ row came (Ask number (replicate 4094 0) 4118 Same) 2
+    ∷ row came (Ask number (replicate 4094 0) output Same) 5
+    ∷ row came (Ask number (replicate 4093 0) output Same) 6
+    ∷ row came (Ask number eb output Same) 9
+    -- openings and closings: any line over 7; opened twice, closed twice
+    ∷ row opened (Open 8) 3
+    ∷ row opened (Open 0) 3
+    ∷ row opened (Close 8) 3
+    ∷ row opened (Close 2) 3
+    ∷ []
+
+-- each is so answered
+abbrev pub Precedence : Type 0
+Precedence = all isAnswered precedence ≡ true
