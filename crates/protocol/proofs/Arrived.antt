@@ -3,14 +3,14 @@
 use Prim.Native.Nat.{ℕ, _+_, _/_, _≤_, _<_}
 use native.Mathlib.Omega.{arith}
 use mathlib.Core.Path.{_≡_, refl, sym, ap, _∙_}
-use mathlib.Core.Bool.{Bool, true, false, cond, not, _&&_, _||_}
+use mathlib.Core.Bool.{Bool, true, false, cond, not, _||_}
 use mathlib.Core.Logic.{inl, inr, ⊎-elim}
 use mathlib.Core.List.{List, [], _∷_}
 use lib.Dec.{eqb, leb, ltb}
 use lib.ListN.{length}
 use borrow.Author.Tests.{leb-true, le-leb, leb-false, lt-ltb, ltb-false, le-ltb, eqb-true, eqb-false, eq-eqb, not-true, not-false}
 use Rattle.laws.specs.Tests.{firstOf}
-use Rattle.laws.proofs.Refusals.{clash, and-fst, and-snd, or-fst, or-snd, no-refusal, NoRefusal}
+use Rattle.laws.proofs.Refusals.{and-fst, and-snd, or-fst, or-snd, no-refusal, NoRefusal}
 use Rattle.wire.specs.Header.{kindOf, ttlOf, hopsOf, sizeOf, payloadOf, routeUpdate}
 use Rattle.protocol.specs.declared.Station.{Station}
 use Rattle.protocol.specs.declared.Own.{Own}

@@ -1,6 +1,6 @@
 -- Demand 2, proved: each call of a list is routed as its log says.
 -- Assumes nothing.
-use Prim.Native.Nat.{ℕ, _+_, _-_, _≤_, _<_}
+use Prim.Native.Nat.{ℕ, _+_, _-_, _≤_}
 use native.Mathlib.Omega.{arith}
 use mathlib.Core.Path.{_≡_, refl, sym, ap, _∙_}
 use mathlib.Core.Bool.{Bool, true, false, cond, not, _&&_, _||_}
@@ -39,7 +39,8 @@ use Rattle.protocol.proofs.Origins.{known, unknown-of, known-if, SameLo
 use Rattle.protocol.proofs.Arrived.{none-refused, answer-taken, areas-of, areas-fit, arrived-of, none-early, by-type, sent-if-arrived, by-ping, by-pong, by-query, by-hit}
 use Rattle.protocol.proofs.Written.{writes-none, writes-one, writes-choice}
 use Rattle.protocol.proofs.Opened.{silent-of, open-routed, close-routed}
-use Rattle.protocol.proofs.Pinged.{ping-routed, pong-routed, ping-noHit}
+use Rattle.protocol.proofs.Pinged.{ping-routed, pong-routed}
+use Rattle.protocol.proofs.PongBytes.{ping-noHit}
 
 -- Answers of refusals: one before the last of a list
 skip : (b : Bool) (n r k : ℕ) → (n ≡ k → ⊥) → cond b n r ≡ k → (b ≡ false) × (r ≡ k)

@@ -17,6 +17,7 @@ pub mod Arrived
 pub mod Written
 pub mod Opened
 pub mod Pinged
+pub mod PongBytes
 pub mod Demand2
 pub mod Gone
 pub mod Back

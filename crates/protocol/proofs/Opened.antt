@@ -17,11 +17,11 @@ use Rattle.protocol.specs.declared.Station.{Station}
 use Rattle.protocol.specs.Memory.{remembered}
 use Rattle.protocol.specs.Lines.{lineCount, emptyLine, lineAt, withLine, storedPongs}
 use Rattle.protocol.specs.Order.{inOrder}
-use Rattle.protocol.specs.Outcomes.{Outcome, quiet, refusedOr}
+use Rattle.protocol.specs.Outcomes.{Outcome, quiet}
 use Rattle.protocol.specs.Calls.{openingRules, opening, closedState, closingRules, closing}
 use Rattle.protocol.specs.Kept.{Sized}
 use Rattle.protocol.specs.Frames.{Bare, Beside, Silent}
-use Rattle.protocol.specs.Opened.{goneBy, Turned, TurnAnswered, OpenRouted, CloseRouted}
+use Rattle.protocol.specs.Opened.{goneBy, Renewed, LineAnswered, OpenRouted, CloseRouted}
 use Rattle.protocol.proofs.Outcomes.{of-refused}
 use Rattle.protocol.proofs.Memory.{remembered-left}
 use Rattle.protocol.proofs.Matching.{line-set, line-other}
@@ -60,8 +60,8 @@ module _ (s : Station) (l : ℕ) (must bad : Bool) (good : (bad ≡ false) ↔ (
   abbrev test : Bool
   test = not (ltb l lineCount) || bad
 
-  turn-answered : (o : Outcome) → o .answer ≡ cond test 3 0 → Silent o → TurnAnswered must s l o
-  turn-answered o e q =
+  line-answered : (o : Outcome) → o .answer ≡ cond test 3 0 → Silent o → LineAnswered must s l o
+  line-answered o e q =
       record {
         taken = (
           (λ z. let t = choice-zero test (sym e ∙ z) in
@@ -84,7 +84,7 @@ module _ (s : Station) (z : Sized s) (o : inOrder s ≡ true) (l : ℕ) where
   below : l ≤ 7 → l < length (s .lines)
   below h = omega (arith, z .eight)
 
-  opened : l ≤ 7 → Turned true l (remembered s) s (withLine s l (emptyLine true))
+  opened : l ≤ 7 → Renewed true l (remembered s) s (withLine s l (emptyLine true))
   opened h =
       record {
         line = bare-at true (lineAt (withLine s l (emptyLine true)) l) (line-set s l (emptyLine true) (below h));
@@ -92,7 +92,7 @@ module _ (s : Station) (z : Sized s) (o : inOrder s ≡ true) (l : ℕ) where
         memory = same-memory s l (emptyLine true);
       }
 
-  closed : l ≤ 7 → Turned false l (map (goneBy l) (remembered s)) s (closedState s l)
+  closed : l ≤ 7 → Renewed false l (map (goneBy l) (remembered s)) s (closedState s l)
   closed h =
       record {
         line = bare-at false (lineAt (closedState s l) l) (line-set s l (emptyLine false) (below h));
@@ -126,7 +126,7 @@ module _ (s : Station) (z : Sized s) (o : inOrder s ≡ true) (l : ℕ) where
   unfolding opening
   open-routed =
       record {
-        answered = turn-answered s l false (lineAt s l .live) ((λ e. e), (λ e. e)) ((λ e. e), (λ e. e)) (opening s l) opening-answer opening-silent;
+        answered = line-answered s l false (lineAt s l .live) ((λ e. e), (λ e. e)) ((λ e. e), (λ e. e)) (opening s l) opening-answer opening-silent;
         leaves = λ h e. let b : l < 8 = omega arith in rw (o, lt-ltb l 8 b, e) (opened h);
       }
 
@@ -134,6 +134,6 @@ module _ (s : Station) (z : Sized s) (o : inOrder s ≡ true) (l : ℕ) where
   unfolding closing
   close-routed =
       record {
-        answered = turn-answered s l true (not (lineAt s l .live)) (not-false (lineAt s l .live), (λ e. rw e)) (not-true (lineAt s l .live), (λ e. rw e)) (closing s l) closing-answer closing-silent;
+        answered = line-answered s l true (not (lineAt s l .live)) (not-false (lineAt s l .live), (λ e. rw e)) (not-true (lineAt s l .live), (λ e. rw e)) (closing s l) closing-answer closing-silent;
         leaves = λ h e. let b : l < 8 = omega arith in rw (o, lt-ltb l 8 b, e) (closed h);
       }

@@ -1,42 +1,34 @@
 -- Elapsed time; pings and pongs that have arrived; and the bytes of the pongs that answer a ping.
 -- Assumes nothing.
-use Prim.Native.Nat.{ℕ, zero, suc, _+_, _-_, _%_, _^_, _≤_, _<_, max}
-use native.Mathlib.Nat.{mod-lt}
+use Prim.Native.Nat.{ℕ, _+_, _≤_, _<_, max}
 use native.Mathlib.Omega.{arith}
 use mathlib.Core.Path.{_≡_, refl, sym, ap, ap₂, _∙_}
 use mathlib.Core.Bool.{Bool, true, false, cond, not, _&&_, _||_}
 use mathlib.Core.Logic.{_↔_, _⊎_, inl, inr, ⊎-elim}
 use mathlib.Core.List.{List, [], _∷_, _++_, map, append-nil}
 use lib.Dec.{eqb, leb, ltb}
-use lib.ListN.{length, getD, take, set, length-append, length-take}
-use lib.Seq.{set-getD, length-take-le}
-use borrow.Author.Tests.{leb-true, le-leb, lt-leb, leb-false, ltb-true, lt-ltb, ltb-false, le-ltb, eqb-true, eqb-false, eq-eqb, ne-eqb, not-true, not-false}
+use lib.ListN.{length, getD}
+use lib.Seq.{set-getD}
+use borrow.Author.Tests.{leb-true, le-leb, ltb-true, lt-ltb, ltb-false, le-ltb, eqb-true, eqb-false, eq-eqb, ne-eqb}
 use Rattle.laws.specs.Tests.{firstOf, all}
-use Rattle.laws.specs.Bytes.{littleBytes}
-use Rattle.laws.specs.Ring.{keptPlaces}
-use Rattle.laws.proofs.Refusals.{clash, and-fst, and-snd, and-intro, or-fst, or-snd, or-split, or-left, or-right, of-choice, all-getD, all-take, all-weaken, all-map}
-use Rattle.wire.specs.Header.{kindOf, ttlOf, hopsOf, sizeOf, payloadOf, numberOf, message}
-use Rattle.protocol.specs.declared.Pong.{Pong}
+use Rattle.laws.proofs.Refusals.{clash, and-fst, and-snd, and-intro, or-fst, or-snd, or-split, or-left, or-right, all-getD}
+use Rattle.wire.specs.Header.{ttlOf, hopsOf, sizeOf, numberOf, message}
 use Rattle.protocol.specs.declared.Line.{Line}
 use Rattle.protocol.specs.declared.Station.{Station}
 use Rattle.protocol.specs.declared.Own.{Own}
-use Rattle.protocol.specs.Memory.{remembered}
-use Rattle.protocol.specs.Lines.{lineNumbers, isOther, nowhere, lineAt, withLine, pingedAt, withPong, pongCapacity, storedPongs, elapsed, ElapsedIs, ElapsedRight, ElapsedPoints}
+use Rattle.protocol.specs.Lines.{nowhere, lineAt, withLine, pingedAt, withPong, pongCapacity, storedPongs, elapsed, ElapsedRight, ElapsedPoints}
 use Rattle.protocol.specs.Order.{inOrder}
-use Rattle.protocol.specs.Outcomes.{Outcome, quiet, refusedOr, nobody, onlyTo}
-use Rattle.protocol.specs.Pings.{isProbe, tooSoon, ranked, keepIf, flat, walk, isFresh, storedSent, pongBytes, ownPong, ownSent, pongsSent, afterPing, pingRules, pingTaken, pingOutcome, pongRules, arrivedPong, pongOutcome}
+use Rattle.protocol.specs.Outcomes.{Outcome, quiet, nobody, onlyTo}
+use Rattle.protocol.specs.Pings.{isProbe, tooSoon, flat, storedSent, pongBytes, ownPong, pongsSent, pingRules, pingTaken, pingOutcome, pongRules, arrivedPong, pongOutcome}
 use Rattle.protocol.specs.Kept.{Sized, sizedLine}
-use Rattle.protocol.specs.Arrived.{Arrived}
-use Rattle.protocol.specs.Frames.{Beside, Silent}
-use Rattle.protocol.specs.Written.{Part, Writes, NoHit}
+use Rattle.protocol.specs.Frames.{Silent}
 use Rattle.protocol.specs.Pinged.{ProbeTaken, Soon, TimeKept, OtherPing, PingRouted, PongStored, PongRouted}
 use Rattle.protocol.proofs.Outcomes.{of-refused, eachLine-at}
 use Rattle.protocol.proofs.InOrder.{LineFacts, facts-at}
 use Rattle.protocol.proofs.Memory.{stored-newest}
-use Rattle.protocol.proofs.Matching.{line-set, line-other}
+use Rattle.protocol.proofs.Matching.{line-set}
 use Rattle.protocol.proofs.Arrived.{answer-taken}
 use Rattle.protocol.proofs.Opened.{silent-of, beside-set, same-memory}
-use Rattle.protocol.proofs.Written.{all-append, writes-none, writes-one, writes-append, writes-choice}
 
 -- elapsed time
 pub elapsed-right : ElapsedRight
@@ -275,89 +267,3 @@ module _ (s : Station) (z : Sized s) (o : inOrder s ≡ true) (l : ℕ) (l≤7 :
         stored = stored-pong;
         silent = pong-silent;
       }
-
--- The bytes of pongs. A stored pong has 14 bytes at most
-abbrev fits : Pong → Bool
-fits p = leb (length (p .bytes)) 14
-
-all-of : {A : Type 0} (f : A → Bool) → ((x : A) → f x ≡ true) → (xs : List A) → all f xs ≡ true
-all-of f h [] = refl
-all-of f h (x ∷ xs) = and-intro (f x) (all f xs) (h x) (all-of f h xs)
-
-getD-any : {A : Type 0} (f : A → Bool) (d : A) → f d ≡ true → (xs : List A) (i : ℕ) → all f xs ≡ true → f (getD xs i d) ≡ true
-getD-any f d e [] i h = e
-getD-any f d e (x ∷ xs) zero h = and-fst (f x) (all f xs) h
-getD-any f d e (x ∷ xs) (suc i) h = getD-any f d e xs i (and-snd (f x) (all f xs) h)
-
-fits-stored : (x : Line) → all fits (x .pongs) ≡ true → all fits (storedPongs x) ≡ true
-unfolding storedPongs
-fits-stored x h =
-    let d : Pong = record { bytes = []; hops = 0; clock = 0 } in
-    all-map (λ p. getD (x .pongs) p d) fits (keptPlaces pongCapacity (x .pongnext) (x .pongcount))
-    ∙ all-of (λ p. fits (getD (x .pongs) p d)) (λ p. getD-any fits d refl (x .pongs) p h) (keptPlaces pongCapacity (x .pongnext) (x .pongcount))
-
-fits-ranked : (r : ℕ) (ps : List Pong) → all fits ps ≡ true → all fits (ranked r ps) ≡ true
-fits-ranked r [] h = refl
-fits-ranked zero (p ∷ ps) h = and-intro (fits p) true (and-fst (fits p) (all fits ps) h) refl
-fits-ranked (suc r) (p ∷ ps) h = fits-ranked r ps (and-snd (fits p) (all fits ps) h)
-
-fits-flat : {A : Type 0} (g : A → List Pong) → ((x : A) → all fits (g x) ≡ true) → (xs : List A) → all fits (flat (map g xs)) ≡ true
-fits-flat g h [] = refl
-fits-flat g h (x ∷ xs) = all-append fits (g x) (flat (map g xs)) (h x) (fits-flat g h xs)
-
-fits-kept : (f : Pong → Bool) (ps : List Pong) → all fits ps ≡ true → all fits (keepIf f ps) ≡ true
-fits-kept f [] h = refl
-fits-kept f (p ∷ ps) h =
-    of-choice (λ (qs : List Pong). all fits qs ≡ true) (f p) (p ∷ keepIf f ps) (keepIf f ps)
-    (λ _. and-intro (fits p) (all fits (keepIf f ps)) (and-fst (fits p) (all fits ps) h) (fits-kept f ps (and-snd (fits p) (all fits ps) h)))
-    (λ _. fits-kept f ps (and-snd (fits p) (all fits ps) h))
-
-module _ (s : Station) (z : Sized s) where
-  fits-line : (k : ℕ) → all fits (storedPongs (lineAt s k)) ≡ true
-  fits-line k =
-      fits-stored (lineAt s k)
-      (getD-any (λ (x : Line). all fits (x .pongs)) nowhere refl (s .lines) k
-      (all-weaken sizedLine (λ x. all fits (x .pongs)) (s .lines)
-      (λ x e. all-weaken (λ p. eqb (length (p .bytes)) 14) fits (x .pongs)
-      (λ p q. let n : length (p .bytes) ≡ 14 = eqb-true (length (p .bytes)) 14 q in le-leb (length (p .bytes)) 14 (omega arith))
-      (and-snd (eqb (length (x .pongs)) pongCapacity) (all (λ p. eqb (length (p .bytes)) 14) (x .pongs)) e))
-      (z .pongs)))
-
-  fits-sent : (l clock : ℕ) → all fits (storedSent s l clock) ≡ true
-  unfolding walk
-  fits-sent l clock =
-      all-take fits 10 (keepIf (isFresh clock) (walk s l))
-      (fits-kept (isFresh clock) (walk s l)
-      (fits-flat (λ r. flat (map (λ k. ranked r (storedPongs (lineAt s k))) (keepIf (isOther l) lineNumbers)))
-      (λ r. fits-flat (λ k. ranked r (storedPongs (lineAt s k))) (λ k. fits-ranked r (storedPongs (lineAt s k)) (fits-line k)) (keepIf (isOther l) lineNumbers))
-      (0 ∷ 1 ∷ 2 ∷ 3 ∷ 4 ∷ 5 ∷ 6 ∷ 7 ∷ 8 ∷ 9 ∷ [])))
-
-  module _ (m : List ℕ) (sixteen : length (numberOf m) ≡ 16) where
-    writes-stored : (ps : List Pong) → all fits ps ≡ true → Writes 0x01 (flat (map (λ p. pongBytes m (p .hops + 1) (p .bytes)) ps))
-    writes-stored [] h = writes-none 0x01
-    writes-stored (p ∷ ps) h =
-        let b : length (p .bytes) ≤ 14 = leb-true (length (p .bytes)) 14 (and-fst (fits p) (all fits ps) h) in
-        writes-append 0x01 (pongBytes m (p .hops + 1) (p .bytes)) (flat (map (λ p. pongBytes m (p .hops + 1) (p .bytes)) ps))
-        (writes-one (numberOf m) 0x01 (max 1 (hopsOf m)) (p .hops + 1) (p .bytes) sixteen (omega arith))
-        (writes-stored ps (and-snd (fits p) (all fits ps) h))
-
-    own-length : (own : Own) → length (own .address) ≡ 4 → length (ownPong own) ≡ 14
-    own-length own e = simp length-append (omega arith)
-
-    writes-pongs : (l clock : ℕ) (own : Own) → length (own .address) ≡ 4 → Writes 0x01 (pongsSent s l clock own m)
-    writes-pongs l clock own e =
-        let n : length (ownPong own) ≡ 14 = own-length own e in
-        writes-append 0x01 (ownSent own m) _
-        (writes-choice 0x01 (isProbe m || own .calls) (pongBytes m 0 (ownPong own)) []
-        (writes-one (numberOf m) 0x01 (max 1 (hopsOf m)) 0 (ownPong own) sixteen (omega arith))
-        (writes-none 0x01))
-        (writes-choice 0x01 (isProbe m) [] (flat (map (λ p. pongBytes m (p .hops + 1) (p .bytes)) (storedSent s l clock)))
-        (writes-none 0x01)
-        (writes-stored (storedSent s l clock) (fits-sent l clock)))
-
-    pub ping-noHit : (l clock : ℕ) (own : Own) (route : List ℕ) → length (own .address) ≡ 4 → NoHit 0x01 (pingOutcome s l clock own m route)
-    unfolding pingOutcome
-    ping-noHit l clock own route e =
-        of-refused (NoHit 0x01) (firstOf (pingRules (lineAt s l) clock m)) s route (pingTaken s l clock own m route)
-        (λ _. record { sent = writes-pongs l clock own e; delivered = refl })
-        (λ _. record { sent = writes-none 0x01; delivered = refl })

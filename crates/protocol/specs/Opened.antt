@@ -13,26 +13,26 @@ use Rattle.protocol.specs.Outcomes.{Outcome}
 use Rattle.protocol.specs.Frames.{Bare, Beside, Silent}
 
 -- the line is bare, the others are as they were, and the remembered queries are these
-pub record Turned (live : Bool) (l : ℕ) (queries : List Query) (s s′ : Station) : Type 0 where
+pub record Renewed (live : Bool) (l : ℕ) (queries : List Query) (s s′ : Station) : Type 0 where
   pub line : Bare live (lineAt s′ l)
   pub beside : Beside l s s′
   pub memory : remembered s′ ≡ queries
 
 -- answered 0 exactly where the line is one of eight and stands as it must, else 3
-pub record TurnAnswered (must : Bool) (s : Station) (l : ℕ) (o : Outcome) : Type 0 where
+pub record LineAnswered (must : Bool) (s : Station) (l : ℕ) (o : Outcome) : Type 0 where
   pub taken : (o .answer ≡ 0) ↔ ((l ≤ 7) × (lineAt s l .live ≡ must))
   pub refused : (o .answer ≡ 3) ↔ ((7 < l) ⊎ (lineAt s l .live ≡ not must))
   pub silent : Silent o
 
 -- an opening needs a closed line
 pub record OpenRouted (s : Station) (l : ℕ) (o : Outcome) : Type 0 where
-  pub answered : TurnAnswered false s l o
-  pub leaves : l ≤ 7 → lineAt s l .live ≡ false → Turned true l (remembered s) s (o .state)
+  pub answered : LineAnswered false s l o
+  pub leaves : l ≤ 7 → lineAt s l .live ≡ false → Renewed true l (remembered s) s (o .state)
 
 -- a closing needs an open one; the queries that it brought are gone
 abbrev pub goneBy : ℕ → Query → Query
 goneBy l q = record { number = q .number; asker = cond (eqb (q .asker) l) gone (q .asker) }
 
 pub record CloseRouted (s : Station) (l : ℕ) (o : Outcome) : Type 0 where
-  pub answered : TurnAnswered true s l o
-  pub leaves : l ≤ 7 → lineAt s l .live ≡ true → Turned false l (map (goneBy l) (remembered s)) s (o .state)
+  pub answered : LineAnswered true s l o
+  pub leaves : l ≤ 7 → lineAt s l .live ≡ true → Renewed false l (map (goneBy l) (remembered s)) s (o .state)
