@@ -29,7 +29,11 @@ use Rattle.protocol.proofs.Arrived.{answer-taken}
 
 pub silent-of : (o : Outcome) (n : ℕ) (s : Station) (route : List ℕ) → o ≡ quiet n s route → Silent o
 silent-of o n s route e =
-    record { to = ap (λ (x : Outcome). x .to) e; sent = ap (λ (x : Outcome). x .sent) e; delivered = ap (λ (x : Outcome). x .delivered) e }
+    record {
+      to = ap (λ (x : Outcome). x .to) e;
+      sent = ap (λ (x : Outcome). x .sent) e;
+      delivered = ap (λ (x : Outcome). x .delivered) e;
+    }
 
 -- a line that begins anew
 empty-bare : (live : Bool) → Bare live (emptyLine live)
@@ -56,7 +60,8 @@ choice-three : (t : Bool) → _≡_ {A = ℕ} (cond t 3 0) 3 → t ≡ true
 choice-three true e = refl
 choice-three false e = absurd (omega arith)
 
-module _ (s : Station) (l : ℕ) (must bad : Bool) (good : (bad ≡ false) ↔ (lineAt s l .live ≡ must)) (ill : (bad ≡ true) ↔ (lineAt s l .live ≡ not must)) where
+module _ (s : Station) (l : ℕ) (must bad : Bool)
+    (good : (bad ≡ false) ↔ (lineAt s l .live ≡ must)) (ill : (bad ≡ true) ↔ (lineAt s l .live ≡ not must)) where
   abbrev test : Bool
   test = not (ltb l lineCount) || bad
 
@@ -72,9 +77,11 @@ module _ (s : Station) (l : ℕ) (must bad : Bool) (good : (bad ≡ false) ↔ (
               e ∙ ap (λ b. cond b 3 0) t),
         );
         refused = (
-          (λ z. ⊎-elim (λ t. inl (ltb-false l 8 (not-true (ltb l 8) t))) (λ t. inr (ill .0 t)) (or-split (not (ltb l 8)) bad (choice-three test (sym e ∙ z)))),
+          (λ z. ⊎-elim (λ t. inl (ltb-false l 8 (not-true (ltb l 8) t))) (λ t. inr (ill .0 t))
+              (or-split (not (ltb l 8)) bad (choice-three test (sym e ∙ z)))),
           (λ v. let t : test ≡ true
-              = ⊎-elim (λ h. or-left (not (ltb l 8)) bad (rw (le-ltb l 8 h))) (λ h. or-right (not (ltb l 8)) bad (ill .1 h)) v in
+              = ⊎-elim (λ h. or-left (not (ltb l 8)) bad (rw (le-ltb l 8 h)))
+              (λ h. or-right (not (ltb l 8)) bad (ill .1 h)) v in
               e ∙ ap (λ b. cond b 3 0) t),
         );
         silent = q;
@@ -126,7 +133,8 @@ module _ (s : Station) (z : Sized s) (o : inOrder s ≡ true) (l : ℕ) where
   unfolding opening
   open-routed =
       record {
-        answered = line-answered s l false (lineAt s l .live) ((λ e. e), (λ e. e)) ((λ e. e), (λ e. e)) (opening s l) opening-answer opening-silent;
+        answered = line-answered s l false (lineAt s l .live) ((λ e. e), (λ e. e)) ((λ e. e), (λ e. e))
+            (opening s l) opening-answer opening-silent;
         leaves = λ h e. let b : l < 8 = omega arith in rw (o, lt-ltb l 8 b, e) (opened h);
       }
 
@@ -134,6 +142,8 @@ module _ (s : Station) (z : Sized s) (o : inOrder s ≡ true) (l : ℕ) where
   unfolding closing
   close-routed =
       record {
-        answered = line-answered s l true (not (lineAt s l .live)) (not-false (lineAt s l .live), (λ e. rw e)) (not-true (lineAt s l .live), (λ e. rw e)) (closing s l) closing-answer closing-silent;
+        answered = line-answered s l true (not (lineAt s l .live))
+            (not-false (lineAt s l .live), (λ e. rw e)) (not-true (lineAt s l .live), (λ e. rw e))
+            (closing s l) closing-answer closing-silent;
         leaves = λ h e. let b : l < 8 = omega arith in rw (o, lt-ltb l 8 b, e) (closed h);
       }

@@ -31,7 +31,8 @@ all-of : {A : Type 0} (f : A → Bool) → ((x : A) → f x ≡ true) → (xs : 
 all-of f h [] = refl
 all-of f h (x ∷ xs) = and-intro (f x) (all f xs) (h x) (all-of f h xs)
 
-getD-any : {A : Type 0} (f : A → Bool) (d : A) → f d ≡ true → (xs : List A) (i : ℕ) → all f xs ≡ true → f (getD xs i d) ≡ true
+getD-any : {A : Type 0} (f : A → Bool) (d : A) → f d ≡ true → (xs : List A) (i : ℕ) → all f xs ≡ true
+    → f (getD xs i d) ≡ true
 getD-any f d e [] i h = e
 getD-any f d e (x ∷ xs) zero h = and-fst (f x) (all f xs) h
 getD-any f d e (x ∷ xs) (suc i) h = getD-any f d e xs i (and-snd (f x) (all f xs) h)
@@ -40,24 +41,30 @@ fits-stored : (x : Line) → all fits (x .pongs) ≡ true → all fits (storedPo
 unfolding storedPongs
 fits-stored x h =
     let d : Pong = record { bytes = []; hops = 0; clock = 0 } in
-    all-map (λ p. getD (x .pongs) p d) fits (keptPlaces pongCapacity (x .pongnext) (x .pongcount))
-    ∙ all-of (λ p. fits (getD (x .pongs) p d)) (λ p. getD-any fits d refl (x .pongs) p h) (keptPlaces pongCapacity (x .pongnext) (x .pongcount))
+    let places : List ℕ = keptPlaces pongCapacity (x .pongnext) (x .pongcount) in
+    all-map (λ p. getD (x .pongs) p d) fits places
+    ∙ all-of (λ p. fits (getD (x .pongs) p d)) (λ p. getD-any fits d refl (x .pongs) p h) places
 
 fits-ranked : (r : ℕ) (ps : List Pong) → all fits ps ≡ true → all fits (ranked r ps) ≡ true
 fits-ranked r [] h = refl
 fits-ranked zero (p ∷ ps) h = and-intro (fits p) true (and-fst (fits p) (all fits ps) h) refl
 fits-ranked (suc r) (p ∷ ps) h = fits-ranked r ps (and-snd (fits p) (all fits ps) h)
 
-fits-flat : {A : Type 0} (g : A → List Pong) → ((x : A) → all fits (g x) ≡ true) → (xs : List A) → all fits (flat (map g xs)) ≡ true
+fits-flat : {A : Type 0} (g : A → List Pong) → ((x : A) → all fits (g x) ≡ true) → (xs : List A)
+    → all fits (flat (map g xs)) ≡ true
 fits-flat g h [] = refl
 fits-flat g h (x ∷ xs) = all-append fits (g x) (flat (map g xs)) (h x) (fits-flat g h xs)
 
 fits-kept : (f : Pong → Bool) (ps : List Pong) → all fits ps ≡ true → all fits (keepIf f ps) ≡ true
 fits-kept f [] h = refl
 fits-kept f (p ∷ ps) h =
+    let rest = fits-kept f ps (and-snd (fits p) (all fits ps) h) in
     of-choice (λ (qs : List Pong). all fits qs ≡ true) (f p) (p ∷ keepIf f ps) (keepIf f ps)
-    (λ _. and-intro (fits p) (all fits (keepIf f ps)) (and-fst (fits p) (all fits ps) h) (fits-kept f ps (and-snd (fits p) (all fits ps) h)))
-    (λ _. fits-kept f ps (and-snd (fits p) (all fits ps) h))
+    (λ _. and-intro (fits p) (all fits (keepIf f ps)) (and-fst (fits p) (all fits ps) h) rest)
+    (λ _. rest)
+
+fourteen : (p : Pong) → eqb (length (p .bytes)) 14 ≡ true → fits p ≡ true
+fourteen p q = let n : length (p .bytes) ≡ 14 = eqb-true (length (p .bytes)) 14 q in le-leb (length (p .bytes)) 14 (omega arith)
 
 module _ (s : Station) (z : Sized s) where
   fits-line : (k : ℕ) → all fits (storedPongs (lineAt s k)) ≡ true
@@ -65,26 +72,32 @@ module _ (s : Station) (z : Sized s) where
       fits-stored (lineAt s k)
       (getD-any (λ (x : Line). all fits (x .pongs)) nowhere refl (s .lines) k
       (all-weaken sizedLine (λ x. all fits (x .pongs)) (s .lines)
-      (λ x e. all-weaken (λ p. eqb (length (p .bytes)) 14) fits (x .pongs)
-      (λ p q. let n : length (p .bytes) ≡ 14 = eqb-true (length (p .bytes)) 14 q in le-leb (length (p .bytes)) 14 (omega arith))
+      (λ x e. all-weaken (λ p. eqb (length (p .bytes)) 14) fits (x .pongs) fourteen
       (and-snd (eqb (length (x .pongs)) pongCapacity) (all (λ p. eqb (length (p .bytes)) 14) (x .pongs)) e))
       (z .pongs)))
+
+  abbrev at : ℕ → ℕ → List Pong
+  at r k = ranked r (storedPongs (lineAt s k))
 
   fits-sent : (l clock : ℕ) → all fits (storedSent s l clock) ≡ true
   unfolding walk
   fits-sent l clock =
+      let others : List ℕ = keepIf (isOther l) lineNumbers in
       all-take fits 10 (keepIf (isFresh clock) (walk s l))
       (fits-kept (isFresh clock) (walk s l)
-      (fits-flat (λ r. flat (map (λ k. ranked r (storedPongs (lineAt s k))) (keepIf (isOther l) lineNumbers)))
-      (λ r. fits-flat (λ k. ranked r (storedPongs (lineAt s k))) (λ k. fits-ranked r (storedPongs (lineAt s k)) (fits-line k)) (keepIf (isOther l) lineNumbers))
+      (fits-flat (λ r. flat (map (at r) others))
+      (λ r. fits-flat (at r) (λ k. fits-ranked r (storedPongs (lineAt s k)) (fits-line k)) others)
       (0 ∷ 1 ∷ 2 ∷ 3 ∷ 4 ∷ 5 ∷ 6 ∷ 7 ∷ 8 ∷ 9 ∷ [])))
 
   module _ (m : List ℕ) (sixteen : length (numberOf m) ≡ 16) where
-    writes-stored : (ps : List Pong) → all fits ps ≡ true → Writes 0x01 (flat (map (λ p. pongBytes m (p .hops + 1) (p .bytes)) ps))
+    abbrev bytesOf : Pong → List ℕ
+    bytesOf p = pongBytes m (p .hops + 1) (p .bytes)
+
+    writes-stored : (ps : List Pong) → all fits ps ≡ true → Writes 0x01 (flat (map bytesOf ps))
     writes-stored [] h = writes-none 0x01
     writes-stored (p ∷ ps) h =
         let b : length (p .bytes) ≤ 14 = leb-true (length (p .bytes)) 14 (and-fst (fits p) (all fits ps) h) in
-        writes-append 0x01 (pongBytes m (p .hops + 1) (p .bytes)) (flat (map (λ p. pongBytes m (p .hops + 1) (p .bytes)) ps))
+        writes-append 0x01 (bytesOf p) (flat (map bytesOf ps))
         (writes-one (numberOf m) 0x01 (max 1 (hopsOf m)) (p .hops + 1) (p .bytes) sixteen (omega arith))
         (writes-stored ps (and-snd (fits p) (all fits ps) h))
 
@@ -98,11 +111,12 @@ module _ (s : Station) (z : Sized s) where
         (writes-choice 0x01 (isProbe m || own .calls) (pongBytes m 0 (ownPong own)) []
         (writes-one (numberOf m) 0x01 (max 1 (hopsOf m)) 0 (ownPong own) sixteen (omega arith))
         (writes-none 0x01))
-        (writes-choice 0x01 (isProbe m) [] (flat (map (λ p. pongBytes m (p .hops + 1) (p .bytes)) (storedSent s l clock)))
+        (writes-choice 0x01 (isProbe m) [] (flat (map bytesOf (storedSent s l clock)))
         (writes-none 0x01)
         (writes-stored (storedSent s l clock) (fits-sent l clock)))
 
-    pub ping-noHit : (l clock : ℕ) (own : Own) (route : List ℕ) → length (own .address) ≡ 4 → NoHit 0x01 (pingOutcome s l clock own m route)
+    pub ping-noHit : (l clock : ℕ) (own : Own) (route : List ℕ) → length (own .address) ≡ 4
+        → NoHit 0x01 (pingOutcome s l clock own m route)
     unfolding pingOutcome
     ping-noHit l clock own route e =
         of-refused (NoHit 0x01) (firstOf (pingRules (lineAt s l) clock m)) s route (pingTaken s l clock own m route)

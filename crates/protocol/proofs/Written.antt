@@ -49,7 +49,8 @@ module _ (p : Part) (c : wellCut p ≡ true) (rest : List ℕ) where
   reads-hops = alike .hops ∙ message-hops (p .number) (p .kind) (p .ttl) (p .hops) (p .payload) sixteen
 
   reads-payload : payloadOf (first ++ rest) ≡ p .payload
-  reads-payload = alike .payload ∙ message-payload (p .number) (p .kind) (p .ttl) (p .hops) (p .payload) sixteen (omega (arith, most))
+  reads-payload =
+      alike .payload ∙ message-payload (p .number) (p .kind) (p .ttl) (p .hops) (p .payload) sixteen (omega (arith, most))
 
   reads-rest : drop (23 + length (p .payload)) (first ++ rest) ≡ rest
   reads-rest = drop-at first rest (23 + length (p .payload)) long
@@ -58,7 +59,8 @@ module _ (p : Part) (c : wellCut p ≡ true) (rest : List ℕ) where
   not-empty e = absurd (omega (arith, ap length e, length-append first rest, long))
 
 -- two cuts of the same bytes begin with the same message and go on alike
-module _ (p q : Part) (c : wellCut p ≡ true) (d : wellCut q ≡ true) (xs ys : List ℕ) (e : first p c xs ++ xs ≡ first q d ys ++ ys) where
+module _ (p q : Part) (c : wellCut p ≡ true) (d : wellCut q ≡ true) (xs ys : List ℕ)
+    (e : first p c xs ++ xs ≡ first q d ys ++ ys) where
   same-first : p ≡ q
   same-first =
       let a = sym (reads-number p c xs) ∙ ap numberOf e ∙ reads-number q d ys in
@@ -81,14 +83,17 @@ cut-once (p ∷ ps) [] f g e = absurd (not-empty p (and-fst (wellCut p) (all wel
 cut-once (p ∷ ps) (q ∷ qs) f g e =
     let c : wellCut p ≡ true = and-fst (wellCut p) (all wellCut ps) f in
     let d : wellCut q ≡ true = and-fst (wellCut q) (all wellCut qs) g in
+    let f′ : all wellCut ps ≡ true = and-snd (wellCut p) (all wellCut ps) f in
+    let g′ : all wellCut qs ≡ true = and-snd (wellCut q) (all wellCut qs) g in
     ap₂ _∷_ (same-first p q c d (written ps) (written qs) e)
-    (cut-once ps qs (and-snd (wellCut p) (all wellCut ps) f) (and-snd (wellCut q) (all wellCut qs) g) (same-rest p q c d (written ps) (written qs) e))
+    (cut-once ps qs f′ g′ (same-rest p q c d (written ps) (written qs) e))
 
 -- messages of one type
 pub writes-none : (kind : ℕ) → Writes kind []
 writes-none kind = record { parts = []; cut = refl; kinds = refl; are = refl }
 
-pub writes-one : (number : List ℕ) (kind ttl hops : ℕ) (payload : List ℕ) → length number ≡ 16 → length payload ≤ 4096 → Writes kind (message number kind ttl hops payload)
+pub writes-one : (number : List ℕ) (kind ttl hops : ℕ) (payload : List ℕ) → length number ≡ 16 → length payload ≤ 4096
+    → Writes kind (message number kind ttl hops payload)
 writes-one number kind ttl hops payload e h =
     record {
       parts = record { number = number; kind = kind; ttl = ttl; hops = hops; payload = payload } ∷ [];
@@ -103,9 +108,11 @@ written-append (p ∷ ps) qs =
     append-assoc (message (p .number) (p .kind) (p .ttl) (p .hops) (p .payload)) (written ps) (written qs)
     ∙ ap (λ bs. message (p .number) (p .kind) (p .ttl) (p .hops) (p .payload) ++ bs) (written-append ps qs)
 
-pub all-append : {A : Type 0} (f : A → Bool) (ps qs : List A) → all f ps ≡ true → all f qs ≡ true → all f (ps ++ qs) ≡ true
+pub all-append : {A : Type 0} (f : A → Bool) (ps qs : List A) → all f ps ≡ true → all f qs ≡ true
+    → all f (ps ++ qs) ≡ true
 all-append f [] qs a b = b
-all-append f (p ∷ ps) qs a b = and-intro (f p) (all f (ps ++ qs)) (and-fst (f p) (all f ps) a) (all-append f ps qs (and-snd (f p) (all f ps) a) b)
+all-append f (p ∷ ps) qs a b =
+    and-intro (f p) (all f (ps ++ qs)) (and-fst (f p) (all f ps) a) (all-append f ps qs (and-snd (f p) (all f ps) a) b)
 
 pub writes-append : (kind : ℕ) (a b : List ℕ) → Writes kind a → Writes kind b → Writes kind (a ++ b)
 writes-append kind a b x y =
