@@ -29,6 +29,7 @@ use Rattle.protocol.specs.Runs.{Call, Open, Close, Message, Ask, World, 
 use Rattle.protocol.specs.Periods.{lifeLeft}
 use Rattle.protocol.specs.Kept.{Sized}
 use Rattle.protocol.specs.Arrived.{Arrived}
+use Rattle.protocol.specs.Frames.{Silent}
 use Rattle.protocol.specs.Written.{NoHit}
 use Rattle.protocol.specs.Pinged.{PingRouted, PongRouted, PingsRouted}
 use Rattle.protocol.specs.Demand2.{Origin, Unknown, Here, From, Gone, origin, Acceptable, OwnAcceptable, Answered, QueryTo, OwnTo, HitBy, HitRouted, MessageRouted, Routed, AllRouted, Demand2}
@@ -37,7 +38,7 @@ use Rattle.protocol.proofs.Outcomes.{of-pick, of-refused, eachLine-at, 
 use Rattle.protocol.proofs.Refused.{refusal-frame}
 use Rattle.protocol.proofs.Origins.{known, unknown-of, known-if, SameLookUp, Since, Invariant, begins, goes-on, looked-up}
 use Rattle.protocol.proofs.Arrived.{none-refused, answer-taken, areas-of, areas-fit, arrived-of, none-early, by-type, sent-if-arrived, by-ping, by-pong, by-query, by-hit}
-use Rattle.protocol.proofs.Written.{writes-none, writes-one, writes-choice}
+use Rattle.protocol.proofs.Written.{written-for, writes-none, writes-one, writes-choice}
 use Rattle.protocol.proofs.Opened.{silent-of, open-routed, close-routed}
 use Rattle.protocol.proofs.Pinged.{ping-routed, pong-routed}
 use Rattle.protocol.proofs.PongBytes.{ping-noHit}
@@ -72,7 +73,7 @@ module _ (s : Station) (route : List ℕ) where
               (λ z. let v = r .0 (sym at ∙ z) in (v .1 .1 .0, v .0, v .1 .0, v .1 .1 .1)),
               (λ v. at ∙ r .1 (v .1, (v .2, (v .0, v .3)))),
             );
-        sent = refl;
+        sent = written-for (queryTo usualLimit s l m route) (queryOn usualLimit m);
         search = (refl, refl, refl);
         lines = refl;
       }
@@ -88,7 +89,7 @@ module _ (s : Station) (route : List ℕ) where
             = eachLine-at (λ k. passes (lineAt s k .live) (heldAt s k route) text usualLimit) k (omega arith) in
             let p = and-iff (lineAt s k .live) (not held) ((λ z. z), (λ z. z)) (not-is held) in
             ((λ z. p .0 (sym at ∙ z)), (λ v. at ∙ p .1 v));
-        sent = refl;
+        sent = written-for (ownTo usualLimit s text route) (ownBytes usualLimit number text);
         search = refl;
         lines = refl;
       }
@@ -97,52 +98,72 @@ module _ (s : Station) (route : List ℕ) where
 quiet-noHit : (kind n : ℕ) (s : Station) (route : List ℕ) → NoHit kind (quiet n s route)
 quiet-noHit kind n s route = record { sent = writes-none kind; delivered = refl }
 
--- an arriving message that is neither a hit nor a ping writes a query or nothing; one that gets so far is whole
+quiet-silent : (n : ℕ) (s : Station) (route : List ℕ) → Silent (quiet n s route)
+quiet-silent n s route = record { to = refl; sent = refl; delivered = refl }
+
 module _ (s : Station) (l clock : ℕ) (own : Own) (m : List ℕ) (out : ℕ) (route : List ℕ) where
+  abbrev refusal : ℕ
+  refusal = early s l m out (length route)
+
+  -- pongs, updates and unnamed types
+  types-silent : (kindOf m ≡ 0x00 → ⊥) → (kindOf m ≡ 0x80 → ⊥) → (kindOf m ≡ 0x81 → ⊥) → Silent (byType usualLimit s l clock own m route)
+  unfolding byType pongOutcome updateOutcome
+  types-silent np nq nh =
+      of-pick Silent (eqb (kindOf m) pingType) _ _
+      (λ k. absurd (np (eqb-true (kindOf m) pingType k)))
+      (λ _. of-pick Silent (eqb (kindOf m) pongType) _ _
+      (λ _. of-refused Silent (firstOf (pongRules m)) s route (quiet 0 (withLine s l (withPong (lineAt s l) (arrivedPong clock m))) route)
+      (λ _. quiet-silent 0 (withLine s l (withPong (lineAt s l) (arrivedPong clock m))) route)
+      (λ _. quiet-silent (firstOf (pongRules m)) s route))
+      (λ _. of-pick Silent (eqb (kindOf m) routeUpdate) _ _
+      (λ _. quiet-silent _ _ _)
+      (λ _. of-pick Silent (eqb (kindOf m) queryType) _ _
+      (λ k. absurd (nq (eqb-true (kindOf m) queryType k)))
+      (λ _. of-pick Silent (eqb (kindOf m) hitType) _ _
+      (λ k. absurd (nh (eqb-true (kindOf m) hitType k)))
+      (λ _. quiet-silent 7 s route)))))
+
+  message-silent : (kindOf m ≡ 0x00 → ⊥) → (kindOf m ≡ 0x80 → ⊥) → (kindOf m ≡ 0x81 → ⊥) → Silent (messageOutcome s l clock own m out route)
+  unfolding arriving
+  message-silent np nq nh =
+      of-refused Silent refusal s route (byType usualLimit s l clock own m route)
+      (λ _. types-silent np nq nh)
+      (λ _. quiet-silent refusal s route)
+
+  -- a message that gets past the early refusals is whole
   number-length : LetIn s l m (length route) → length (numberOf m) ≡ 16
   number-length d = let h = d .whole in length-take-le 16 m (omega arith)
 
   payload-most : LetIn s l m (length route) → length (payloadOf m) ≤ 4096
   payload-most d = let h = d .size in simp length-take (omega arith)
 
-  types-noHit : LetIn s l m (length route) → (kindOf m ≡ 0x81 → ⊥) → (kindOf m ≡ 0x00 → ⊥) → NoHit 0x80 (byType usualLimit s l clock own m route)
-  unfolding byType pongOutcome updateOutcome queryOutcome
-  types-noHit d ne np =
-      of-pick (NoHit 0x80) (eqb (kindOf m) pingType) _ _
-      (λ k. absurd (np (eqb-true (kindOf m) pingType k)))
-      (λ _. of-pick (NoHit 0x80) (eqb (kindOf m) pongType) _ _
-      (λ _. of-refused (NoHit 0x80) (firstOf (pongRules m)) s route (quiet 0 (withLine s l (withPong (lineAt s l) (arrivedPong clock m))) route)
-      (λ _. quiet-noHit 0x80 0 (withLine s l (withPong (lineAt s l) (arrivedPong clock m))) route)
-      (λ _. quiet-noHit 0x80 (firstOf (pongRules m)) s route))
-      (λ _. of-pick (NoHit 0x80) (eqb (kindOf m) routeUpdate) _ _
-      (λ _. quiet-noHit 0x80 _ _ _)
-      (λ _. of-pick (NoHit 0x80) (eqb (kindOf m) queryType) _ _
-      (λ _. of-refused (NoHit 0x80) (firstOf (queryRules usualLimit s m)) s route (queryTaken usualLimit s l m route)
+  -- a query writes a query or nothing
+  query-noHit : LetIn s l m (length route) → NoHit 0x80 (queryOutcome usualLimit s l m route)
+  unfolding queryOutcome
+  query-noHit d =
+      of-refused (NoHit 0x80) (firstOf (queryRules usualLimit s m)) s route (queryTaken usualLimit s l m route)
       (λ _. record {
         sent = writes-choice 0x80 (any (λ b. b) (queryTo usualLimit s l m route)) (queryOn usualLimit m) []
             (writes-one (numberOf m) 0x80 (lifeLeft m - 1) (hopsOf m + 1) (payloadOf m) (number-length d) (payload-most d))
             (writes-none 0x80);
         delivered = refl;
       })
-      (λ _. quiet-noHit 0x80 (firstOf (queryRules usualLimit s m)) s route))
-      (λ _. of-pick (NoHit 0x80) (eqb (kindOf m) hitType) _ _
-      (λ k. absurd (ne (eqb-true (kindOf m) hitType k)))
-      (λ _. quiet-noHit 0x80 7 s route)))))
+      (λ _. quiet-noHit 0x80 (firstOf (queryRules usualLimit s m)) s route)
 
-  message-noHit : (kindOf m ≡ 0x81 → ⊥) → (kindOf m ≡ 0x00 → ⊥) → NoHit 0x80 (messageOutcome s l clock own m out route)
+  queries-noHit : inOrder s ≡ true → kindOf m ≡ 0x80 → NoHit 0x80 (messageOutcome s l clock own m out route)
   unfolding arriving
-  message-noHit ne np =
-      of-refused (NoHit 0x80) (early s l m out (length route)) s route (byType usualLimit s l clock own m route)
-      (λ e. types-noHit (let-in s l m out (length route) e) ne np)
-      (λ _. quiet-noHit 0x80 (early s l m out (length route)) s route)
+  queries-noHit o k =
+      of-refused (NoHit 0x80) refusal s route (byType usualLimit s l clock own m route)
+      (λ e. rw (by-query s o l m out route clock own k) (query-noHit (let-in s l m out (length route) e)))
+      (λ _. quiet-noHit 0x80 refusal s route)
 
   -- a ping writes pongs or nothing
   pings-noHit : Sized s → inOrder s ≡ true → kindOf m ≡ 0x00 → length (own .address) ≡ 4 → NoHit 0x01 (messageOutcome s l clock own m out route)
   unfolding arriving
   pings-noHit z o k four =
-      of-refused (NoHit 0x01) (early s l m out (length route)) s route (byType usualLimit s l clock own m route)
+      of-refused (NoHit 0x01) refusal s route (byType usualLimit s l clock own m route)
       (λ e. rw (by-ping s o l m out route clock own k) (ping-noHit s z m (number-length (let-in s l m out (length route) e)) l clock own route four))
-      (λ _. quiet-noHit 0x01 (early s l m out (length route)) s route)
+      (λ _. quiet-noHit 0x01 refusal s route)
 
 own-noHit : (s : Station) (number text : List ℕ) (out : ℕ) (route : List ℕ) → length number ≡ 16 → NoHit 0x80 (ownOutcome s number text out route)
 unfolding asking
@@ -353,7 +374,8 @@ module _ (base : List Query) (w : World) (v : Invariant base w) where
           query = query-answered (w .state) (v .order) l m out route clock own (origin (w .log) base (numberIn m)) (looked-up base w v (numberIn m) .found);
           goes = goes-to (w .state) (v .order) l m out route clock own;
           hit = message-hit;
-          others = message-noHit (w .state) l clock own m out route;
+          noHit = queries-noHit (w .state) l clock own m out route (v .order);
+          others = message-silent (w .state) l clock own m out route;
           refused = λ ne. silent-of _ _ _ _ (refusal-frame .calls (w .state) .message l clock own m out route ne);
         }
 
@@ -361,7 +383,7 @@ module _ (base : List Query) (w : World) (v : Invariant base w) where
     pings-routed =
         record {
           ping = message-ping;
-          others = pings-noHit (w .state) l clock own m out route (v .sized) (v .order);
+          noHit = pings-noHit (w .state) l clock own m out route (v .sized) (v .order);
           pong = message-pong;
         }
 
@@ -374,7 +396,7 @@ module _ (base : List Query) (w : World) (v : Invariant base w) where
       record {
         query = own-answered (w .state) (v .order) number text out route (origin (w .log) base (numberIn number)) (looked-up base w v (numberIn number) .found);
         goes = own-goes (w .state) (v .order) number text out route;
-        others = own-noHit (w .state) number text out route;
+        noHit = own-noHit (w .state) number text out route;
         refused = λ ne. silent-of _ _ _ _ (refusal-frame .calls (w .state) .asks number text out route ne);
       }
 

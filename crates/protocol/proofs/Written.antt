@@ -1,19 +1,20 @@
 -- Bytes that are messages can be cut into them in one way only; and bytes put together from messages of one type.
 -- Assumes nothing.
-use Prim.Native.Nat.{ℕ, _+_, _≤_}
+use Prim.Native.Nat.{ℕ, zero, suc, _+_, _≤_}
 use native.Mathlib.Omega.{arith}
 use mathlib.Core.Path.{_≡_, refl, sym, ap, ap₂, _∙_}
-use mathlib.Core.Bool.{Bool, true, cond}
+use mathlib.Core.Bool.{Bool, true, false, cond}
 use mathlib.Core.List.{List, [], _∷_, _++_, append-nil, append-assoc}
 use lib.Dec.{eqb, leb}
-use lib.ListN.{length, drop, length-append}
+use lib.ListN.{length, getD, drop, length-append}
 use lib.Seq.{drop-at}
 use borrow.Author.Tests.{eqb-true, leb-true, eq-eqb, le-leb}
-use Rattle.laws.specs.Tests.{all}
-use Rattle.laws.proofs.Refusals.{and-fst, and-snd, and-intro, of-choice}
+use Rattle.laws.specs.Tests.{any, all}
+use Rattle.laws.proofs.Refusals.{clash, and-fst, and-snd, and-intro, or-left, or-right, of-choice}
 use Rattle.wire.specs.Header.{numberOf, kindOf, ttlOf, hopsOf, sizeOf, payloadOf, message}
 use Rattle.wire.proofs.HeaderLaws.{message-length, message-number, message-kind, message-ttl, message-hops, message-size, message-payload}
-use Rattle.protocol.specs.Written.{Part, wellCut, written, CutOnce, Writes}
+use Rattle.protocol.specs.Written.{Part, wellCut, written, CutOnce, Writes, WrittenFor}
+use Rattle.protocol.specs.Outcomes.{writtenFor}
 use Rattle.protocol.proofs.Blind.{ReadsAlike, reads-more}
 
 -- the first message is read off the bytes, whatever follows it
@@ -87,6 +88,19 @@ cut-once (p ∷ ps) (q ∷ qs) f g e =
     let g′ : all wellCut qs ≡ true = and-snd (wellCut q) (all wellCut qs) g in
     ap₂ _∷_ (same-first p q c d (written ps) (written qs) e)
     (cut-once ps qs f′ g′ (same-rest p q c d (written ps) (written qs) e))
+
+-- a message for several lines
+flagged : (to : List Bool) (k : ℕ) → getD to k false ≡ true → any (λ b. b) to ≡ true
+flagged [] k e = absurd (clash e refl)
+flagged (b ∷ bs) zero e = or-left b (any (λ b. b) bs) e
+flagged (b ∷ bs) (suc k) e = or-right b (any (λ b. b) bs) (flagged bs k e)
+
+unflagged : (to : List Bool) → ((k : ℕ) → getD to k false ≡ false) → any (λ b. b) to ≡ false
+unflagged [] h = refl
+unflagged (b ∷ bs) h = rw (h 0) (unflagged bs (λ k. h (suc k)))
+
+pub written-for : (to : List Bool) (bytes : List ℕ) → WrittenFor to bytes (writtenFor to bytes)
+written-for to bytes = record { some = λ k e. rw (flagged to k e); none = λ h. rw (unflagged to h) }
 
 -- messages of one type
 pub writes-none : (kind : ℕ) → Writes kind []

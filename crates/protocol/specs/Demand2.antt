@@ -1,5 +1,7 @@
 -- Demand 2, over lists of calls: an unseen query goes to exactly the neighbours that the rules name, and a hit goes back only over the same
 -- opening of the line its query came by, while that query is among the last 512. Where a query came from is read off the log alone.
+-- What is demanded of a call is demanded of what it brings to a state (Arrived), so that refusing it is no way out; the statements on openings
+-- and closings, pings and pongs, and the bytes of messages are in Opened, Pinged and Written.
 use Prim.Native.Nat.{ℕ, suc, _+_, _-_, _≤_, _<_}
 use mathlib.Core.Path.{_≡_}
 use mathlib.Core.Bool.{Bool, true, false, cond, _&&_, _||_}
@@ -16,15 +18,15 @@ use Rattle.protocol.specs.declared.Own.{Own}
 use Rattle.protocol.specs.Memory.{capacity, here, gone, Number, numberIn, sameNumber, Query, remembered, noTwice}
 use Rattle.protocol.specs.Lines.{lineAt, heldAt}
 use Rattle.protocol.specs.Order.{inOrder}
-use Rattle.protocol.specs.Outcomes.{Outcome, nobody, onlyTo, writtenFor}
-use Rattle.protocol.specs.Queries.{textIn, ownPayload}
+use Rattle.protocol.specs.Outcomes.{Outcome, nobody, onlyTo}
+use Rattle.protocol.specs.Queries.{textIn}
 use Rattle.protocol.specs.Calls.{fresh}
 use Rattle.protocol.specs.Runs.{Area, Call, Open, Close, Message, Ask, Made, World, lent, outcomeOf, step, run, start}
 use Rattle.protocol.specs.Periods.{lifeLeft}
 use Rattle.protocol.specs.Kept.{Sized}
 use Rattle.protocol.specs.Arrived.{Areas, Arrived, SentIfArrived}
 use Rattle.protocol.specs.Frames.{Silent}
-use Rattle.protocol.specs.Written.{NoHit}
+use Rattle.protocol.specs.Written.{NoHit, WrittenFor}
 use Rattle.protocol.specs.Opened.{OpenRouted, CloseRouted}
 use Rattle.protocol.specs.Pinged.{PingsRouted}
 
@@ -168,7 +170,7 @@ pub record QueryTo (s : Station) (route : List ℕ) (l : ℕ) (m : List ℕ) (o 
       × (k ≡ l → ⊥)
       × (2 ≤ lifeLeft m)
       × (withholds (heldAt s k route) (keywordsOf (textIn (payloadOf m))) (lifeLeft m - 1) ≡ false))
-  pub sent : o .sent ≡ writtenFor (o .to) (message (numberOf m) 0x80 (lifeLeft m - 1) (hopsOf m + 1) (payloadOf m))
+  pub sent : WrittenFor (o .to) (message (numberOf m) 0x80 (lifeLeft m - 1) (hopsOf m + 1) (payloadOf m)) (o .sent)
   pub search : (o .search ≡ true) × (o .textat ≡ 25) × (o .textlen ≡ length (textIn (payloadOf m)))
   pub lines : o .state .lines ≡ s .lines
 
@@ -176,7 +178,7 @@ pub record OwnTo (s : Station) (route number text : List ℕ) (o : Outcome) : Ty
   pub eight : length (o .to) ≡ 8
   pub to : (k : ℕ) → k < 8
       → (getD (o .to) k false ≡ true) ↔ ((lineAt s k .live ≡ true) × (withholds (heldAt s k route) (keywordsOf text) 7 ≡ false))
-  pub sent : o .sent ≡ writtenFor (o .to) (message number 0x80 7 0 (ownPayload text))
+  pub sent : WrittenFor (o .to) (message number 0x80 7 0 (0 ∷ 0 ∷ (text ++ (0 ∷ [])))) (o .sent)
   pub search : o .search ≡ false
   pub lines : o .state .lines ≡ s .lines
 
@@ -202,21 +204,23 @@ pub record HitRouted (from : Origin) (w : World) (m : List ℕ) (o : Outcome) : 
   pub spent : 27 ≤ sizeOf m → ttlOf m ≡ 0 → o .answer ≡ 8
   pub by : 27 ≤ sizeOf m → 1 ≤ ttlOf m → HitBy from w m o
 
--- One call, with the world before it and the queries remembered before its log began
+-- One call, with the world before it and the queries remembered before its log began. Whatever has arrived is decided by its type, and
+-- nothing else is; a refused call sends nothing
 pub record MessageRouted (base : List Query) (w : World) (l : ℕ) (m : List ℕ) (out : ℕ) (route : List ℕ) (o : Outcome) : Type 0 where
   pub arrives : SentIfArrived (w .state) l m out route o
   pub query : kindOf m ≡ 0x80 → Answered (Acceptable (w .state) l m out route) (origin (w .log) base (numberIn m)) o
   pub goes : kindOf m ≡ 0x80 → o .answer ≡ 0 → QueryTo (w .state) route l m o
   pub hit : kindOf m ≡ 0x81 → Arrived (w .state) l m out route → HitRouted (origin (w .log) base (numberIn m)) w m o
-  -- neither a hit nor a ping
-  pub others : (kindOf m ≡ 0x81 → ⊥) → (kindOf m ≡ 0x00 → ⊥) → NoHit 0x80 o
+  pub noHit : kindOf m ≡ 0x80 → NoHit 0x80 o
+  -- neither a ping, a query nor a hit
+  pub others : (kindOf m ≡ 0x00 → ⊥) → (kindOf m ≡ 0x80 → ⊥) → (kindOf m ≡ 0x81 → ⊥) → Silent o
   pub refused : (o .answer ≡ 0 → ⊥) → Silent o
 
 -- the number of an own query has 16 bytes by its type, [u8; 16]
 pub record AskRouted (base : List Query) (w : World) (number text : List ℕ) (out : ℕ) (route : List ℕ) (o : Outcome) : Type 0 where
   pub query : Answered (OwnAcceptable (w .state) text out route) (origin (w .log) base (numberIn number)) o
   pub goes : o .answer ≡ 0 → OwnTo (w .state) route number text o
-  pub others : length number ≡ 16 → NoHit 0x80 o
+  pub noHit : length number ≡ 16 → NoHit 0x80 o
   pub refused : (o .answer ≡ 0 → ⊥) → Silent o
 
 abbrev pub Routed : List Query → World → Call → Outcome → Type 0

@@ -4,7 +4,7 @@ use mathlib.Core.Path.{_≡_}
 use mathlib.Core.Bool.{Bool, true, false, _&&_}
 use mathlib.Core.List.{List, [], _∷_, _++_}
 use lib.Dec.{eqb, leb}
-use lib.ListN.{length}
+use lib.ListN.{length, getD}
 use Rattle.laws.specs.Tests.{all}
 use Rattle.wire.specs.Header.{message}
 use Rattle.protocol.specs.Outcomes.{Outcome}
@@ -35,6 +35,11 @@ pub record Writes (kind : ℕ) (bytes : List ℕ) : Type 0 where
   pub cut : all wellCut parts ≡ true
   pub kinds : all (λ p. eqb (p .kind) kind) parts ≡ true
   pub are : bytes ≡ written parts
+
+-- a message is written once where some line is to get it, and not at all where none is
+pub record WrittenFor (to : List Bool) (bytes sent : List ℕ) : Type 0 where
+  pub some : (k : ℕ) → getD to k false ≡ true → sent ≡ bytes
+  pub none : ((k : ℕ) → getD to k false ≡ false) → sent ≡ []
 
 -- no hit is written or delivered, but messages of this other type may be
 pub record NoHit (kind : ℕ) (o : Outcome) : Type 0 where
