@@ -4,6 +4,7 @@ use Prim.Native.Nat.{ℕ, zero, suc, _≤_, _<_}
 use native.Mathlib.Omega.{arith}
 use mathlib.Core.Path.{_≡_, refl, sym, ap, _∙_}
 use mathlib.Core.Bool.{Bool, true, false, cond, _||_}
+use mathlib.Core.Logic.{inl}
 use mathlib.Core.List.{List, [], _∷_}
 use lib.Dec.{eqb, ltb}
 use lib.ListN.{getD, take}
@@ -14,14 +15,14 @@ use Rattle.laws.proofs.Refusals.{clash, or-fst, or-snd}
 use Rattle.wire.specs.Header.{kindOf, ttlOf, hopsOf, sizeOf}
 use Rattle.protocol.specs.Memory.{capacity, here, gone, Number, numberIn, sameNumber, remembered}
 use Rattle.protocol.specs.Lines.{lineAt}
-use Rattle.protocol.specs.Outcomes.{Outcome, nobody, onlyTo, unsent}
+use Rattle.protocol.specs.Outcomes.{Outcome, nobody, onlyTo}
 use Rattle.protocol.specs.Calls.{fresh}
 use Rattle.protocol.specs.Runs.{Call, Open, Close, Message, Ask, Made, World, lent, outcomeOf, run, start}
 use Rattle.protocol.specs.Demand2.{took, broughtNumber, broughtBy, closed, openings, Past, past, allTaken, Origin, Unknown, Here, From, Gone, originOf, lookUp, origin, HitBy, MessageRouted, takenIn, Brought, BackOnly, AnswersBack}
 use Rattle.protocol.proofs.Outcomes.{eachLine-at}
 use Rattle.protocol.proofs.Kept.{fresh-in-order}
 use Rattle.protocol.proofs.Origins.{from-line, no-from, same-number, taken-took, taken-passed, Since, Invariant, begins, holds-after}
-use Rattle.protocol.proofs.Demand2.{routed}
+use Rattle.protocol.proofs.Demand2.{message-routed}
 
 -- the call that took a query, within the n newest, where `shut` says which lines have closed since the log
 abbrev Taking : ℕ → (ℕ → Bool) → List Made → Number → ℕ → ℕ → Type 0
@@ -140,19 +141,19 @@ module _ (w : World) (v : Invariant [] w) where
       go false b c e f g = absurd (to-nobody o k h t (r .refused (eqb-false (o .answer) 0 e) .to))
       go true true c e f g =
           let z : o .answer ≡ 0 = eqb-true (o .answer) 0 e in
-          absurd (omega (arith, z, r .hit kind (ap unsent z) .short (ltb-true (sizeOf m) 27 f)))
+          absurd (omega (arith, z, r .hit kind (r .arrives .0 (inl z)) .short (ltb-true (sizeOf m) 27 f)))
       go true false true e f g =
           let z : o .answer ≡ 0 = eqb-true (o .answer) 0 e in
-          absurd (omega (arith, z, r .hit kind (ap unsent z) .spent (ltb-false (sizeOf m) 27 f) (eqb-true (ttlOf m) 0 g)))
+          absurd (omega (arith, z, r .hit kind (r .arrives .0 (inl z)) .spent (ltb-false (sizeOf m) 27 f) (eqb-true (ttlOf m) 0 g)))
       go true false false e f g =
           let z : o .answer ≡ 0 = eqb-true (o .answer) 0 e in
           let ne : ttlOf m ≡ 0 → ⊥ = eqb-false (ttlOf m) 0 g in
           let one : 1 ≤ ttlOf m = omega arith in
-          hit-to m o k h t z one (origin (w .log) [] (numberIn m)) (r .hit kind (ap unsent z) .by (ltb-false (sizeOf m) 27 f) one)
+          hit-to m o k h t z one (origin (w .log) [] (numberIn m)) (r .hit kind (r .arrives .0 (inl z)) .by (ltb-false (sizeOf m) 27 f) one)
 
   back-only : BackOnly w
   back-only l clock own m out a k kind h t =
-      let q = routed-to l m out (lent a (w .area)) (outcomeOf w (Message l clock own m out a)) k (routed [] w v (Message l clock own m out a)) kind h t in
+      let q = routed-to l m out (lent a (w .area)) (outcomeOf w (Message l clock own m out a)) k (message-routed [] w v l clock own m out (lent a (w .area))) kind h t in
       back-from (numberIn m) k (q .0) (q .1)
 
 -- from a fresh state

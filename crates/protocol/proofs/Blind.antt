@@ -81,7 +81,7 @@ taken-alike m′ m r =
     }
 
 -- a whole message reads alike, whatever follows it
-reads-more : (m x : List ℕ) → 23 + sizeOf m ≤ length m → ReadsAlike (m ++ x) m
+pub reads-more : (m x : List ℕ) → 23 + sizeOf m ≤ length m → ReadsAlike (m ++ x) m
 reads-more m x w =
     let low : 8 ≤ length m = omega arith in
     let high : 8 ≤ length (drop 8 m) = rw (length-drop 8 m) (omega arith) in

@@ -1,43 +1,49 @@
 -- Demand 2, proved: each call of a list is routed as its log says.
 -- Assumes nothing.
-use Prim.Native.Nat.{ℕ, _+_, _-_, _/_, _≤_, _<_, max}
+use Prim.Native.Nat.{ℕ, _+_, _-_, _≤_}
 use native.Mathlib.Omega.{arith}
-use mathlib.Core.Path.{_≡_, refl, sym, ap, ap₂, _∙_}
+use mathlib.Core.Path.{_≡_, refl, sym, ap, _∙_}
 use mathlib.Core.Bool.{Bool, true, false, cond, not, _&&_, _||_}
-use mathlib.Core.Logic.{_↔_, inl, inr}
-use mathlib.Core.List.{List, [], _∷_, _++_, map, append-nil, append-assoc}
+use mathlib.Core.Logic.{_↔_}
+use mathlib.Core.List.{List, [], _∷_}
 use lib.Dec.{eqb, leb, ltb}
-use lib.ListN.{length, getD}
+use lib.ListN.{length, getD, length-take, length-append}
+use lib.Seq.{length-take-le}
 use borrow.Author.Tests.{leb-true, le-leb, lt-leb, leb-false, lt-ltb, ltb-false, le-ltb, eqb-true, eqb-false, eq-eqb, ne-eqb, not-true, not-false}
 use Rattle.laws.specs.Tests.{firstOf, any}
-use Rattle.laws.proofs.Refusals.{clash, or-fst, or-snd, of-choice, no-refusal, NoRefusal}
-use Rattle.wire.specs.Header.{kindOf, ttlOf, hopsOf, sizeOf, payloadOf, numberOf, routeUpdate, message}
+use Rattle.laws.proofs.Refusals.{clash, or-fst, or-snd, no-refusal, NoRefusal}
+use Rattle.wire.specs.Header.{kindOf, ttlOf, hopsOf, sizeOf, payloadOf, numberOf, routeUpdate}
 use Rattle.keywords.specs.Keywords.{keywordsOf}
 use Rattle.tables.specs.Admission.{withholds}
-use Rattle.protocol.specs.declared.Pong.{Pong}
 use Rattle.protocol.specs.declared.Station.{Station}
 use Rattle.protocol.specs.declared.Own.{Own}
 use Rattle.protocol.specs.Memory.{capacity, here, gone, numberIn, Query, remembered, Found, seen, remember}
-use Rattle.protocol.specs.Lines.{isOther, emptyLine, lineAt, withLine, withPong, heldAt}
+use Rattle.protocol.specs.Lines.{isOther, lineAt, withLine, withPong, heldAt}
 use Rattle.protocol.specs.Order.{inOrder}
 use Rattle.protocol.specs.Outcomes.{Outcome, quiet, refusedOr, unsent}
 use Rattle.protocol.specs.Queries.{usualLimit, queryType, textIn, hasText, passes, goesOn, queryRules, queryTo, queryOn, queryTaken, queryOutcome, ownPayload, ownBytes, ownTo, ownTaken}
 use Rattle.protocol.specs.Hits.{hitType, hitRules, hitFound, hitTaken, hitOutcome}
-use Rattle.protocol.specs.Pings.{pingType, pongType, isProbe, flat, pingRules, pongRules, pongBytes, ownPong, ownSent, storedSent, pongsSent, pingTaken, pingOutcome, arrivedPong, pongOutcome}
-use Rattle.protocol.specs.Calls.{openingRules, opening, closedState, closingRules, closing, shortOutput, otherRoom, earlyRules, early, updateOutcome, byType, arriving, ownRules, asking, messageOutcome, ownOutcome}
+use Rattle.protocol.specs.Pings.{pingType, pongType, pongRules, arrivedPong, pongOutcome}
+use Rattle.protocol.specs.Calls.{shortOutput, otherRoom, early, updateOutcome, byType, arriving, ownRules, asking, messageOutcome, ownOutcome}
 use Rattle.protocol.specs.Runs.{Call, Open, Close, Message, Ask, World, lent, outcomeOf, step, start}
 use Rattle.protocol.specs.Periods.{lifeLeft}
-use Rattle.protocol.specs.Demand2.{Origin, Unknown, Here, From, Gone, origin, Areas, Acceptable, OwnAcceptable, Answered, QueryTo, OwnTo, HitBy, HitRouted, Part, written, Writes, NoHit, Silent, Routed, AllRouted, Demand2}
+use Rattle.protocol.specs.Kept.{Sized}
+use Rattle.protocol.specs.Arrived.{Arrived}
+use Rattle.protocol.specs.Frames.{Silent}
+use Rattle.protocol.specs.Written.{NoHit}
+use Rattle.protocol.specs.Pinged.{PingRouted, PongRouted, PingsRouted}
+use Rattle.protocol.specs.Demand2.{Origin, Unknown, Here, From, Gone, origin, Acceptable, OwnAcceptable, Answered, QueryTo, OwnTo, HitBy, HitRouted, MessageRouted, Routed, AllRouted, Demand2}
 use Rattle.protocol.proofs.Forwarding.{and-iff, other-iff}
 use Rattle.protocol.proofs.Outcomes.{of-pick, of-refused, eachLine-at, LetIn, let-in, early-unsent}
 use Rattle.protocol.proofs.Refused.{refusal-frame}
 use Rattle.protocol.proofs.Origins.{known, unknown-of, known-if, SameLookUp, Since, Invariant, begins, goes-on, looked-up}
+use Rattle.protocol.proofs.Arrived.{none-refused, answer-taken, areas-of, areas-fit, arrived-of, none-early, by-type, sent-if-arrived, by-ping, by-pong, by-query, by-hit}
+use Rattle.protocol.proofs.Written.{written-for, writes-none, writes-one, writes-choice}
+use Rattle.protocol.proofs.Opened.{silent-of, open-routed, close-routed}
+use Rattle.protocol.proofs.Pinged.{ping-routed, pong-routed}
+use Rattle.protocol.proofs.PongBytes.{ping-noHit}
 
--- Answers of refusals: no test held; the one before the last numbers
-none-refused : (cs : List (Bool × ℕ)) → NoRefusal cs → firstOf cs ≡ 0
-none-refused [] h = refl
-none-refused (c ∷ cs) h = ap (λ b. cond b (c .1) (firstOf cs)) (h .0) ∙ none-refused cs (h .1)
-
+-- Answers of refusals: one before the last of a list
 skip : (b : Bool) (n r k : ℕ) → (n ≡ k → ⊥) → cond b n r ≡ k → (b ≡ false) × (r ≡ k)
 skip true n r k ne e = absurd (ne e)
 skip false n r k ne e = (refl, e)
@@ -45,9 +51,6 @@ skip false n r k ne e = (refl, e)
 stop : (b : Bool) (n r k : ℕ) → (r ≡ k → ⊥) → cond b n r ≡ k → b ≡ true
 stop true n r k ne e = refl
 stop false n r k ne e = absurd (ne e)
-
-answer-taken : (n : ℕ) (s : Station) (route : List ℕ) (o : Outcome) → o .answer ≡ 0 → refusedOr n s route o .answer ≡ n
-answer-taken n s route o e = of-refused (λ (r : Outcome). r .answer ≡ n) n s route o (λ z. e ∙ sym z) (λ _. refl)
 
 -- Lines: a query goes to those that the rules name
 not-is : (b : Bool) → (not b ≡ true) ↔ (b ≡ false)
@@ -70,7 +73,7 @@ module _ (s : Station) (route : List ℕ) where
               (λ z. let v = r .0 (sym at ∙ z) in (v .1 .1 .0, v .0, v .1 .0, v .1 .1 .1)),
               (λ v. at ∙ r .1 (v .1, (v .2, (v .0, v .3)))),
             );
-        sent = refl;
+        sent = written-for (queryTo usualLimit s l m route) (queryOn usualLimit m);
         search = (refl, refl, refl);
         lines = refl;
       }
@@ -86,139 +89,96 @@ module _ (s : Station) (route : List ℕ) where
             = eachLine-at (λ k. passes (lineAt s k .live) (heldAt s k route) text usualLimit) k (omega arith) in
             let p = and-iff (lineAt s k .live) (not held) ((λ z. z), (λ z. z)) (not-is held) in
             ((λ z. p .0 (sym at ∙ z)), (λ v. at ∙ p .1 v));
-        sent = refl;
+        sent = written-for (ownTo usualLimit s text route) (ownBytes usualLimit number text);
         search = refl;
         lines = refl;
       }
 
--- Bytes: messages of one type
-writes-none : (kind : ℕ) → Writes kind []
-writes-none kind = ([], refl)
+-- What is no hit's. Nothing is written
+quiet-noHit : (kind n : ℕ) (s : Station) (route : List ℕ) → NoHit kind (quiet n s route)
+quiet-noHit kind n s route = record { sent = writes-none kind; delivered = refl }
 
-writes-one : (kind : ℕ) (p : Part) → Writes kind (message (p .number) kind (p .ttl) (p .hops) (p .payload))
-writes-one kind p = (p ∷ [], sym (append-nil _))
+quiet-silent : (n : ℕ) (s : Station) (route : List ℕ) → Silent (quiet n s route)
+quiet-silent n s route = record { to = refl; sent = refl; delivered = refl }
 
-written-append : (kind : ℕ) (ps qs : List Part) → written kind ps ++ written kind qs ≡ written kind (ps ++ qs)
-written-append kind [] qs = refl
-written-append kind (p ∷ ps) qs =
-    append-assoc (message (p .number) kind (p .ttl) (p .hops) (p .payload)) (written kind ps) (written kind qs)
-    ∙ ap (λ bs. message (p .number) kind (p .ttl) (p .hops) (p .payload) ++ bs) (written-append kind ps qs)
-
-writes-append : (kind : ℕ) (a b : List ℕ) → Writes kind a → Writes kind b → Writes kind (a ++ b)
-writes-append kind a b x y = (x .0 ++ y .0, ap₂ _++_ (x .1) (y .1) ∙ written-append kind (x .0) (y .0))
-
-writes-choice : (kind : ℕ) (b : Bool) (x y : List ℕ) → Writes kind x → Writes kind y → Writes kind (cond b x y)
-writes-choice kind b x y p q = of-choice (Writes kind) b x y (λ _. p) (λ _. q)
-
--- the pongs of a ping
-module _ (s : Station) (l clock : ℕ) (own : Own) (m : List ℕ) where
-  abbrev pongPart : Pong → Part
-  pongPart p = record { number = numberOf m; ttl = max 1 (hopsOf m); hops = p .hops + 1; payload = p .bytes }
-
-  writes-stored : (ps : List Pong) → flat (map (λ p. pongBytes m (p .hops + 1) (p .bytes)) ps) ≡ written 0x01 (map pongPart ps)
-  writes-stored [] = refl
-  writes-stored (p ∷ ps) = ap (λ bs. pongBytes m (p .hops + 1) (p .bytes) ++ bs) (writes-stored ps)
-
-  writes-pongs : Writes 0x01 (pongsSent s l clock own m)
-  writes-pongs =
-      writes-append 0x01 (ownSent own m) _
-      (writes-choice 0x01 (isProbe m || own .calls) (pongBytes m 0 (ownPong own)) []
-      (writes-one 0x01 (record { number = numberOf m; ttl = max 1 (hopsOf m); hops = 0; payload = ownPong own }))
-      (writes-none 0x01))
-      (writes-choice 0x01 (isProbe m) [] (flat (map (λ p. pongBytes m (p .hops + 1) (p .bytes)) (storedSent s l clock)))
-      (writes-none 0x01)
-      (map pongPart (storedSent s l clock), writes-stored (storedSent s l clock)))
-
-quiet-noHit : (n : ℕ) (s : Station) (route : List ℕ) → NoHit (quiet n s route)
-quiet-noHit n s route = record { sent = inl (writes-none 0x01); delivered = refl }
-
--- an arriving message that is no hit writes none
 module _ (s : Station) (l clock : ℕ) (own : Own) (m : List ℕ) (out : ℕ) (route : List ℕ) where
-  types-noHit : (kindOf m ≡ 0x81 → ⊥) → NoHit (byType usualLimit s l clock own m route)
-  unfolding byType pingOutcome pongOutcome updateOutcome queryOutcome
-  types-noHit ne =
-      of-pick NoHit (eqb (kindOf m) pingType) _ _
-      (λ _. of-refused NoHit (firstOf (pingRules (lineAt s l) clock m)) s route (pingTaken s l clock own m route)
-      (λ _. record { sent = inl (writes-pongs s l clock own m); delivered = refl })
-      (λ _. quiet-noHit (firstOf (pingRules (lineAt s l) clock m)) s route))
-      (λ _. of-pick NoHit (eqb (kindOf m) pongType) _ _
-      (λ _. of-refused NoHit (firstOf (pongRules m)) s route (quiet 0 (withLine s l (withPong (lineAt s l) (arrivedPong clock m))) route)
-      (λ _. quiet-noHit 0 (withLine s l (withPong (lineAt s l) (arrivedPong clock m))) route)
-      (λ _. quiet-noHit (firstOf (pongRules m)) s route))
-      (λ _. of-pick NoHit (eqb (kindOf m) routeUpdate) _ _
-      (λ _. quiet-noHit _ _ _)
-      (λ _. of-pick NoHit (eqb (kindOf m) queryType) _ _
-      (λ _. of-refused NoHit (firstOf (queryRules usualLimit s m)) s route (queryTaken usualLimit s l m route)
+  abbrev refusal : ℕ
+  refusal = early s l m out (length route)
+
+  -- pongs, updates and unnamed types
+  types-silent : (kindOf m ≡ 0x00 → ⊥) → (kindOf m ≡ 0x80 → ⊥) → (kindOf m ≡ 0x81 → ⊥) → Silent (byType usualLimit s l clock own m route)
+  unfolding byType pongOutcome updateOutcome
+  types-silent np nq nh =
+      of-pick Silent (eqb (kindOf m) pingType) _ _
+      (λ k. absurd (np (eqb-true (kindOf m) pingType k)))
+      (λ _. of-pick Silent (eqb (kindOf m) pongType) _ _
+      (λ _. of-refused Silent (firstOf (pongRules m)) s route (quiet 0 (withLine s l (withPong (lineAt s l) (arrivedPong clock m))) route)
+      (λ _. quiet-silent 0 (withLine s l (withPong (lineAt s l) (arrivedPong clock m))) route)
+      (λ _. quiet-silent (firstOf (pongRules m)) s route))
+      (λ _. of-pick Silent (eqb (kindOf m) routeUpdate) _ _
+      (λ _. quiet-silent _ _ _)
+      (λ _. of-pick Silent (eqb (kindOf m) queryType) _ _
+      (λ k. absurd (nq (eqb-true (kindOf m) queryType k)))
+      (λ _. of-pick Silent (eqb (kindOf m) hitType) _ _
+      (λ k. absurd (nh (eqb-true (kindOf m) hitType k)))
+      (λ _. quiet-silent 7 s route)))))
+
+  message-silent : (kindOf m ≡ 0x00 → ⊥) → (kindOf m ≡ 0x80 → ⊥) → (kindOf m ≡ 0x81 → ⊥) → Silent (messageOutcome s l clock own m out route)
+  unfolding arriving
+  message-silent np nq nh =
+      of-refused Silent refusal s route (byType usualLimit s l clock own m route)
+      (λ _. types-silent np nq nh)
+      (λ _. quiet-silent refusal s route)
+
+  -- a message that gets past the early refusals is whole
+  number-length : LetIn s l m (length route) → length (numberOf m) ≡ 16
+  number-length d = let h = d .whole in length-take-le 16 m (omega arith)
+
+  payload-most : LetIn s l m (length route) → length (payloadOf m) ≤ 4096
+  payload-most d = let h = d .size in simp length-take (omega arith)
+
+  -- a query writes a query or nothing
+  query-noHit : LetIn s l m (length route) → NoHit 0x80 (queryOutcome usualLimit s l m route)
+  unfolding queryOutcome
+  query-noHit d =
+      of-refused (NoHit 0x80) (firstOf (queryRules usualLimit s m)) s route (queryTaken usualLimit s l m route)
       (λ _. record {
-        sent = inr (writes-choice 0x80 (any (λ b. b) (queryTo usualLimit s l m route)) (queryOn usualLimit m) []
-            (writes-one 0x80 (record { number = numberOf m; ttl = lifeLeft m - 1; hops = hopsOf m + 1; payload = payloadOf m }))
-            (writes-none 0x80));
+        sent = writes-choice 0x80 (any (λ b. b) (queryTo usualLimit s l m route)) (queryOn usualLimit m) []
+            (writes-one (numberOf m) 0x80 (lifeLeft m - 1) (hopsOf m + 1) (payloadOf m) (number-length d) (payload-most d))
+            (writes-none 0x80);
         delivered = refl;
       })
-      (λ _. quiet-noHit (firstOf (queryRules usualLimit s m)) s route))
-      (λ _. of-pick NoHit (eqb (kindOf m) hitType) _ _
-      (λ k. absurd (ne (eqb-true (kindOf m) hitType k)))
-      (λ _. quiet-noHit 7 s route)))))
+      (λ _. quiet-noHit 0x80 (firstOf (queryRules usualLimit s m)) s route)
 
-  message-noHit : (kindOf m ≡ 0x81 → ⊥) → NoHit (messageOutcome s l clock own m out route)
+  queries-noHit : inOrder s ≡ true → kindOf m ≡ 0x80 → NoHit 0x80 (messageOutcome s l clock own m out route)
   unfolding arriving
-  message-noHit ne =
-      of-refused NoHit (early s l m out (length route)) s route (byType usualLimit s l clock own m route)
-      (λ _. types-noHit ne)
-      (λ _. quiet-noHit (early s l m out (length route)) s route)
+  queries-noHit o k =
+      of-refused (NoHit 0x80) refusal s route (byType usualLimit s l clock own m route)
+      (λ e. rw (by-query s o l m out route clock own k) (query-noHit (let-in s l m out (length route) e)))
+      (λ _. quiet-noHit 0x80 refusal s route)
 
-  -- by type
-  by-query : kindOf m ≡ 0x80 → byType usualLimit s l clock own m route ≡ queryOutcome usualLimit s l m route
-  unfolding byType
-  by-query k = rw k
+  -- a ping writes pongs or nothing
+  pings-noHit : Sized s → inOrder s ≡ true → kindOf m ≡ 0x00 → length (own .address) ≡ 4 → NoHit 0x01 (messageOutcome s l clock own m out route)
+  unfolding arriving
+  pings-noHit z o k four =
+      of-refused (NoHit 0x01) refusal s route (byType usualLimit s l clock own m route)
+      (λ e. rw (by-ping s o l m out route clock own k) (ping-noHit s z m (number-length (let-in s l m out (length route) e)) l clock own route four))
+      (λ _. quiet-noHit 0x01 refusal s route)
 
-  by-hit : kindOf m ≡ 0x81 → byType usualLimit s l clock own m route ≡ hitOutcome s m route
-  unfolding byType
-  by-hit k = rw k
-
-own-noHit : (s : Station) (number text : List ℕ) (out : ℕ) (route : List ℕ) → NoHit (ownOutcome s number text out route)
+own-noHit : (s : Station) (number text : List ℕ) (out : ℕ) (route : List ℕ) → length number ≡ 16 → NoHit 0x80 (ownOutcome s number text out route)
 unfolding asking
-own-noHit s number text out route =
-    of-refused NoHit (firstOf (ownRules s number text out (length route))) s route (ownTaken usualLimit s number text route)
-    (λ _. record {
-      sent = inr (writes-choice 0x80 (any (λ b. b) (ownTo usualLimit s text route)) (ownBytes usualLimit number text) []
-          (writes-one 0x80 (record { number = number; ttl = 7; hops = 0; payload = ownPayload text }))
-          (writes-none 0x80));
+own-noHit s number text out route sixteen =
+    of-refused (NoHit 0x80) (firstOf (ownRules s number text out (length route))) s route (ownTaken usualLimit s number text route)
+    (λ e. let q : NoRefusal (ownRules s number text out (length route)) = no-refusal (ownRules s number text out (length route)) refl e in
+    let h : length text ≤ 4093 = ltb-false 4093 (length text) (q .1 .1 .0) in
+    let most : length (ownPayload text) ≤ 4096 = simp length-append (omega arith) in
+    record {
+      sent = writes-choice 0x80 (any (λ b. b) (ownTo usualLimit s text route)) (ownBytes usualLimit number text) []
+          (writes-one number 0x80 7 0 (ownPayload text) sixteen most)
+          (writes-none 0x80);
       delivered = refl;
     })
-    (λ _. quiet-noHit (firstOf (ownRules s number text out (length route))) s route)
-
--- nothing sent
-silent-of : (o : Outcome) (n : ℕ) (s : Station) (route : List ℕ) → o ≡ quiet n s route → Silent o
-silent-of o n s route e =
-    record { to = ap (λ (x : Outcome). x .to) e; sent = ap (λ (x : Outcome). x .sent) e; delivered = ap (λ (x : Outcome). x .delivered) e }
-
-opening-silent : (s : Station) (l : ℕ) → Silent (opening s l)
-unfolding opening
-opening-silent s l =
-    of-refused Silent (firstOf (openingRules s l)) s [] (quiet 0 (withLine s l (emptyLine true)) [])
-    (λ _. silent-of _ 0 (withLine s l (emptyLine true)) [] refl)
-    (λ _. silent-of _ (firstOf (openingRules s l)) s [] refl)
-
-closing-silent : (s : Station) (l : ℕ) → Silent (closing s l)
-unfolding closing
-closing-silent s l =
-    of-refused Silent (firstOf (closingRules s l)) s [] (quiet 0 (closedState s l) [])
-    (λ _. silent-of _ 0 (closedState s l) [] refl)
-    (λ _. silent-of _ (firstOf (closingRules s l)) s [] refl)
-
--- Areas: the test for answer 2
-areas-of : (s : Station) (out : ℕ) (route : List ℕ) → (shortOutput out || otherRoom s (length route)) ≡ false → Areas s out route
-areas-of s out route e =
-    let r = or-snd (shortOutput out) (otherRoom s (length route)) e in
-    record {
-      output = ltb-false out 4119 (or-fst (shortOutput out) (otherRoom s (length route)) e);
-      long = ltb-false (length route) 32 (or-fst (ltb (length route) 32) (not (eqb (length route / 8) (s .room))) r);
-      room = eqb-true (length route / 8) (s .room) (not-false (eqb (length route / 8) (s .room)) (or-snd (ltb (length route) 32) (not (eqb (length route / 8) (s .room))) r));
-    }
-
-areas-fit : (s : Station) (out : ℕ) (route : List ℕ) → Areas s out route → (shortOutput out || otherRoom s (length route)) ≡ false
-areas-fit s out route a = rw (le-ltb out 4119 (a .output), le-ltb (length route) 32 (a .long), eq-eqb (length route / 8) (s .room) (a .room))
+    (λ _. quiet-noHit 0x80 (firstOf (ownRules s number text out (length route))) s route)
 
 -- An arriving query that only its number can refuse, as tests
 module _ (s : Station) (o : inOrder s ≡ true) (l : ℕ) (m : List ℕ) (out : ℕ) (route : List ℕ) where
@@ -234,18 +194,11 @@ module _ (s : Station) (o : inOrder s ≡ true) (l : ℕ) (m : List ℕ) (out : 
     pub life : badLife ≡ false
 
   acceptable-of : Tests → Acceptable s l m out route
-  unfolding early
   acceptable-of t =
-      let p : NoRefusal (earlyRules s l m out (length route)) = no-refusal (earlyRules s l m out (length route)) refl (t .early′) in
-      let d : LetIn s l m (length route) = let-in s l m out (length route) (t .early′) in
       let rest = or-snd (eqb (ttlOf m) 0) (ltb 15 (ttlOf m) || leb usualLimit (hopsOf m)) (t .life) in
       let ne : ttlOf m ≡ 0 → ⊥ = eqb-false (ttlOf m) 0 (or-fst (eqb (ttlOf m) 0) (ltb 15 (ttlOf m) || leb usualLimit (hopsOf m)) (t .life)) in
       record {
-        areas = areas-of s out route (p .1 .0);
-        line = d .line;
-        live = d .live;
-        size = d .size;
-        whole = d .whole;
+        arrived = arrived-of s o l m out route (t .early′);
         text = not-false (hasText (payloadOf m)) (t .text);
         ttl = omega arith;
         ttl15 = ltb-false 15 (ttlOf m) (or-fst (ltb 15 (ttlOf m)) (leb usualLimit (hopsOf m)) rest);
@@ -253,14 +206,10 @@ module _ (s : Station) (o : inOrder s ≡ true) (l : ℕ) (m : List ℕ) (out : 
       }
 
   tests-of : Acceptable s l m out route → Tests
-  unfolding early
   tests-of a =
-      let b : l < 8 = let h = a .line in omega arith in
-      let n : 23 ≤ length m = let h = a .whole in omega arith in
       let t : ttlOf m ≡ 0 → ⊥ = λ e. let h = a .ttl in absurd (omega arith) in
       record {
-        early′ = none-refused (earlyRules s l m out (length route))
-            (rw o, (areas-fit s out route (a .areas), (rw (lt-ltb l 8 b, a .live), (le-ltb (length m) 23 n, (le-ltb 4096 (sizeOf m) (a .size), (le-ltb (length m) (23 + sizeOf m) (a .whole), tt))))));
+        early′ = none-early s o l m out route (a .arrived);
         text = rw (a .text);
         life = rw (ne-eqb (ttlOf m) 0 t, le-ltb 15 (ttlOf m) (a .ttl15), lt-leb usualLimit (hopsOf m) (a .hops));
       }
@@ -272,7 +221,7 @@ module _ (s : Station) (o : inOrder s ≡ true) (l : ℕ) (m : List ℕ) (out : 
   answer-query clock own k =
       let n : ℕ = early s l m out (length route) in
       of-refused (λ (r : Outcome). r .answer ≡ cond (eqb n 0) (firstOf (queryRules usualLimit s m)) n) n s route (byType usualLimit s l clock own m route)
-      (λ e. ap (λ (r : Outcome). r .answer) (by-query s l clock own m out route k)
+      (λ e. ap (λ (r : Outcome). r .answer) (by-query s o l m out route clock own k)
       ∙ answer-taken (firstOf (queryRules usualLimit s m)) s route (queryTaken usualLimit s l m route) refl
       ∙ sym (ap (λ b. cond b (firstOf (queryRules usualLimit s m)) n) (eq-eqb n 0 e)))
       (λ ne. sym (ap (λ b. cond b (firstOf (queryRules usualLimit s m)) n) (ne-eqb n 0 ne)))
@@ -322,7 +271,7 @@ module _ (s : Station) (o : inOrder s ≡ true) (l : ℕ) (m : List ℕ) (out : 
   unfolding arriving queryOutcome
   goes-to clock own k =
       of-refused (λ r. r .answer ≡ 0 → QueryTo s route l m r) (early s l m out (length route)) s route (byType usualLimit s l clock own m route)
-      (λ _. rw (by-query s l clock own m out route k)
+      (λ _. rw (by-query s o l m out route clock own k)
       (of-refused (λ r. r .answer ≡ 0 → QueryTo s route l m r) (firstOf (queryRules usualLimit s m)) s route (queryTaken usualLimit s l m route)
       (λ _ _. query-to s route l m)
       (λ ne z. absurd (ne z))))
@@ -393,6 +342,7 @@ module _ (w : World) (m route : List ℕ) (f : Found) where
   hit-routed : (from : Origin) → SameLookUp f from → ((l n : ℕ) → from ≡ From l n → Since (λ _. false) w l n) → HitRouted from w m hit
   hit-routed from h since =
       record {
+        leaves = of-refused (λ (r : Outcome). r .state ≡ w .state) (firstOf (hitRules f m)) (w .state) route (hitTaken (w .state) f m route) (λ _. refl) (λ _. refl);
         short = λ a. rw (lt-ltb (sizeOf m) 27 a);
         spent = λ a b. rw (le-ltb (sizeOf m) 27 a, eq-eqb (ttlOf m) 0 b);
         by = λ a b. hit-by from h since a b;
@@ -400,34 +350,54 @@ module _ (w : World) (m route : List ℕ) (f : Found) where
 
 -- Every call, and every list
 module _ (base : List Query) (w : World) (v : Invariant base w) where
-  message-hit : (l clock : ℕ) (own : Own) (m : List ℕ) (out : ℕ) (route : List ℕ) → kindOf m ≡ 0x81 → unsent (messageOutcome (w .state) l clock own m out route .answer) ≡ false
-      → HitRouted (origin (w .log) base (numberIn m)) w m (messageOutcome (w .state) l clock own m out route)
-  unfolding arriving hitOutcome
-  message-hit l clock own m out route k =
-      of-refused (λ r. unsent (r .answer) ≡ false → HitRouted (origin (w .log) base (numberIn m)) w m r) (early (w .state) l m out (length route)) (w .state) route (byType usualLimit (w .state) l clock own m route)
-      (λ _ _. rw (by-hit (w .state) l clock own m out route k)
-      (hit-routed w m route (hitFound (w .state) m) (origin (w .log) base (numberIn m)) (looked-up base w v (numberIn m)) (λ l n. v .since (λ _. false) capacity (numberIn m) l n)))
-      (λ ne u. absurd (clash (early-unsent (w .state) l m out (length route) ne) u))
+  module _ (l clock : ℕ) (own : Own) (m : List ℕ) (out : ℕ) (route : List ℕ) where
+    message-hit : kindOf m ≡ 0x81 → Arrived (w .state) l m out route → HitRouted (origin (w .log) base (numberIn m)) w m (messageOutcome (w .state) l clock own m out route)
+    unfolding hitOutcome
+    message-hit k a =
+        rw (by-type (w .state) (v .order) l m out route clock own a ∙ by-hit (w .state) (v .order) l m out route clock own k)
+        (hit-routed w m route (hitFound (w .state) m) (origin (w .log) base (numberIn m)) (looked-up base w v (numberIn m)) (λ l n. v .since (λ _. false) capacity (numberIn m) l n))
 
-  pub routed : (c : Call) → Routed base w c (outcomeOf w c)
-  routed (Open l) = opening-silent (w .state) l
-  routed (Close l) = closing-silent (w .state) l
-  routed (Message l clock own m out a) =
-      let route : List ℕ = lent a (w .area) in
-      record {
-        query = query-answered (w .state) (v .order) l m out route clock own (origin (w .log) base (numberIn m)) (looked-up base w v (numberIn m) .found);
-        goes = goes-to (w .state) (v .order) l m out route clock own;
-        hit = message-hit l clock own m out route;
-        others = message-noHit (w .state) l clock own m out route;
-        refused = λ ne. silent-of _ _ _ _ (refusal-frame (w .state) .message l clock own m out route ne);
-      }
+    message-ping : kindOf m ≡ 0x00 → Arrived (w .state) l m out route → PingRouted (w .state) l clock own m (messageOutcome (w .state) l clock own m out route)
+    message-ping k a =
+        rw (by-type (w .state) (v .order) l m out route clock own a ∙ by-ping (w .state) (v .order) l m out route clock own k)
+        (ping-routed (w .state) (v .sized) l (a .line) clock own m route)
+
+    message-pong : kindOf m ≡ 0x01 → Arrived (w .state) l m out route → PongRouted (w .state) l clock m (messageOutcome (w .state) l clock own m out route)
+    message-pong k a =
+        rw (by-type (w .state) (v .order) l m out route clock own a ∙ by-pong (w .state) (v .order) l m out route clock own k)
+        (pong-routed (w .state) (v .sized) (v .order) l (a .line) clock m route)
+
+    pub message-routed : MessageRouted base w l m out route (messageOutcome (w .state) l clock own m out route)
+    message-routed =
+        record {
+          arrives = sent-if-arrived (w .state) (v .order) l m out route clock own;
+          query = query-answered (w .state) (v .order) l m out route clock own (origin (w .log) base (numberIn m)) (looked-up base w v (numberIn m) .found);
+          goes = goes-to (w .state) (v .order) l m out route clock own;
+          hit = message-hit;
+          noHit = queries-noHit (w .state) l clock own m out route (v .order);
+          others = message-silent (w .state) l clock own m out route;
+          refused = λ ne. silent-of _ _ _ _ (refusal-frame .calls (w .state) .message l clock own m out route ne);
+        }
+
+    pings-routed : PingsRouted (w .state) l clock own m out route (messageOutcome (w .state) l clock own m out route)
+    pings-routed =
+        record {
+          ping = message-ping;
+          noHit = pings-noHit (w .state) l clock own m out route (v .sized) (v .order);
+          pong = message-pong;
+        }
+
+  routed : (c : Call) → Routed base w c (outcomeOf w c)
+  routed (Open l) = open-routed (w .state) (v .sized) (v .order) l
+  routed (Close l) = close-routed (w .state) (v .sized) (v .order) l
+  routed (Message l clock own m out a) = (message-routed l clock own m out (lent a (w .area)), pings-routed l clock own m out (lent a (w .area)))
   routed (Ask number text out a) =
       let route : List ℕ = lent a (w .area) in
       record {
         query = own-answered (w .state) (v .order) number text out route (origin (w .log) base (numberIn number)) (looked-up base w v (numberIn number) .found);
         goes = own-goes (w .state) (v .order) number text out route;
-        others = own-noHit (w .state) number text out route;
-        refused = λ ne. silent-of _ _ _ _ (refusal-frame (w .state) .asks number text out route ne);
+        noHit = own-noHit (w .state) number text out route;
+        refused = λ ne. silent-of _ _ _ _ (refusal-frame .calls (w .state) .asks number text out route ne);
       }
 
 all-routed : (base : List Query) (w : World) → Invariant base w → (cs : List Call) → AllRouted base w cs

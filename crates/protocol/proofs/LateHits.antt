@@ -5,6 +5,7 @@ use mathlib.Core.Path.{_≡_, refl}
 use mathlib.Core.Bool.{true, false}
 use mathlib.Core.List.{List, [], _∷_, map}
 use lib.ListN.{replicate}
+use borrow.Author.Tests.{leb-true}
 use Rattle.laws.specs.Ring.{keptPlaces}
 use Rattle.wire.specs.Header.{message}
 use Rattle.keywords.specs.Keywords.{keywordsOf, pieces, filled}
@@ -20,6 +21,7 @@ use Rattle.protocol.specs.Queries.{untilZero, queryOutcome}
 use Rattle.protocol.specs.Hits.{hitOutcome}
 use Rattle.protocol.specs.Calls.{fresh, opening, closing, early, byType, arriving, asking}
 use Rattle.protocol.specs.Runs.{Call, Open, Close, Message, Ask, Same, World, run, start}
+use Rattle.protocol.specs.Arrived.{Arrived}
 use Rattle.protocol.specs.Demand2.{allTaken, Here, Gone, origin, AllRouted}
 use Rattle.protocol.proofs.Kept.{fresh-in-order}
 use Rattle.protocol.proofs.Demand2.{demand2}
@@ -71,6 +73,18 @@ late-origins = (refl, refl)
 -- the premises of demand 2 can be met
 late-routed : AllRouted (remembered (fresh 32 .state)) (start (fresh 32 .state) (replicate 32 0)) lateHits
 late-routed = demand2 (fresh 32 .state) (replicate 32 0) lateHits (fresh-in-order 32 .sized) (fresh-in-order 32 .order)
+
+-- and so can what is brought by a hit: after the list, one by line 5 has arrived
+late-arrived : Arrived (late .state) 5 (hit 7) 4119 (replicate 32 0)
+unfolding own query hit lateHits late keptPlaces message keywordsOf pieces filled hashOf word goodLength tableInOrder withholds remembered find remember noTwice storedPongs lineInOrder inOrder untilZero queryOutcome hitOutcome fresh opening closing early byType arriving asking
+late-arrived =
+    record {
+      areas = record { output = leb-true 4119 4119 refl; long = leb-true 32 32 refl; room = refl };
+      line = leb-true 5 7 refl;
+      live = refl;
+      size = leb-true 27 4096 refl;
+      whole = leb-true 50 50 refl;
+    }
 
 -- a state that remembers 512 queries asked here, of the numbers 1 to 512, number 1 the oldest
 counting : ℕ → ℕ → List ℕ

@@ -13,6 +13,11 @@ pub mod Demand3
 pub mod Periods
 pub mod Effects
 pub mod Origins
+pub mod Arrived
+pub mod Written
+pub mod Opened
+pub mod Pinged
+pub mod PongBytes
 pub mod Demand2
 pub mod Gone
 pub mod Back

@@ -3,13 +3,14 @@
 use Prim.Native.Nat.{ℕ, _*_, _≤_}
 use native.Mathlib.Omega.{arith}
 use mathlib.Core.Path.{_≡_, refl, sym, ap, _∙_}
-use mathlib.Core.Bool.{true, false, cond, _&&_, and-false}
+use mathlib.Core.Bool.{Bool, true, false, cond, _&&_, and-false}
 use mathlib.Core.List.{List, []}
-use lib.Dec.{eqb, leb}
-use lib.ListN.{length}
-use borrow.Author.Tests.{leb-true, lt-leb}
+use lib.Dec.{eqb, leb, ltb}
+use lib.ListN.{length, replicate, getD-replicate, List·getD-eq-default}
+use borrow.Author.Tests.{leb-true, lt-leb, lt-ltb, le-ltb, ltb-true, ltb-false}
 use Rattle.laws.specs.Tests.{firstOf}
 use Rattle.laws.specs.Parts.{over}
+use Rattle.laws.specs.Ring.{keptPlaces}
 use Rattle.laws.proofs.Refusals.{and-snd, and-intro}
 use Rattle.laws.proofs.Overlay.{over-same-front}
 use Rattle.wire.specs.Header.{kindOf, ttlOf, hopsOf, payloadOf, routeUpdate}
@@ -17,15 +18,19 @@ use Rattle.tables.specs.Tables.{Held}
 use Rattle.tables.specs.Updates.{updateAnswer, brokenBy}
 use Rattle.protocol.specs.declared.Station.{Station}
 use Rattle.protocol.specs.declared.Own.{Own}
-use Rattle.protocol.specs.Lines.{emptyLine, lineAt, withLine, withTable, withPong, heldAt}
+use Rattle.protocol.specs.Lines.{lineCount, emptyLine, nowhere, lineAt, withLine, withTable, withPong, storedPongs, heldAt}
 use Rattle.protocol.specs.Outcomes.{Outcome, quiet, refusedOr, unsent}
 use Rattle.protocol.specs.Queries.{usualLimit, queryType, queryRules, queryTaken, queryOutcome, ownTaken}
 use Rattle.protocol.specs.Hits.{hitType, hitRules, hitFound, hitTaken, hitOutcome}
 use Rattle.protocol.specs.Pings.{pingType, pongType, pingRules, pingTaken, pingOutcome, pongRules, arrivedPong, pongOutcome}
-use Rattle.protocol.specs.Calls.{openingRules, opening, closedState, closingRules, closing, early, updateOutcome, byType, arriving, ownRules, asking, messageOutcome}
-use Rattle.protocol.specs.Kept.{OutOfOrder, marksBroken, brokenAt, afterRefusal, RefusedQuietly, RefusalFrame}
+use Rattle.protocol.specs.Calls.{fresh, openingRules, opening, closedState, closingRules, closing, early, updateOutcome, byType, arriving, ownRules, asking, messageOutcome}
+use Rattle.protocol.specs.Kept.{OutOfOrder, marksBroken, brokenAt, afterRefusal, RefusedQuietly, RefusalsLeave, RefusalFrame}
+use Rattle.protocol.specs.Frames.{Bare}
 use Rattle.protocol.proofs.Updates.{by-update, update-range}
+use Rattle.protocol.specs.Memory.{remembered}
 use Rattle.protocol.proofs.Outcomes.{of-pick, of-refused, other-type, early-unsent}
+use Rattle.protocol.proofs.Kept.{fresh-in-order}
+use Rattle.protocol.proofs.Opened.{bare-at}
 
 -- out of order
 pub out-of-order : OutOfOrder
@@ -99,12 +104,37 @@ module _ (s : Station) (l : ℕ) (m route : List ℕ) where
       (λ _. types-leave clock own)
       (λ n. early-leaves (early s l m out (length route)) (early-unsent s l m out (length route) n))
 
-pub refusal-frame : RefusalFrame
+calls-leave : (s : Station) → RefusalsLeave s
 unfolding opening closing asking
-refusal-frame s =
+calls-leave s =
     record {
       opens = λ l. rules-leave s [] (firstOf (openingRules s l)) (quiet 0 (withLine s l (emptyLine true)) []) refl;
       closes = λ l. rules-leave s [] (firstOf (closingRules s l)) (quiet 0 (closedState s l) []) refl;
       message = λ l clock own m out route. message-leaves s l m route clock own out;
       asks = λ number text out route. rules-leave s route (firstOf (ownRules s number text out (length route))) (ownTaken usualLimit s number text route) refl;
+    }
+
+-- a fresh state is made whatever its answer
+fresh-bare : (n l : ℕ) → Bare false (lineAt (fresh n .state) l)
+unfolding fresh storedPongs keptPlaces
+fresh-bare n l = go (ltb l lineCount) refl
+  where
+    go : (b : Bool) → ltb l lineCount ≡ b → Bare false (lineAt (fresh n .state) l)
+    go true e = bare-at false (lineAt (fresh n .state) l) (getD-replicate lineCount l (emptyLine false) nowhere (ltb-true l lineCount e))
+    go false e = rw (List·getD-eq-default (replicate lineCount (emptyLine false)) nowhere {n = l} (ltb-false l lineCount e)) (record { isLive = refl; mark = refl; pongs = refl; unpinged = refl })
+
+pub refusal-frame : RefusalFrame
+unfolding fresh remembered keptPlaces
+refusal-frame =
+    record {
+      calls = calls-leave;
+      freshRefused = λ n h.
+          record {
+            answer = rw (lt-ltb n 32 h);
+            room = rw (lt-ltb n 32 h);
+            lines = fresh-bare n;
+            memory = refl;
+            order = fresh-in-order n .order;
+          };
+      freshTaken = λ n h. rw (le-ltb n 32 h) (refl, refl);
     }

@@ -1,6 +1,8 @@
 -- Demand 2, over lists of calls: an unseen query goes to exactly the neighbours that the rules name, and a hit goes back only over the same
 -- opening of the line its query came by, while that query is among the last 512. Where a query came from is read off the log alone.
-use Prim.Native.Nat.{ℕ, suc, _+_, _-_, _/_, _≤_, _<_}
+-- What is demanded of a call is demanded of what it brings to a state (Arrived), so that refusing it is no way out; the statements on openings
+-- and closings, pings and pongs, and the bytes of messages are in Opened, Pinged and Written.
+use Prim.Native.Nat.{ℕ, suc, _+_, _-_, _≤_, _<_}
 use mathlib.Core.Path.{_≡_}
 use mathlib.Core.Bool.{Bool, true, false, cond, _&&_, _||_}
 use mathlib.Core.Logic.{_↔_, _⊎_}
@@ -16,12 +18,17 @@ use Rattle.protocol.specs.declared.Own.{Own}
 use Rattle.protocol.specs.Memory.{capacity, here, gone, Number, numberIn, sameNumber, Query, remembered, noTwice}
 use Rattle.protocol.specs.Lines.{lineAt, heldAt}
 use Rattle.protocol.specs.Order.{inOrder}
-use Rattle.protocol.specs.Outcomes.{Outcome, unsent, nobody, onlyTo, writtenFor}
-use Rattle.protocol.specs.Queries.{textIn, ownPayload}
+use Rattle.protocol.specs.Outcomes.{Outcome, nobody, onlyTo}
+use Rattle.protocol.specs.Queries.{textIn}
 use Rattle.protocol.specs.Calls.{fresh}
 use Rattle.protocol.specs.Runs.{Area, Call, Open, Close, Message, Ask, Made, World, lent, outcomeOf, step, run, start}
 use Rattle.protocol.specs.Periods.{lifeLeft}
 use Rattle.protocol.specs.Kept.{Sized}
+use Rattle.protocol.specs.Arrived.{Areas, Arrived, SentIfArrived}
+use Rattle.protocol.specs.Frames.{Silent}
+use Rattle.protocol.specs.Written.{NoHit, WrittenFor}
+use Rattle.protocol.specs.Opened.{OpenRouted, CloseRouted}
+use Rattle.protocol.specs.Pinged.{PingsRouted}
 
 -- Calls and their answers. One that took a query: an arriving one or an own one, answered 0
 abbrev pub took : Call → ℕ → Bool
@@ -135,19 +142,9 @@ MemoryHistory =
     → inOrder s ≡ true
     → MemoryIs (run (start s area) cs .state) (run (start s area) cs .log) (remembered s)
 
--- Queries. The areas that are lent fit the state
-pub record Areas (s : Station) (out : ℕ) (route : List ℕ) : Type 0 where
-  pub output : 4119 ≤ out
-  pub long : 32 ≤ length route
-  pub room : length route / 8 ≡ s .room
-
--- an arriving query that only its number can refuse, and such an own query
+-- Queries. An arriving query that only its number can refuse, and such an own query
 pub record Acceptable (s : Station) (l : ℕ) (m : List ℕ) (out : ℕ) (route : List ℕ) : Type 0 where
-  pub areas : Areas s out route
-  pub line : l ≤ 7
-  pub live : lineAt s l .live ≡ true
-  pub size : sizeOf m ≤ 4096
-  pub whole : 23 + sizeOf m ≤ length m
+  pub arrived : Arrived s l m out route
   pub text : any (eqb 0) (drop 2 (payloadOf m)) ≡ true
   pub ttl : 1 ≤ ttlOf m
   pub ttl15 : ttlOf m ≤ 15
@@ -173,7 +170,7 @@ pub record QueryTo (s : Station) (route : List ℕ) (l : ℕ) (m : List ℕ) (o 
       × (k ≡ l → ⊥)
       × (2 ≤ lifeLeft m)
       × (withholds (heldAt s k route) (keywordsOf (textIn (payloadOf m))) (lifeLeft m - 1) ≡ false))
-  pub sent : o .sent ≡ writtenFor (o .to) (message (numberOf m) 0x80 (lifeLeft m - 1) (hopsOf m + 1) (payloadOf m))
+  pub sent : WrittenFor (o .to) (message (numberOf m) 0x80 (lifeLeft m - 1) (hopsOf m + 1) (payloadOf m)) (o .sent)
   pub search : (o .search ≡ true) × (o .textat ≡ 25) × (o .textlen ≡ length (textIn (payloadOf m)))
   pub lines : o .state .lines ≡ s .lines
 
@@ -181,7 +178,7 @@ pub record OwnTo (s : Station) (route number text : List ℕ) (o : Outcome) : Ty
   pub eight : length (o .to) ≡ 8
   pub to : (k : ℕ) → k < 8
       → (getD (o .to) k false ≡ true) ↔ ((lineAt s k .live ≡ true) × (withholds (heldAt s k route) (keywordsOf text) 7 ≡ false))
-  pub sent : o .sent ≡ writtenFor (o .to) (message number 0x80 7 0 (ownPayload text))
+  pub sent : WrittenFor (o .to) (message number 0x80 7 0 (0 ∷ 0 ∷ (text ++ (0 ∷ [])))) (o .sent)
   pub search : o .search ≡ false
   pub lines : o .state .lines ≡ s .lines
 
@@ -202,53 +199,35 @@ HitBy (From l n) w m o =
     × (o .sent ≡ message (numberOf m) 0x81 (ttlOf m - 1) (hopsOf m + 1) (payloadOf m)))
 
 pub record HitRouted (from : Origin) (w : World) (m : List ℕ) (o : Outcome) : Type 0 where
+  pub leaves : o .state ≡ w .state
   pub short : sizeOf m < 27 → o .answer ≡ 6
   pub spent : 27 ≤ sizeOf m → ttlOf m ≡ 0 → o .answer ≡ 8
   pub by : 27 ≤ sizeOf m → 1 ≤ ttlOf m → HitBy from w m o
 
--- Bytes that are messages of one type, one after the other
-pub record Part : Type 0 where
-  pub number : List ℕ
-  pub ttl : ℕ
-  pub hops : ℕ
-  pub payload : List ℕ
-
-abbrev pub written : ℕ → List Part → List ℕ
-written kind [] = []
-written kind (p ∷ ps) = message (p .number) kind (p .ttl) (p .hops) (p .payload) ++ written kind ps
-
-abbrev pub Writes : ℕ → List ℕ → Type 0
-Writes kind bytes = (ps : List Part) × (bytes ≡ written kind ps)
-
--- no hit is written or delivered, but pongs or a query may be
-pub record NoHit (o : Outcome) : Type 0 where
-  pub sent : Writes 0x01 (o .sent) ⊎ Writes 0x80 (o .sent)
-  pub delivered : o .delivered ≡ false
-
--- nothing is sent or delivered
-pub record Silent (o : Outcome) : Type 0 where
-  pub to : o .to ≡ nobody
-  pub sent : o .sent ≡ []
-  pub delivered : o .delivered ≡ false
-
--- One call, with the world before it and the queries remembered before its log began
+-- One call, with the world before it and the queries remembered before its log began. Whatever has arrived is decided by its type, and
+-- nothing else is; a refused call sends nothing
 pub record MessageRouted (base : List Query) (w : World) (l : ℕ) (m : List ℕ) (out : ℕ) (route : List ℕ) (o : Outcome) : Type 0 where
+  pub arrives : SentIfArrived (w .state) l m out route o
   pub query : kindOf m ≡ 0x80 → Answered (Acceptable (w .state) l m out route) (origin (w .log) base (numberIn m)) o
   pub goes : kindOf m ≡ 0x80 → o .answer ≡ 0 → QueryTo (w .state) route l m o
-  pub hit : kindOf m ≡ 0x81 → unsent (o .answer) ≡ false → HitRouted (origin (w .log) base (numberIn m)) w m o
-  pub others : (kindOf m ≡ 0x81 → ⊥) → NoHit o
+  pub hit : kindOf m ≡ 0x81 → Arrived (w .state) l m out route → HitRouted (origin (w .log) base (numberIn m)) w m o
+  pub noHit : kindOf m ≡ 0x80 → NoHit 0x80 o
+  -- neither a ping, a query nor a hit
+  pub others : (kindOf m ≡ 0x00 → ⊥) → (kindOf m ≡ 0x80 → ⊥) → (kindOf m ≡ 0x81 → ⊥) → Silent o
   pub refused : (o .answer ≡ 0 → ⊥) → Silent o
 
+-- the number of an own query has 16 bytes by its type, [u8; 16]
 pub record AskRouted (base : List Query) (w : World) (number text : List ℕ) (out : ℕ) (route : List ℕ) (o : Outcome) : Type 0 where
   pub query : Answered (OwnAcceptable (w .state) text out route) (origin (w .log) base (numberIn number)) o
   pub goes : o .answer ≡ 0 → OwnTo (w .state) route number text o
-  pub others : NoHit o
+  pub noHit : length number ≡ 16 → NoHit 0x80 o
   pub refused : (o .answer ≡ 0 → ⊥) → Silent o
 
 abbrev pub Routed : List Query → World → Call → Outcome → Type 0
-Routed base w (Open l) o = Silent o
-Routed base w (Close l) o = Silent o
-Routed base w (Message l clock own m out a) o = MessageRouted base w l m out (lent a (w .area)) o
+Routed base w (Open l) o = OpenRouted (w .state) l o
+Routed base w (Close l) o = CloseRouted (w .state) l o
+Routed base w (Message l clock own m out a) o =
+    MessageRouted base w l m out (lent a (w .area)) o × PingsRouted (w .state) l clock own m out (lent a (w .area)) o
 Routed base w (Ask number text out a) o = AskRouted base w number text out (lent a (w .area)) o
 
 -- Every call of a list, in turn

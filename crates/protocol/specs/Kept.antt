@@ -19,6 +19,7 @@ use Rattle.protocol.specs.Order.{inOrder}
 use Rattle.protocol.specs.Outcomes.{Outcome, quiet}
 use Rattle.protocol.specs.Calls.{fresh, opening, closedState, closing, messageOutcome, ownOutcome}
 use Rattle.protocol.specs.Runs.{Call, World, run}
+use Rattle.protocol.specs.Frames.{Bare}
 
 -- the arrays of a state are as long as their types have them
 abbrev pub sizedLine : Line → Bool
@@ -93,8 +94,19 @@ pub record RefusalsLeave (s : Station) : Type 0 where
       → RefusedQuietly (messageOutcome s l clock own m out route) (λ n. afterRefusal n s l m) route
   pub asks : (number text : List ℕ) (out : ℕ) (route : List ℕ) → RefusedQuietly (ownOutcome s number text out route) (λ n. s) route
 
-abbrev pub RefusalFrame : Type 0
-RefusalFrame = (s : Station) → RefusalsLeave s
+-- a fresh state over less than 32 bytes is refused by 2, and is handed back all the same, with room 0: nothing stands before it, and at the
+-- boundary it is written over the station that was lent. All its lines are closed and bare, and nothing is remembered
+pub record FreshRefused (n : ℕ) : Type 0 where
+  pub answer : fresh n .answer ≡ 2
+  pub room : fresh n .state .room ≡ 0
+  pub lines : (l : ℕ) → Bare false (lineAt (fresh n .state) l)
+  pub memory : remembered (fresh n .state) ≡ []
+  pub order : inOrder (fresh n .state) ≡ true
+
+pub record RefusalFrame : Type 0 where
+  pub calls : (s : Station) → RefusalsLeave s
+  pub freshRefused : (n : ℕ) → n < 32 → FreshRefused n
+  pub freshTaken : (n : ℕ) → 32 ≤ n → (fresh n .answer ≡ 0) × (fresh n .state .room ≡ n / 8)
 
 -- the remembered queries after one more, after a closing, and the stored pongs after one more
 abbrev pub asked : Number → ℕ → Query

@@ -11,6 +11,11 @@ pub mod Runs
 pub mod Expected
 pub mod History
 pub mod Demand3
+pub mod Arrived
+pub mod Frames
+pub mod Written
+pub mod Opened
+pub mod Pinged
 pub mod Demand2
 pub mod Periods
 pub mod Kept

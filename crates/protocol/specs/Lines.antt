@@ -1,5 +1,6 @@
 -- Lines, their tables in the route area, and their stored pongs.
-use Prim.Native.Nat.{ℕ, _+_, _-_, _*_, _%_, _^_, min}
+use Prim.Native.Nat.{ℕ, _+_, _-_, _*_, _%_, _^_, _≤_, _<_, min}
+use mathlib.Core.Path.{_≡_}
 use mathlib.Core.Bool.{Bool, true, false, cond, not}
 use mathlib.Core.List.{List, [], _∷_, map}
 use lib.Dec.{eqb}
@@ -118,3 +119,22 @@ heldAt s l route = heldIn (lineAt s l .table) (partOf (s .room) l route)
 -- document 01's elapsed time: the difference modulo 2 to the power 32
 abbrev pub elapsed : ℕ → ℕ → ℕ
 elapsed now then = (now + (2 ^ 32 - then)) % 2 ^ 32
+
+-- from outside, for any two 32-bit clocks: below 2 to the power 32, and added to the one clock it comes to the other, going round; so it is the
+-- plain difference where the clock has not gone round, and 2 to the power 32 more where it has
+pub record ElapsedIs (now then e : ℕ) : Type 0 where
+  pub below : e < 4294967296
+  pub comes : (then + e) % 4294967296 ≡ now
+  pub plain : then ≤ now → then + e ≡ now
+  pub round : now < then → then + e ≡ now + 4294967296
+
+abbrev pub ElapsedRight : Type 0
+ElapsedRight = (now then : ℕ) → now < 4294967296 → then < 4294967296 → ElapsedIs now then (elapsed now then)
+
+-- past 2 to the power 31, and across 2 to the power 32
+pub record ElapsedPoints : Type 0 where
+  pub half : elapsed 2147483648 0 ≡ 2147483648
+  pub most : elapsed 4294967295 0 ≡ 4294967295
+  pub back : elapsed 0 1 ≡ 4294967295
+  pub across : elapsed 743 4294967040 ≡ 999
+  pub spaced : elapsed 744 4294967040 ≡ 1000
