@@ -93,13 +93,13 @@ module _ (n k r : ℕ) (not4 : r ≡ 4 → ⊥) (not5 : r ≡ 5 → ⊥) where
 
 pub extent-exactly : ExtentExactly
 unfolding three
-extent-exactly s l clock own m out route o a b c d e =
+extent-exactly s l clock own m out route o a d e =
     let rest : ℕ = firstOf ((unnamed m, 7) ∷ typeRules s l clock m route) in
     let u : unsent rest ≡ false = none-unsent ((unnamed m, 7) ∷ typeRules s l clock m route) (types-sent s l clock m route) in
     let below : l < 8 = omega arith in
     let is : messageOutcome s l clock own m out route .answer ≡ three (length m) (sizeOf m) rest
     = numbers s l clock own m out route
-    ∙ rw (o, le-ltb out 4119 a, le-ltb (length route) 32 b, eq-eqb (length route / 8) (s .room) c, lt-ltb l 8 below, e) refl in
+    ∙ rw (o, le-ltb out 4119 (a .output), le-ltb (length route) 32 (a .long), eq-eqb (length route / 8) (s .room) (a .room), lt-ltb l 8 below, e) refl in
     let t : Three (length m) (sizeOf m) (three (length m) (sizeOf m) rest)
     = of-three (length m) (sizeOf m) rest (λ z. clash (ap unsent z) u) (λ z. clash (ap unsent z) u) in
     rw is (record { four = t .four; five = t .five })

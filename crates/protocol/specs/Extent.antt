@@ -1,6 +1,6 @@
 -- How much of a message must be there, from outside: with a state in order, areas that fit and an open line, 4 and 5 are given exactly for these
 -- bytes. A header that is not whole comes first; the payload's size is looked at before its bytes.
-use Prim.Native.Nat.{ℕ, _+_, _/_, _≤_, _<_}
+use Prim.Native.Nat.{ℕ, _+_, _≤_, _<_}
 use mathlib.Core.Path.{_≡_}
 use mathlib.Core.Bool.{true}
 use mathlib.Core.Logic.{_↔_, _⊎_}
@@ -12,6 +12,7 @@ use Rattle.protocol.specs.declared.Own.{Own}
 use Rattle.protocol.specs.Lines.{lineAt}
 use Rattle.protocol.specs.Order.{inOrder}
 use Rattle.protocol.specs.Calls.{messageOutcome}
+use Rattle.protocol.specs.Arrived.{Areas}
 
 pub record ByExtent (m : List ℕ) (answer : ℕ) : Type 0 where
   pub four : (answer ≡ 4) ↔ ((length m < 23) ⊎ ((sizeOf m ≤ 4096) × (length m < 23 + sizeOf m)))
@@ -21,9 +22,7 @@ abbrev pub ExtentExactly : Type 0
 ExtentExactly =
     (s : Station) (l clock : ℕ) (own : Own) (m : List ℕ) (out : ℕ) (route : List ℕ)
     → inOrder s ≡ true
-    → 4119 ≤ out
-    → 32 ≤ length route
-    → length route / 8 ≡ s .room
+    → Areas s out route
     → l ≤ 7
     → lineAt s l .live ≡ true
     → ByExtent m (messageOutcome s l clock own m out route .answer)
