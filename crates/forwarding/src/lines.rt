@@ -31,7 +31,7 @@ fn smaller(a: usize, b: usize) -> usize
     if a <= b { a } else { b }
 }
 
-// Whether a line is left among those that a query may go to, by one more of its keywords: its table does not stop the query by it.
+// Whether a line is left among those that a query may go to, by one more of its keywords: its table does not stop it.
 fn is_left(flag: bool, table: Table, part: &[u8], ttl: u8, hash: u32) -> bool
     ensures { λ r. ⌜ r ≡ (flag && not (stops (heldIn table (now (part .entry))) ttl hash)) ⌝ }
 {

@@ -24,8 +24,9 @@ fn entry_at(length: u32, part: &[u8], hash: u32) -> u8
     0
 }
 
-// Whether the table stops each query, to be sent with this TTL, that has a keyword with this hash. A table that is not settled stops none, and its
-// entry is not read; a settled one does if the entry is Infinity, which means none, or exceeds the TTL.
+// Whether the table stops each query, to be sent with this TTL, that has a keyword with this hash. A table that is not
+// settled stops none, and its entry is not read; a settled one does if the entry is Infinity, which means none, or
+// exceeds the TTL.
 pub fn stops(table: Table, part: &[u8], ttl: u8, hash: u32) -> bool
     ensures { λ r. ⌜ r ≡ stops (heldIn table (now (part .entry))) ttl hash ⌝ }
 {

@@ -3,7 +3,8 @@ use Prim.Native.Nat.{ℕ, _-_, _≤_, _<_}
 use mathlib.Core.Path.{_≡_, refl, sym, ap, _∙_}
 use mathlib.Core.Bool.{Bool, true, false, _||_, false≢true}
 use mathlib.Core.Logic.{_↔_, _⊎_, inl, inr, ⊎-elim}
-use mathlib.Core.List.{List, [], _∷_, List·Memᴰ, List·Memᴰ·head, List·Memᴰ·tail, List·Memᴰ·cases-cons, List·Memᴰ·not-nil}
+use mathlib.Core.List.{List, [], _∷_}
+use mathlib.Core.List.{List·Memᴰ, List·Memᴰ·head, List·Memᴰ·tail, List·Memᴰ·cases-cons, List·Memᴰ·not-nil}
 use lib.Dec.{eqb, ltb}
 use lib.ListN.{length, getD, take, drop}
 use borrow.Author.Tests.{eq-eqb, ne-eqb, eqb-true, lt-ltb, ltb-true}
@@ -16,7 +17,8 @@ use Rattle.keywords.specs.Hash.{hashOf, scaled}
 use Rattle.keywords.proofs.CutLaws.{any-found, any-done}
 use Rattle.keywords.proofs.PlaceLaws.{place-scaled}
 use Rattle.tables.specs.Tables.{Held, settled}
-use Rattle.tables.specs.Admission.{far, entryOf, stops, withholds, Withheld, WithheldExactly, UnsettledWithholdsNone, SomeKeywordStops}
+use Rattle.tables.specs.Admission.{far, entryOf, stops, withholds, SomeKeywordStops}
+use Rattle.tables.specs.Admission.{Withheld, WithheldExactly, UnsettledWithholdsNone}
 use Rattle.tables.proofs.TestLaws.{either, both-true}
 
 -- a test that holds of some element names one
@@ -24,47 +26,58 @@ module _ {A : Type 0} (f : A → Bool) where
   any-some : (xs : List A) → any f xs ≡ true → (x : A) × List·Memᴰ x xs × (f x ≡ true)
   any-some [] e = absurd (false≢true e)
   any-some (x ∷ xs) e =
-      ⊎-elim (λ y. (x, List·Memᴰ·head refl, y)) (λ y. let r = any-some xs y in (r .0, List·Memᴰ·tail (r .1), r .2)) (either (f x) (any f xs) e)
+      ⊎-elim (λ y. (x, List·Memᴰ·head refl, y))
+      (λ y. let r = any-some xs y in (r .0, List·Memᴰ·tail (r .1), r .2))
+      (either (f x) (any f xs) e)
 
   some-any : (xs : List A) (x : A) → List·Memᴰ x xs → f x ≡ true → any f xs ≡ true
   some-any [] x m e = absurd (List·Memᴰ·not-nil m)
   some-any (y ∷ ys) x m e =
-      ⊎-elim (λ z. or-left (f y) (any f ys) (ap f (sym z) ∙ e)) (λ z. or-right (f y) (any f ys) (some-any ys x z e)) (List·Memᴰ·cases-cons m)
+      ⊎-elim (λ z. or-left (f y) (any f ys) (ap f (sym z) ∙ e))
+      (λ z. or-right (f y) (any f ys) (some-any ys x z e))
+      (List·Memᴰ·cases-cons m)
 
 pub some-keyword-stops : SomeKeywordStops
 unfolding withholds
-some-keyword-stops h keywords ttl =
-    (any-some (λ k. stops h ttl (hashOf k)) keywords, λ w. some-any (λ k. stops h ttl (hashOf k)) keywords (w .0) (w .1) (w .2))
+some-keyword-stops h keywords ttl = (
+  any-some (λ k. stops h ttl (hashOf k)) keywords,
+  λ w. some-any (λ k. stops h ttl (hashOf k)) keywords (w .0) (w .1) (w .2),
+)
 
 far-says : (infinity ttl e : ℕ) → far infinity ttl e ≡ true → (e ≡ infinity) ⊎ (ttl < e)
-far-says infinity ttl e t = ⊎-elim (λ y. inl (eqb-true e infinity y)) (λ y. inr (ltb-true ttl e y)) (either (eqb e infinity) (ltb ttl e) t)
+far-says infinity ttl e t =
+    ⊎-elim (λ y. inl (eqb-true e infinity y)) (λ y. inr (ltb-true ttl e y)) (either (eqb e infinity) (ltb ttl e) t)
 
 says-far : (infinity ttl e : ℕ) → (e ≡ infinity) ⊎ (ttl < e) → far infinity ttl e ≡ true
 says-far infinity ttl e t =
-    ⊎-elim (λ y. or-left (eqb e infinity) (ltb ttl e) (eq-eqb e infinity y)) (λ y. or-right (eqb e infinity) (ltb ttl e) (lt-ltb ttl e y)) t
+    ⊎-elim (λ y. or-left (eqb e infinity) (ltb ttl e) (eq-eqb e infinity y))
+    (λ y. or-right (eqb e infinity) (ltb ttl e) (lt-ltb ttl e y))
+    t
 
 -- a table of whose entries `entry` gives each keyword's
-module _ (h : Held) (entry : List ℕ → ℕ) (same : (k : List ℕ) → entryOf h (hashOf k) ≡ entry k) (keywords : List (List ℕ)) (ttl : ℕ) where
-  withheld-says : withholds h keywords ttl ≡ true → Withheld h entry keywords ttl
-  withheld-says e =
-      let w = some-keyword-stops h keywords ttl .0 e in
-      let k = w .0 in
-      let t = both-true (eqb (h .table .mark) settled) (far (h .table .infinity) ttl (entryOf h (hashOf k))) (w .2) in
-      (eqb-true (h .table .mark) settled (t .0), (k, w .1, far-says (h .table .infinity) ttl (entry k) (rw (same k) at (t .1))))
+module _ (h : Held) (entry : List ℕ → ℕ) (same : (k : List ℕ) → entryOf h (hashOf k) ≡ entry k) where
+  module _ (keywords : List (List ℕ)) (ttl : ℕ) where
+    withheld-says : withholds h keywords ttl ≡ true → Withheld h entry keywords ttl
+    withheld-says e =
+        let w = some-keyword-stops h keywords ttl .0 e in
+        let k = w .0 in
+        let t = both-true (eqb (h .table .mark) settled) (far (h .table .infinity) ttl (entryOf h (hashOf k))) (w .2) in
+        let f = far-says (h .table .infinity) ttl (entry k) (rw (same k) at (t .1)) in
+        (eqb-true (h .table .mark) settled (t .0), (k, w .1, f))
 
-  says-withheld : Withheld h entry keywords ttl → withholds h keywords ttl ≡ true
-  says-withheld w =
-      let k = w .1 .0 in
-      some-keyword-stops h keywords ttl .1 (
-        k,
-        w .1 .1,
-        and-intro (eqb (h .table .mark) settled) (far (h .table .infinity) ttl (entryOf h (hashOf k)))
-            (eq-eqb (h .table .mark) settled (w .0))
-            (rw (same k) (says-far (h .table .infinity) ttl (entry k) (w .1 .2))),
-      )
+    says-withheld : Withheld h entry keywords ttl → withholds h keywords ttl ≡ true
+    says-withheld w =
+        let k = w .1 .0 in
+        some-keyword-stops h keywords ttl .1 (
+          k,
+          w .1 .1,
+          and-intro (eqb (h .table .mark) settled) (far (h .table .infinity) ttl (entryOf h (hashOf k)))
+              (eq-eqb (h .table .mark) settled (w .0))
+              (rw (same k) (says-far (h .table .infinity) ttl (entry k) (w .1 .2))),
+        )
 
-  pub withheld-where : (withholds h keywords ttl ≡ true) ↔ Withheld h entry keywords ttl
-  withheld-where = (withheld-says, says-withheld)
+    pub withheld-where : (withholds h keywords ttl ≡ true) ↔ Withheld h entry keywords ttl
+    withheld-where = (withheld-says, says-withheld)
 
 pub withheld-exactly : WithheldExactly
 withheld-exactly h b l n =
@@ -85,6 +98,7 @@ module _ (h : Held) (ttl : ℕ) (text : List ℕ) (c : Cut) (e : c ≡ cutOf tex
   pub withholds-on : c .start < c .end → (hash : ℕ) (r : Bool)
       → hash ≡ hashOf (take (c .end - c .start) (drop (c .start) text))
       → r ≡ stops h ttl hash
-      → withholds h (keywordsOf text) ttl ≡ (r || withholds h (keywordsOf (take (length text - c .end) (drop (c .end) text))) ttl)
+      → withholds h (keywordsOf text) ttl
+      ≡ (r || withholds h (keywordsOf (take (length text - c .end) (drop (c .end) text))) ttl)
   unfolding withholds
   withholds-on s hash r a b = any-found text c e (stops h ttl) s ∙ rw (b, a) refl

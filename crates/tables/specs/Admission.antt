@@ -1,4 +1,4 @@
--- Whether a table withholds a query, as document 01 has it in "Questions" and demand 3: the rule, and below it what it comes to in words.
+-- Whether a table withholds a query (document 01, "Questions", and demand 3): the rule, and what it comes to in words.
 use Prim.Native.Nat.{ℕ, _^_, _≤_, _<_}
 use mathlib.Core.Path.{_≡_}
 use mathlib.Core.Bool.{Bool, true, false, _&&_, _||_}
@@ -33,16 +33,19 @@ SomeKeywordStops = (h : Held) (keywords : List (List ℕ)) (ttl : ℕ)
 
 -- ---- in words, without the tests above
 
--- the table is settled, and for some keyword the entry is Infinity or exceeds the TTL to be sent; `entry` gives each keyword's
+-- the table is settled, and some keyword's entry, as `entry` gives it, is Infinity or exceeds the TTL to be sent
 abbrev pub Withheld : Held → (List ℕ → ℕ) → List (List ℕ) → ℕ → Type 0
 Withheld h entry keywords ttl =
-    (h .table .mark ≡ settled) × ((k : List ℕ) × List·Memᴰ k keywords × ((entry k ≡ h .table .infinity) ⊎ (ttl < entry k)))
+    (h .table .mark ≡ settled)
+    × ((k : List ℕ) × List·Memᴰ k keywords × ((entry k ≡ h .table .infinity) ⊎ (ttl < entry k)))
 
--- this is exactly when a table of 2 to the power b entries withholds, a keyword's entry being the one at its place, the top b bits of its hash
+-- this is exactly when a table of 2 to the power b entries withholds, a keyword's entry being the one at its place, which
+-- is the top b bits of its hash
 abbrev pub WithheldExactly : Type 0
 WithheldExactly = (h : Held) (b : ℕ) → b ≤ 32 → h .table .length ≡ 2 ^ b → (keywords : List (List ℕ)) (ttl : ℕ)
     → (withholds h keywords ttl ≡ true) ↔ Withheld h (λ k. getD (h .entries) (placeOf b k) 0) keywords ttl
 
 -- a table that is not settled withholds nothing, whatever its length and its entries
 abbrev pub UnsettledWithholdsNone : Type 0
-UnsettledWithholdsNone = (h : Held) (keywords : List (List ℕ)) (ttl : ℕ) → (h .table .mark ≡ settled → ⊥) → withholds h keywords ttl ≡ false
+UnsettledWithholdsNone = (h : Held) (keywords : List (List ℕ)) (ttl : ℕ)
+    → (h .table .mark ≡ settled → ⊥) → withholds h keywords ttl ≡ false

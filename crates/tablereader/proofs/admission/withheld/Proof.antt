@@ -15,7 +15,8 @@ use Rattle.tablereader.proofs.admission.withheld.Statement.{statement}
 use Rattle.tablereader.proofs.admission.withheld.Tie as tie
 
 abbrev Inv-loop : tie.InvT-loop
-Inv-loop table part ttl text rest₀ rest = withholds (heldIn table part) (keywordsOf rest) ttl ≡ withholds (heldIn table part) (keywordsOf text) ttl
+Inv-loop table part ttl text rest₀ rest =
+    withholds (heldIn table part) (keywordsOf rest) ttl ≡ withholds (heldIn table part) (keywordsOf text) ttl
 
 abbrev μ-loop : tie.MeasureT-loop
 μ-loop table part ttl text rest₀ rest = length rest
@@ -28,15 +29,17 @@ first-keyword-requires c κs = search needs
 
 -- the keyword at hand lies in what is left of the text
 bounds : (c : tie.After-first-keyword Inv-loop μ-loop)
-    → (c .first-keyword .result .start ≤ c .first-keyword .result .end) × (c .first-keyword .result .end ≤ length (c .before .loop .rest .now))
+    → (c .first-keyword .result .start ≤ c .first-keyword .result .end)
+    × (c .first-keyword .result .end ≤ length (c .before .loop .rest .now))
 bounds c = cut-bounds (c .before .loop .rest .now) (c .first-keyword .result) (c .first-keyword .ensures)
 
 returns : tie.Need-returns Inv-loop μ-loop
 returns c =
     let x = c .before .before .before .before .before .args in
+    let h = heldIn (x .table) (x .part .now) in
+    let l = c .before .before .loop in
     let cut = c .before .first-keyword in
-    sym (withholds-end (heldIn (x .table) (x .part .now)) (x .ttl) (c .before .before .loop .rest .now) (cut .result) (cut .ensures) (c .if1 .taken))
-    ∙ c .before .before .loop .inv
+    sym (withholds-end h (x .ttl) (l .rest .now) (cut .result) (cut .ensures) (c .if1 .taken)) ∙ l .inv
 
 sub-hash : tie.Need-sub-hash Inv-loop μ-loop
 sub-hash c = search needs
@@ -58,18 +61,22 @@ stops-requires : tie.Need-stops-requires Inv-loop μ-loop
 stops-requires c κs = search needs
 
 -- the keyword stops the text, or those behind it decide
-step : (c : tie.After-stops Inv-loop μ-loop) → let x = c .before .before .before .before .before .before .before .before .args in
+step : (c : tie.After-stops Inv-loop μ-loop) →
+    let x = c .before .before .before .before .before .before .before .before .args in
+    let h = heldIn (x .table) (x .part .now) in
     let rest = c .before .before .before .before .before .loop .rest .now in
     let end = c .before .before .before .before .first-keyword .result .end in
-    (c .stops .result || withholds (heldIn (x .table) (x .part .now)) (keywordsOf (take (length rest - end) (drop end rest))) (x .ttl))
-    ≡ withholds (heldIn (x .table) (x .part .now)) (keywordsOf (x .text .now)) (x .ttl)
+    (c .stops .result || withholds h (keywordsOf (take (length rest - end) (drop end rest))) (x .ttl))
+    ≡ withholds h (keywordsOf (x .text .now)) (x .ttl)
 step c =
     let x = c .before .before .before .before .before .before .before .before .args in
+    let h = heldIn (x .table) (x .part .now) in
     let l = c .before .before .before .before .before .loop in
     let cut = c .before .before .before .before .first-keyword in
+    let some = c .before .before .before .if1 .left in
     let number = c .before .hash in
-    sym (withholds-on (heldIn (x .table) (x .part .now)) (x .ttl) (l .rest .now) (cut .result) (cut .ensures) (c .before .before .before .if1 .left)
-    (number .result) (c .stops .result) (number .ensures) (c .stops .ensures))
+    let stop = c .stops in
+    sym (withholds-on h (x .ttl) (l .rest .now) (cut .result) (cut .ensures) some (number .result) (stop .result) (number .ensures) (stop .ensures))
     ∙ l .inv
 
 returns-2 : tie.Need-returns-2 Inv-loop μ-loop
@@ -90,10 +97,11 @@ part-rest-end c = search needs
 
 loop-less : tie.Need-loop-less Inv-loop μ-loop
 loop-less c =
+    let rest = c .before .before .before .before .before .before .before .loop .rest .now in
     let cut = c .before .before .before .before .before .before .first-keyword in
     let h = bounds (c .before .before .before .before .before .before) in
-    let l = c .before .before .before .before .before .if1 .left in
-    tail-shorter (cut .result .end) (c .before .before .before .before .before .before .before .loop .rest .now) (omega arith) (h .1)
+    let some = c .before .before .before .before .before .if1 .left in
+    tail-shorter (cut .result .end) rest (omega arith) (h .1)
 
 loop-again : tie.Need-loop-again Inv-loop μ-loop
 loop-again c = rw (c .before .if2 .left) at (step (c .before .before))
