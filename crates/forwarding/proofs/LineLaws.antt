@@ -1,28 +1,26 @@
 -- Laws of the flags of lines: one keyword more clears those of the lines that it stops, and the last keyword leaves what passes.
 use Prim.Native.Nat.{ℕ, zero, suc, _+_, _*_, _-_, _≤_, _<_, min}
-use mathlib.Core.Path.{_≡_, refl, sym, ap, ap₂, _∙_}
-use mathlib.Core.Bool.{Bool, false, not, _&&_, _||_, and-true}
+use mathlib.Core.Path.{_≡_, refl, sym, ap, _∙_}
+use mathlib.Core.Bool.{Bool, false, not, _&&_, and-true}
 use mathlib.Core.List.{List}
 use native.Mathlib.Nat.{suc-mul}
 use native.Mathlib.Numerals.{add-one}
 use native.Mathlib.Omega.{arith}
-use lib.Dec.{eqb}
 use lib.ListN.{length, getD, take, drop}
 use lib.Seq.{drop-drop, ext-getD}
-use Rattle.laws.specs.Tests.{any}
 use Rattle.laws.proofs.Parts.{part-tail}
 use Rattle.keywords.specs.declared.cut.Cut.{Cut}
 use Rattle.keywords.specs.Keywords.{keywordsOf, cutOf}
 use Rattle.keywords.specs.Hash.{hashOf}
-use Rattle.keywords.proofs.CutLaws.{any-found, any-done}
 use Rattle.tables.specs.declared.Table.{Table}
-use Rattle.tables.specs.Tables.{Held, heldIn, noTable, settled}
-use Rattle.tables.specs.Admission.{far, entryOf, withholds}
+use Rattle.tables.specs.Tables.{Held, heldIn, noTable}
+use Rattle.tables.specs.Admission.{stops, withholds}
+use Rattle.tables.proofs.AdmissionLaws.{withholds-end, withholds-on}
 use Rattle.protocol.specs.Lines.{partOf}
 use Rattle.protocol.specs.Outcomes.{eachLine}
 use Rattle.protocol.specs.Queries.{passes}
-use Rattle.forwarding.specs.Passing.{heldOf, passingOf, stops, leftBy}
-use Rattle.laws.proofs.Passing.{take-within, drop-within, and-any, and-neither}
+use Rattle.forwarding.specs.Passing.{heldOf, passingOf, leftBy}
+use Rattle.laws.proofs.Passing.{take-within, drop-within, and-neither}
 
 -- ---- eight flags
 
@@ -45,25 +43,16 @@ each-same f g h = flags-are f (eachLine g) refl (λ k b. h k b ∙ sym (flag-of 
 
 -- ---- one table
 
-module _ (h : Held) (ttl : ℕ) where
-  withholds-any : (ks : List (List ℕ)) → withholds h ks ttl ≡ any (λ k. stops h ttl (hashOf k)) ks
-  unfolding withholds
-  withholds-any ks = and-any (eqb (h .table .mark) settled) (λ k. far (h .table .infinity) ttl (entryOf h (hashOf k))) ks
+module _ (h : Held) (ttl : ℕ) (b : Bool) (text : List ℕ) (c : Cut) (e : c ≡ cutOf text) where
+  -- a keyword that is cut is tested before those behind it
+  passes-on : c .start < c .end → (hash : ℕ) → hash ≡ hashOf (take (c .end - c .start) (drop (c .start) text))
+      → passes b h text ttl ≡ passes (b && not (stops h ttl hash)) h (take (length text - c .end) (drop (c .end) text)) ttl
+  passes-on s hash eh =
+      ap (λ w. b && not w) (withholds-on h ttl text c e s hash (stops h ttl hash) eh refl)
+      ∙ and-neither b (stops h ttl hash) (withholds h (keywordsOf (take (length text - c .end) (drop (c .end) text))) ttl)
 
-  module _ (b : Bool) (text : List ℕ) (c : Cut) (e : c ≡ cutOf text) where
-    -- a keyword that is cut is tested before those behind it
-    passes-on : c .start < c .end → (hash : ℕ) → hash ≡ hashOf (take (c .end - c .start) (drop (c .start) text))
-        → passes b h text ttl ≡ passes (b && not (stops h ttl hash)) h (take (length text - c .end) (drop (c .end) text)) ttl
-    passes-on s hash eh =
-        let rest = take (length text - c .end) (drop (c .end) text) in
-        let found : withholds h (keywordsOf text) ttl ≡ (stops h ttl hash || withholds h (keywordsOf rest) ttl) =
-        withholds-any (keywordsOf text)
-        ∙ any-found text c e (stops h ttl) s
-        ∙ ap₂ (λ n r. stops h ttl n || r) (sym eh) (sym (withholds-any (keywordsOf rest))) in
-        ap (λ w. b && not w) found ∙ and-neither b (stops h ttl hash) (withholds h (keywordsOf rest) ttl)
-
-    passes-end : c .end ≤ c .start → passes b h text ttl ≡ b
-    passes-end s = ap (λ w. b && not w) (withholds-any (keywordsOf text) ∙ any-done text c e (stops h ttl) s) ∙ and-true b
+  passes-end : c .end ≤ c .start → passes b h text ttl ≡ b
+  passes-end s = ap (λ w. b && not w) (withholds-end h ttl text c e s) ∙ and-true b
 
 -- ---- the tables of eight lines
 

@@ -2,11 +2,10 @@
 use Prim.Native.Nat.{ℕ}
 use mathlib.Core.Bool.{Bool, false, not, _&&_}
 use mathlib.Core.List.{List}
-use lib.Dec.{eqb}
 use lib.ListN.{getD}
 use Rattle.tables.specs.declared.Table.{Table}
-use Rattle.tables.specs.Tables.{Held, heldIn, noTable, settled}
-use Rattle.tables.specs.Admission.{far, entryOf}
+use Rattle.tables.specs.Tables.{Held, heldIn, noTable}
+use Rattle.tables.specs.Admission.{stops}
 use Rattle.protocol.specs.Lines.{partOf}
 use Rattle.protocol.specs.Outcomes.{eachLine}
 use Rattle.protocol.specs.Queries.{passes}
@@ -19,10 +18,6 @@ heldOf tables room route k = heldIn (getD tables k noTable) (partOf room k route
 unfoldable pub passingOf : List Bool → List Table → ℕ → List ℕ → List ℕ → ℕ → List Bool
 passingOf live tables room route text ttl = eachLine (λ k. passes (getD live k false) (heldOf tables room route k) text ttl)
 
--- a table withholds each query that has a keyword with this hash
-abbrev pub stops : Held → ℕ → ℕ → Bool
-stops h ttl hash = eqb (h .table .mark) settled && far (h .table .infinity) ttl (entryOf h hash)
-
--- the lines among those flagged that one more keyword leaves
+-- the lines among those flagged that one more keyword, with this hash, leaves
 unfoldable pub leftBy : List Bool → List Table → ℕ → List ℕ → ℕ → ℕ → List Bool
 leftBy flags tables room route ttl hash = eachLine (λ k. getD flags k false && not (stops (heldOf tables room route k) ttl hash))

@@ -4,11 +4,11 @@ ghost use mathlib.Core.Bool.{not, _&&_};
 ghost use Prim.Native.Nat.{min};
 ghost use Rattle.laws.specs.Tests.{any};
 ghost use Rattle.tables.specs.Tables.{heldIn};
-ghost use Rattle.forwarding.specs.Passing.{passingOf, stops, leftBy};
+ghost use Rattle.tables.specs.Admission.{stops};
+ghost use Rattle.forwarding.specs.Passing.{passingOf, leftBy};
 use keywords::cut::first_keyword;
 use keywords::hash::hash;
-use tablereader::admission::is_far;
-use tables::SETTLED;
+use tablereader::admission::stops;
 use tables::Table;
 
 // Whether a message goes to any line.
@@ -31,17 +31,14 @@ fn smaller(a: usize, b: usize) -> usize
     if a <= b { a } else { b }
 }
 
-// Whether a line is left among those that a query may go to, by one more of its keywords.
+// Whether a line is left among those that a query may go to, by one more of its keywords: its table does not stop it.
 fn is_left(flag: bool, table: Table, part: &[u8], ttl: u8, hash: u32) -> bool
     ensures { λ r. ⌜ r ≡ (flag && not (stops (heldIn table (now (part .entry))) ttl hash)) ⌝ }
 {
     if !flag {
         return false;
     }
-    if table.mark != SETTLED {
-        return true;
-    }
-    !is_far(table, part, ttl, hash)
+    !stops(table, part, ttl, hash)
 }
 
 // The lines that one more keyword leaves. The parts of the area stand one after another; the last may be short or missing.

@@ -5,11 +5,11 @@ use native.Mathlib.Nat.{mul-div-cancel, one-le-pow, pow-suc, div-eq-of-lt, mul-z
 use native.Mathlib.Omega.{arith}
 use mathlib.Core.Path.{_≡_, refl, sym, ap, _∙_, subst}
 use mathlib.Core.Bool.{Bool, true, false, cond, not, _&&_, _||_}
-use mathlib.Core.Logic.{_↔_, _⊎_, inl, inr, ⊎-elim}
-use mathlib.Core.List.{List, [], _∷_, map, List·Memᴰ, List·Memᴰ·head, List·Memᴰ·tail, List·Memᴰ·cases-cons, List·Memᴰ·not-nil}
+use mathlib.Core.Logic.{_↔_, ⊎-elim}
+use mathlib.Core.List.{List, [], _∷_, map}
 use lib.Dec.{eqb, leb, ltb}
 use lib.ListN.{length, getD}
-use borrow.Author.Tests.{ltb-true, lt-ltb, leb-true, le-leb, lt-leb, eqb-true, eqb-false, eq-eqb, ne-eqb, not-true}
+use borrow.Author.Tests.{leb-true, le-leb, lt-leb, eqb-true, eqb-false, eq-eqb, ne-eqb, not-true}
 use Rattle.laws.specs.Tests.{any, all}
 use Rattle.laws.proofs.Refusals.{clash, and-fst, and-snd, and-intro, or-split, or-left, or-right}
 use Rattle.wire.specs.Header.{payloadOf}
@@ -18,7 +18,8 @@ use Rattle.keywords.specs.Hash.{hashOf, placeOf, scaled}
 use Rattle.keywords.proofs.HashLaws.{hash-below}
 use Rattle.keywords.proofs.PlaceLaws.{place-scaled}
 use Rattle.tables.specs.Tables.{settled, lengths}
-use Rattle.tables.specs.Admission.{far, entryOf, withholds}
+use Rattle.tables.specs.Admission.{entryOf, withholds}
+use Rattle.tables.proofs.AdmissionLaws.{withheld-where}
 use Rattle.protocol.specs.Lines.{isOther}
 use Rattle.protocol.specs.Queries.{usualLimit, textIn, lifeOf, passes, goesOn}
 use Rattle.protocol.specs.Expected.{Expected}
@@ -74,49 +75,14 @@ not-iff false e = ((λ _ p. clash (e .1 p) refl), λ _. refl)
 pub and-iff : (a b : Bool) {P Q : Type 0} → (a ≡ true) ↔ P → (b ≡ true) ↔ Q → ((a && b) ≡ true) ↔ (P × Q)
 and-iff a b e f = ((λ z. (e .0 (and-fst a b z), f .0 (and-snd a b z))), (λ w. and-intro a b (e .1 (w .0)) (f .1 (w .1))))
 
-or-iff : (a b : Bool) {P Q : Type 0} → (a ≡ true) ↔ P → (b ≡ true) ↔ Q → ((a || b) ≡ true) ↔ (P ⊎ Q)
-or-iff a b e f = (
-  (λ z. ⊎-elim (λ y. inl (e .0 y)) (λ y. inr (f .0 y)) (or-split a b z)),
-  (λ w. ⊎-elim (λ y. or-left a b (e .1 y)) (λ y. or-right a b (f .1 y)) w),
-)
-
-module _ {A : Type 0} (f : A → Bool) (P : A → Type 0) (e : (x : A) → (f x ≡ true) ↔ P x) where
-  any-some : (xs : List A) → any f xs ≡ true → (x : A) × List·Memᴰ x xs × P x
-  any-some [] z = absurd (clash z refl)
-  any-some (x ∷ xs) z =
-      ⊎-elim (λ y. (x, List·Memᴰ·head refl, e x .0 y)) (λ y. let r = any-some xs y in (r .0, List·Memᴰ·tail (r .1), r .2)) (or-split (f x) (any f xs) z)
-
-  some-any : (xs : List A) (x : A) → List·Memᴰ x xs → P x → any f xs ≡ true
-  some-any [] x m p = absurd (List·Memᴰ·not-nil m)
-  some-any (y ∷ ys) x m p =
-      ⊎-elim (λ z. or-left (f y) (any f ys) (subst (λ (v : A). f v ≡ true) z (e x .1 p))) (λ z. or-right (f y) (any f ys) (some-any ys x z p)) (List·Memᴰ·cases-cons m)
-
-  any-iff : (xs : List A) → (any f xs ≡ true) ↔ ((x : A) × List·Memᴰ x xs × P x)
-  any-iff xs = (any-some xs, λ w. some-any xs (w .0) (w .1) (w .2))
-
 -- a table that is expected and sound
 module _ (room : ℕ) (e : Expected) (sound : Sound room (e .held)) where
   entry-same : (k : List ℕ) → entryOf (e .held) (hashOf k) ≡ entryFor e k
   entry-same k =
       ap (λ i. getD (e .held .entries) i 0) (scaled-place (e .held .table .length) k (sound .good) ∙ ap (λ n. placeOf (bitsOf n) k) (sym (sound .full)))
 
-  far-iff : (ttl : ℕ) (k : List ℕ)
-      → (far (e .held .table .infinity) ttl (entryOf (e .held) (hashOf k)) ≡ true) ↔ ((entryFor e k ≡ e .held .table .infinity) ⊎ (ttl < entryFor e k))
-  far-iff ttl k =
-      rw (entry-same k)
-      (or-iff (eqb (entryFor e k) (e .held .table .infinity)) (ltb ttl (entryFor e k))
-      (eqb-true (entryFor e k) (e .held .table .infinity), eq-eqb (entryFor e k) (e .held .table .infinity))
-      (ltb-true ttl (entryFor e k), lt-ltb ttl (entryFor e k)))
-
   withheld-iff : (text : List ℕ) (ttl : ℕ) → (withholds (e .held) (keywordsOf text) ttl ≡ true) ↔ Withheld e text ttl
-  unfolding withholds
-  withheld-iff text ttl =
-      and-iff (eqb (e .held .table .mark) settled) (any (λ k. far (e .held .table .infinity) ttl (entryOf (e .held) (hashOf k))) (keywordsOf text))
-      (eqb-true (e .held .table .mark) settled, eq-eqb (e .held .table .mark) settled)
-      (any-iff (λ k. far (e .held .table .infinity) ttl (entryOf (e .held) (hashOf k)))
-      (λ k. (entryFor e k ≡ e .held .table .infinity) ⊎ (ttl < entryFor e k))
-      (far-iff ttl)
-      (keywordsOf text))
+  withheld-iff text ttl = withheld-where (e .held) (entryFor e) entry-same (keywordsOf text) ttl
 
   passes-iff : (text : List ℕ) (ttl : ℕ) → (passes (e .live) (e .held) text ttl ≡ true) ↔ ((e .live ≡ true) × (Withheld e text ttl → ⊥))
   passes-iff text ttl =

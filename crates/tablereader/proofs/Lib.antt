@@ -1,3 +1,2 @@
 pub mod UnpackLaws
 pub mod FieldLaws
-pub mod AdmissionLaws

@@ -4,7 +4,7 @@ ghost use lib.ListN.{take, getD};
 ghost use Rattle.keywords.specs.Keywords.{keywordsOf};
 ghost use Rattle.keywords.specs.Hash.{scaled};
 ghost use Rattle.tables.specs.Tables.{heldIn};
-ghost use Rattle.tables.specs.Admission.{far, entryOf, withholds};
+ghost use Rattle.tables.specs.Admission.{stops, withholds};
 use crate::fields::entry_count;
 use keywords::cut::first_keyword;
 use keywords::hash::hash;
@@ -24,10 +24,15 @@ fn entry_at(length: u32, part: &[u8], hash: u32) -> u8
     0
 }
 
-// The entry of a keyword with this hash is Infinity, which means none, or exceeds the TTL to be sent.
-pub fn is_far(table: Table, part: &[u8], ttl: u8, hash: u32) -> bool
-    ensures { λ r. ⌜ r ≡ far (table .infinity) ttl (entryOf (heldIn table (now (part .entry))) hash) ⌝ }
+// Whether the table stops each query, to be sent with this TTL, that has a keyword with this hash. A table that is not
+// settled stops none, and its entry is not read; a settled one does if the entry is Infinity, which means none, or
+// exceeds the TTL.
+pub fn stops(table: Table, part: &[u8], ttl: u8, hash: u32) -> bool
+    ensures { λ r. ⌜ r ≡ stops (heldIn table (now (part .entry))) ttl hash ⌝ }
 {
+    if table.mark != SETTLED {
+        return false;
+    }
     let entry = entry_at(table.length, part, hash);
     if entry == table.infinity {
         return true;
@@ -35,13 +40,10 @@ pub fn is_far(table: Table, part: &[u8], ttl: u8, hash: u32) -> bool
     ttl < entry
 }
 
-// A settled table withholds a query with this text, sent with this TTL, if the entry of some keyword is far; any other withholds none.
+// Whether the table withholds a query with this text, to be sent with this TTL: some keyword stops it.
 pub fn withheld(table: Table, part: &[u8], ttl: u8, text: &[u8]) -> bool
     ensures { λ r. ⌜ r ≡ withholds (heldIn table (now (part .entry))) (keywordsOf (now (text .entry))) ttl ⌝ }
 {
-    if table.mark != SETTLED {
-        return false;
-    }
     let mut rest = text;
     loop {
         let cut = first_keyword(rest);
@@ -51,7 +53,7 @@ pub fn withheld(table: Table, part: &[u8], ttl: u8, text: &[u8]) -> bool
             return false;
         }
         let number = hash(&rest[start..end]);
-        if is_far(table, part, ttl, number) {
+        if stops(table, part, ttl, number) {
             return true;
         }
         rest = &rest[end..];

@@ -7,4 +7,5 @@ pub mod AnswerLaws
 pub mod OrderLaws
 pub mod KeepLaws
 pub mod BoundLaws
+pub mod AdmissionLaws
 pub mod Vectors

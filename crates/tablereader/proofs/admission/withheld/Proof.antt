@@ -1,24 +1,25 @@
-use mathlib.Core.Bool.{true, false}
-use mathlib.Core.Path.{refl, _≡_, _∙_}
+-- The keywords that are left decide as all of them did: none of those passed stops the text.
+use Prim.Native.Nat.{_-_, _≤_}
+use mathlib.Core.Path.{_≡_, refl, sym, _∙_}
+use mathlib.Core.Bool.{_||_}
 use native.Mathlib.Omega.{arith}
-use lib.ListN.{length}
+use lib.ListN.{length, take, drop}
 use borrow.Author.Needs.{needs}
 use Rattle.laws.proofs.Over.{tail-shorter}
+use Rattle.keywords.specs.Keywords.{keywordsOf}
 use Rattle.keywords.proofs.CutLaws.{cut-bounds}
-use Rattle.tablereader.proofs.AdmissionLaws.{anyFar, not-settled, when-settled, far-done, far-step}
+use Rattle.tables.specs.Tables.{heldIn}
+use Rattle.tables.specs.Admission.{withholds}
+use Rattle.tables.proofs.AdmissionLaws.{withholds-end, withholds-on}
 use Rattle.tablereader.proofs.admission.withheld.Statement.{statement}
 use Rattle.tablereader.proofs.admission.withheld.Tie as tie
 
 abbrev Inv-loop : tie.InvT-loop
-Inv-loop table part ttl text rest₀ rest = anyFar table part ttl text ≡ anyFar table part ttl rest
+Inv-loop table part ttl text rest₀ rest =
+    withholds (heldIn table part) (keywordsOf rest) ttl ≡ withholds (heldIn table part) (keywordsOf text) ttl
 
 abbrev μ-loop : tie.MeasureT-loop
 μ-loop table part ttl text rest₀ rest = length rest
-
-returns : tie.Need-returns Inv-loop μ-loop
-returns c =
-    let x = c .before .before .before .before .args in
-    not-settled (x .table) (x .part .now) (x .ttl) (x .text .now) (c .if1 .taken)
 
 loop-holds : tie.Need-loop-holds Inv-loop μ-loop
 loop-holds c = refl
@@ -26,50 +27,84 @@ loop-holds c = refl
 first-keyword-requires : tie.Need-first-keyword-requires Inv-loop μ-loop
 first-keyword-requires c κs = search needs
 
-returns-2 : tie.Need-returns-2 Inv-loop μ-loop
-returns-2 c =
-    let x = c .before .before .before .before .before .before .before .args in
-    when-settled (x .table) (x .part .now) (x .ttl) (x .text .now) false (c .before .before .before .if1 .left) (c .before .before .loop .inv ∙ far-done (x .table) (x .part .now) (x .ttl) (c .before .before .loop .rest .now) (c .before .first-keyword .result) (c .before .first-keyword .ensures) (c .if2 .taken))
+-- the keyword at hand lies in what is left of the text
+bounds : (c : tie.After-first-keyword Inv-loop μ-loop)
+    → (c .first-keyword .result .start ≤ c .first-keyword .result .end)
+    × (c .first-keyword .result .end ≤ length (c .before .loop .rest .now))
+bounds c = cut-bounds (c .before .loop .rest .now) (c .first-keyword .result) (c .first-keyword .ensures)
+
+returns : tie.Need-returns Inv-loop μ-loop
+returns c =
+    let x = c .before .before .before .before .before .args in
+    let h = heldIn (x .table) (x .part .now) in
+    let l = c .before .before .loop in
+    let cut = c .before .first-keyword in
+    sym (withholds-end h (x .ttl) (l .rest .now) (cut .result) (cut .ensures) (c .if1 .taken)) ∙ l .inv
 
 sub-hash : tie.Need-sub-hash Inv-loop μ-loop
-sub-hash c = let b = cut-bounds (c .before .before .loop .rest .now) (c .before .first-keyword .result) (c .before .first-keyword .ensures) in omega arith
+sub-hash c = search needs
 
 part-hash-start : tie.Need-part-hash-start Inv-loop μ-loop
-part-hash-start c = let b = cut-bounds (c .before .before .loop .rest .now) (c .before .first-keyword .result) (c .before .first-keyword .ensures) in omega arith
+part-hash-start c =
+    let h = bounds (c .before) in
+    search needs
 
 part-hash-end : tie.Need-part-hash-end Inv-loop μ-loop
-part-hash-end c = let b = cut-bounds (c .before .before .loop .rest .now) (c .before .first-keyword .result) (c .before .first-keyword .ensures) in omega arith
+part-hash-end c =
+    let h = bounds (c .before) in
+    search needs
 
 hash-requires : tie.Need-hash-requires Inv-loop μ-loop
-hash-requires c κs = tt
+hash-requires c κs = search needs
 
-is-far-requires : tie.Need-is-far-requires Inv-loop μ-loop
-is-far-requires c κs = tt
+stops-requires : tie.Need-stops-requires Inv-loop μ-loop
+stops-requires c κs = search needs
 
-returns-3 : tie.Need-returns-3 Inv-loop μ-loop
-returns-3 c =
-    let x = c .before .before .before .before .before .before .before .before .before .before .before .args in
-    when-settled (x .table) (x .part .now) (x .ttl) (x .text .now) true (c .before .before .before .before .before .before .before .if1 .left)
-    (c .before .before .before .before .before .before .loop .inv ∙ rw (c .if3 .taken) at (far-step (x .table) (x .part .now) (x .ttl) (c .before .before .before .before .before .before .loop .rest .now) (c .before .before .before .before .before .first-keyword .result) (c .before .before .before .before .before .first-keyword .ensures) (c .before .before .hash .result) (c .before .is-far .result) (c .before .before .before .before .if2 .left) (c .before .before .hash .ensures) (c .before .is-far .ensures)))
+-- the keyword stops the text, or those behind it decide
+step : (c : tie.After-stops Inv-loop μ-loop) →
+    let x = c .before .before .before .before .before .before .before .before .args in
+    let h = heldIn (x .table) (x .part .now) in
+    let rest = c .before .before .before .before .before .loop .rest .now in
+    let end = c .before .before .before .before .first-keyword .result .end in
+    (c .stops .result || withholds h (keywordsOf (take (length rest - end) (drop end rest))) (x .ttl))
+    ≡ withholds h (keywordsOf (x .text .now)) (x .ttl)
+step c =
+    let x = c .before .before .before .before .before .before .before .before .args in
+    let h = heldIn (x .table) (x .part .now) in
+    let l = c .before .before .before .before .before .loop in
+    let cut = c .before .before .before .before .first-keyword in
+    let some = c .before .before .before .if1 .left in
+    let number = c .before .hash in
+    let stop = c .stops in
+    sym (withholds-on h (x .ttl) (l .rest .now) (cut .result) (cut .ensures) some (number .result) (stop .result) (number .ensures) (stop .ensures))
+    ∙ l .inv
+
+returns-2 : tie.Need-returns-2 Inv-loop μ-loop
+returns-2 c = rw (c .if2 .taken) at (step (c .before))
 
 sub-rest : tie.Need-sub-rest Inv-loop μ-loop
-sub-rest c = let b = cut-bounds (c .before .before .before .before .before .before .loop .rest .now) (c .before .before .before .before .before .first-keyword .result) (c .before .before .before .before .before .first-keyword .ensures) in omega arith
+sub-rest c =
+    let h = bounds (c .before .before .before .before .before) in
+    search needs
 
 part-rest-start : tie.Need-part-rest-start Inv-loop μ-loop
-part-rest-start c = let b = cut-bounds (c .before .before .before .before .before .before .loop .rest .now) (c .before .before .before .before .before .first-keyword .result) (c .before .before .before .before .before .first-keyword .ensures) in omega arith
+part-rest-start c =
+    let h = bounds (c .before .before .before .before .before) in
+    search needs
 
 part-rest-end : tie.Need-part-rest-end Inv-loop μ-loop
-part-rest-end c = let b = cut-bounds (c .before .before .before .before .before .before .loop .rest .now) (c .before .before .before .before .before .first-keyword .result) (c .before .before .before .before .before .first-keyword .ensures) in omega arith
+part-rest-end c = search needs
 
 loop-less : tie.Need-loop-less Inv-loop μ-loop
 loop-less c =
-    let b = cut-bounds (c .before .before .before .before .before .before .before .loop .rest .now) (c .before .before .before .before .before .before .first-keyword .result) (c .before .before .before .before .before .before .first-keyword .ensures) in
-    tail-shorter (c .before .before .before .before .before .before .first-keyword .result .end) (c .before .before .before .before .before .before .before .loop .rest .now) (omega arith) (b .1)
+    let rest = c .before .before .before .before .before .before .before .loop .rest .now in
+    let cut = c .before .before .before .before .before .before .first-keyword in
+    let h = bounds (c .before .before .before .before .before .before) in
+    let some = c .before .before .before .before .before .if1 .left in
+    tail-shorter (cut .result .end) rest (omega arith) (h .1)
 
 loop-again : tie.Need-loop-again Inv-loop μ-loop
-loop-again c =
-    let x = c .before .before .before .before .before .before .before .before .before .before .before .before .args in
-    c .before .before .before .before .before .before .before .loop .inv ∙ rw (c .before .if3 .left) at (far-step (x .table) (x .part .now) (x .ttl) (c .before .before .before .before .before .before .before .loop .rest .now) (c .before .before .before .before .before .before .first-keyword .result) (c .before .before .before .before .before .before .first-keyword .ensures) (c .before .before .before .hash .result) (c .before .before .is-far .result) (c .before .before .before .before .before .if2 .left) (c .before .before .before .hash .ensures) (c .before .before .is-far .ensures))
+loop-again c = rw (c .before .if2 .left) at (step (c .before .before))
 
 pub withheld-spec : {M : Type 1} → statement M
 withheld-spec =
@@ -77,16 +112,15 @@ withheld-spec =
     (tie.spec
     Inv-loop
     μ-loop
-    returns
     loop-holds
     first-keyword-requires
-    returns-2
+    returns
     sub-hash
     part-hash-start
     part-hash-end
     hash-requires
-    is-far-requires
-    returns-3
+    stops-requires
+    returns-2
     sub-rest
     part-rest-start
     part-rest-end
