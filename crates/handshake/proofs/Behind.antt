@@ -48,23 +48,41 @@ module _ (a b : List ℕ) (n : ℕ) (same : take n a ≡ take n b) where
   part-same : (k : ℕ) → k ≤ n → take k a ≡ take k b
   part-same k h = sym (take-take k n a h) ∙ ap (take k) same ∙ take-take k n b h
 
--- a list with the group at its front has the same group
-module _ (m b : List ℕ) (whole : 0 < groupLength m) (same : take (groupLength m) m ≡ take (groupLength m) b) (long : groupLength m ≤ length b) where
+-- m begins with a group, and b with the same bytes
+pub record SameGroup (m b : List ℕ) : Type 0 where
+  pub whole : 0 < groupLength m
+  pub same : take (groupLength m) m ≡ take (groupLength m) b
+  pub long : groupLength m ≤ length b
+
+-- whatever stands behind it
+pub same-behind : (m x : List ℕ) → 0 < groupLength m → SameGroup m (m ++ x)
+same-behind m x h =
+    let i = length-in m h in
+    record { whole = h; same = sym (take-append-le (groupLength m) m x (i .1)); long = simp length-append (omega (arith, i .1)) }
+
+-- the group alone
+pub same-alone : (m : List ℕ) → 0 < groupLength m → SameGroup m (take (groupLength m) m)
+same-alone m h =
+    let i = length-in m h in
+    record { whole = h; same = sym (take-take (groupLength m) (groupLength m) m (omega arith)); long = simp length-take (omega (arith, i .1)) }
+
+-- then b has that group
+module _ (m b : List ℕ) (g : SameGroup m b) where
   pub length-same : groupLength b ≡ groupLength m
   unfolding groupLength
   length-same =
-      let f = found-some (endsAt m) (min (length m) 4096 - 1) 2 (groupLength m) whole refl in
+      let f = found-some (endsAt m) (min (length m) 4096 - 1) 2 (groupLength m) (g .whole) refl in
       found-is (endsAt b) (min (length b) 4096 - 1) 2 (groupLength m) (record {
         from = f .from;
         below = omega (arith, f .below, f .from);
-        passes = sym (ends-same m b (groupLength m) same (groupLength m) (f .from) (omega arith)) ∙ f .passes;
-        first = λ j p q t. f .first j p q (ends-same m b (groupLength m) same j p (omega arith) ∙ t);
+        passes = sym (ends-same m b (groupLength m) (g .same) (groupLength m) (f .from) (omega arith)) ∙ f .passes;
+        first = λ j p q t. f .first j p q (ends-same m b (groupLength m) (g .same) j p (omega arith) ∙ t);
       })
 
   lines-same : linesIn b (groupLength m) ≡ linesIn m (groupLength m)
-  lines-same = ap linesOf (sym (part-same m b (groupLength m) same (groupLength m - 2) (omega arith)))
+  lines-same = ap linesOf (sym (part-same m b (groupLength m) (g .same) (groupLength m - 2) (omega arith)))
 
-  understood-same : understood b (groupLength m) ≡ understood m (groupLength m)
+  pub understood-same : understood b (groupLength m) ≡ understood m (groupLength m)
   unfolding understood
   understood-same = ap (λ ls. all isText (firstLine ls) && (not (eqb (startOf (firstLine ls) .kind) 0) && linesOk false (otherLines ls))) lines-same
 
@@ -83,7 +101,7 @@ module _ (m b : List ℕ) (whole : 0 < groupLength m) (same : take (groupLength 
       (ap (λ ls. groupFrom (groupLength m) (length b) (understood m (groupLength m)) (startOf (firstLine ls))) lines-same
       ∙ group-size (length b) (length m) (understood m (groupLength m)) (startIn m (groupLength m)))
 
-  value-same : (name : List ℕ) → valueIn b name ≡ valueIn m name
+  pub value-same : (name : List ℕ) → valueIn b name ≡ valueIn m name
   value-same name = rw length-same (ap (λ ls. valueFor name (otherLines ls)) lines-same)
 
   number-same : (name : List ℕ) (room : ℕ) → askedNumber b name room ≡ askedNumber m name room
@@ -100,14 +118,10 @@ module _ (m b : List ℕ) (whole : 0 < groupLength m) (same : take (groupLength 
   )
 
 pub not-read-behind : NotReadBehind
-not-read-behind m x h =
-    let i = length-in m h in
-    answers-same m (m ++ x) h (sym (take-append-le (groupLength m) m x (i .1))) (simp length-append (omega (arith, i .1)))
+not-read-behind m x h = answers-same m (m ++ x) (same-behind m x h)
 
 pub group-alone : GroupAlone
-group-alone m h =
-    let i = length-in m h in
-    answers-same m (take (groupLength m) m) h (sym (take-take (groupLength m) (groupLength m) m (omega arith))) (simp length-take (omega (arith, i .1)))
+group-alone m h = answers-same m (take (groupLength m) m) (same-alone m h)
 
 -- ---- the longest value
 

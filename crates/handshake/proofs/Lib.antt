@@ -7,3 +7,6 @@ pub mod GroupLaws
 pub mod Vectors
 pub mod Ends
 pub mod Behind
+pub mod Words
+pub mod FirstLine
+pub mod Order

@@ -2,7 +2,7 @@
 use mathlib.Core.Path.{_≡_, refl, sym, ap}
 use mathlib.Core.Bool.{Bool, true, false, cond, _&&_}
 use mathlib.Core.List.{List, [], _∷_}
-use Prim.Native.Nat.{ℕ, suc, _+_, _-_, _*_, _^_, _≤_, _<_}
+use Prim.Native.Nat.{ℕ, zero, suc, _+_, _-_, _*_, _^_, _≤_, _<_}
 use native.Mathlib.Nat.{pow-suc, pow-le-pow-right}
 use native.Mathlib.Numerals.{add-one}
 use native.Mathlib.Omega.{arith}
@@ -10,7 +10,7 @@ use lib.ListN.{length, getD, take, drop, length-take, drop-of-length-le}
 use lib.Seq.{drop-cons}
 use lib.Dec.{eqb, leb}
 use borrow.Author.Tests.{eq-eqb, ne-eqb, leb-true}
-use Rattle.handshake.specs.Text.{run, compared, same, digitOf, decimalFrom, isDigit, digitCount}
+use Rattle.handshake.specs.Text.{run, leading, compared, same, digitOf, decimalFrom, isDigit, digitCount}
 
 pub and-false : (t : Bool) → (t && false) ≡ false
 and-false true = refl
@@ -45,6 +45,33 @@ run-length f (b ∷ bs) = run-case (f (b ∷ bs)) (run f bs) (length bs) (run-le
     run-case : (t : Bool) (m n : ℕ) → m ≤ n → cond t (suc m) 0 ≤ suc n
     run-case true m n h = omega arith
     run-case false m n h = omega arith
+
+-- the bytes at the front that pass a test
+module _ (f : ℕ → Bool) where
+  passes-case : (t : Bool) (b : ℕ) (bs : List ℕ) → f b ≡ t → ((i : ℕ) → i < leading f bs → f (getD bs i 0) ≡ true)
+      → (i : ℕ) → i < cond t (suc (leading f bs)) 0 → f (getD (b ∷ bs) i 0) ≡ true
+  passes-case true b bs e rec zero h = e
+  passes-case true b bs e rec (suc i) h = rec i (omega arith)
+  passes-case false b bs e rec i h = absurd (omega arith)
+
+  pub leading-passes : (s : List ℕ) (i : ℕ) → i < leading f s → f (getD s i 0) ≡ true
+  leading-passes [] i h = absurd (omega arith)
+  leading-passes (b ∷ bs) i h = passes-case (f b) b bs refl (leading-passes bs) i h
+
+  stops-case : (t : Bool) (b : ℕ) (bs : List ℕ) → f b ≡ t → (leading f bs < length bs → f (getD bs (leading f bs) 0) ≡ false)
+      → cond t (suc (leading f bs)) 0 < length (b ∷ bs) → f (getD (b ∷ bs) (cond t (suc (leading f bs)) 0) 0) ≡ false
+  stops-case true b bs e rec h = rec (omega arith)
+  stops-case false b bs e rec h = e
+
+  pub leading-stops : (s : List ℕ) → leading f s < length s → f (getD s (leading f s) 0) ≡ false
+  leading-stops [] h = absurd (omega arith)
+  leading-stops (b ∷ bs) h = stops-case (f b) b bs refl (leading-stops bs) h
+
+  -- so many pass, and the next one fails
+  pub leading-is : (s : List ℕ) (k : ℕ) → ((i : ℕ) → i < k → f (getD s i 0) ≡ true) → k < length s → f (getD s k 0) ≡ false → leading f s ≡ k
+  leading-is [] k h n e = absurd (omega arith)
+  leading-is (b ∷ bs) zero h n e = rw e
+  leading-is (b ∷ bs) (suc k) h n e = rw (h 0 (omega arith)) (ap suc (leading-is bs k (λ i q. h (suc i) (omega arith)) (omega arith) e))
 
 -- more than six digits are not looked at
 pub digit-count : (s : List ℕ) → digitCount s ≤ 6

@@ -32,9 +32,10 @@ groups =
     ∷ ("GNUTELLA CONNECT/0.10\r\n\r\n", group 0 25 1 0 10 0)
     ∷ ("GNUTELLA CONNECT/000.006\r\n\r\n", group 0 28 1 0 6 0)
     ∷ ("GNUTELLA CONNECT/1.0\r\n\r\n", group 0 24 1 1 0 0)
-    -- one below, and one of four digits
+    -- one below, and four digits on either side of the dot
     ∷ ("GNUTELLA CONNECT/0.5\r\n\r\n", group 17 0 0 0 0 0)
     ∷ ("GNUTELLA CONNECT/0.0006\r\n\r\n", group 17 0 0 0 0 0)
+    ∷ ("GNUTELLA CONNECT/0000.6\r\n\r\n", group 17 0 0 0 0 0)
     -- more behind a greeting's version, and another case
     ∷ ("GNUTELLA CONNECT/0.6 \r\n\r\n", group 17 0 0 0 0 0)
     ∷ ("gnutella CONNECT/0.6\r\n\r\n", group 17 0 0 0 0 0)
@@ -42,11 +43,24 @@ groups =
     ∷ ("GNUTELLA/0.6 200 OK\r\n\r\n", group 0 23 2 0 6 200)
     ∷ ("GNUTELLA/0.6 503\r\n\r\n", group 0 20 2 0 6 503)
     ∷ ("GNUTELLA/0.6 503 \r\n\r\n", group 0 21 2 0 6 503)
+    -- versions of replies: three digits and four before the dot, and one below 0.6
+    ∷ ("GNUTELLA/000.6 200 OK\r\n\r\n", group 0 25 2 0 6 200)
+    ∷ ("GNUTELLA/0000.6 200 OK\r\n\r\n", group 17 0 0 0 0 0)
+    ∷ ("GNUTELLA/0.5 200 OK\r\n\r\n", group 17 0 0 0 0 0)
+    -- a tab behind the code, with a text and without, nothing between code and text, and a tab before the code
+    ∷ ("GNUTELLA/0.6 200\tOK\r\n\r\n", group 17 0 0 0 0 0)
+    ∷ ("GNUTELLA/0.6 200\t\r\n\r\n", group 17 0 0 0 0 0)
+    ∷ ("GNUTELLA/0.6 200OK\r\n\r\n", group 17 0 0 0 0 0)
+    ∷ ("GNUTELLA/0.6\t200 OK\r\n\r\n", group 17 0 0 0 0 0)
     -- codes of four digits and of two
     ∷ ("GNUTELLA/0.6 2000\r\n\r\n", group 17 0 0 0 0 0)
     ∷ ("GNUTELLA/0.6 20 OK\r\n\r\n", group 17 0 0 0 0 0)
     -- no value that the line could go on with
     ∷ ("GNUTELLA CONNECT/0.6\r\n x\r\n\r\n", group 17 0 0 0 0 0)
+    -- vertical tab (11) and form feed (12) are no blanks: such a line does not go on with a value, and may be a field
+    ∷ ("GNUTELLA CONNECT/0.6\r\nA: x\r\n\u{b}y\r\n\r\n", group 17 0 0 0 0 0)
+    ∷ ("GNUTELLA CONNECT/0.6\r\nA: x\r\n\u{c}y\r\n\r\n", group 17 0 0 0 0 0)
+    ∷ ("GNUTELLA CONNECT/0.6\r\n\u{b}A: x\r\n\r\n", group 0 31 1 0 6 0)
     -- CR, and LF, by itself
     ∷ ("GNUTELLA CONNECT/0.6\r\nA: x\r\r\n\r\n", group 17 0 0 0 0 0)
     ∷ ("GNUTELLA CONNECT/0.6\r\nA: x\ny\r\n\r\n", group 17 0 0 0 0 0)
@@ -85,6 +99,11 @@ fields =
     ∷ ("GNUTELLA CONNECT/0.6\r\nA:\r\n\r\n", ("A", ""))
     -- a value with a colon
     ∷ ("GNUTELLA CONNECT/0.6\r\nA: b:c\r\n\r\n", ("A", "b:c"))
+    -- vertical tab in a name and at the front of a value, form feed behind a blank
+    ∷ ("GNUTELLA CONNECT/0.6\r\nA\u{b}b:\u{b}x\r\n\r\n", ("a\u{b}B", "\u{b}x"))
+    ∷ ("GNUTELLA CONNECT/0.6\r\nA: \u{c}x\r\n\r\n", ("A", "\u{c}x"))
+    -- the first letter and the last
+    ∷ ("GNUTELLA CONNECT/0.6\r\nAz: x\r\naZ: y\r\n\r\n", ("AZ", "x,y"))
     ∷ []
 
 -- an area of seven bytes
@@ -98,6 +117,24 @@ fields-asked = refl
 fields-written : map (λ f. askedOut (codes (f .0)) (codes (f .1 .0)) area) fields ≡ map (λ f. codes (f .1 .1) ++ replicate (7 - length (codes (f .1 .1))) 1) fields
 unfolding groupLength endsAt lower compared digitOf digitValue versionLength statusOk greetingFrom replyFrom startOf isAbsent valueFor understood groupFrom askedFrom askedWith
 fields-written = refl
+
+-- two names that are not the same: `[` and `{` are 91 and 123, `@` and `` ` `` 64 and 96, and A and a with a grave accent 192 and 224,
+-- each 32 apart as the two cases of a letter are
+abbrev apart : List (String × String)
+apart = ("[", "{") ∷ ("@", "`") ∷ ("À", "à") ∷ ("à", "À") ∷ ("A", "AA") ∷ ("AA", "A") ∷ []
+
+abbrev with-field : String → List ℕ
+with-field name = codes "GNUTELLA/0.6 200\r\n" ++ (codes name ++ codes ": x\r\n\r\n")
+
+apart-asked : map (λ p. askField (with-field (p .0)) (codes (p .1)) 7) apart ≡ map (λ p. asked 10 (length (with-field (p .0))) 0) apart
+unfolding groupLength endsAt lower compared digitOf digitValue versionLength statusOk greetingFrom replyFrom startOf isAbsent valueFor understood groupFrom askedFrom askedWith
+apart-asked = refl
+
+-- asked for B in an area of no bytes: a line that is no field before the absent name and before the short area; then the one, and the other
+-- (an absent name has no value, so no area is short for it)
+ordered : map (λ m. askField (codes m) (codes "B") 0) ("GNUTELLA/0.6 200\r\nA\r\n\r\n" ∷ "GNUTELLA/0.6 200\r\nB: x\r\nA\r\n\r\n" ∷ "GNUTELLA/0.6 200\r\nA: x\r\n\r\n" ∷ "GNUTELLA/0.6 200\r\nB: x\r\n\r\n" ∷ []) ≡ asked 17 0 0 ∷ asked 17 0 0 ∷ asked 10 26 0 ∷ asked 2 0 0 ∷ []
+unfolding groupLength endsAt lower compared digitOf digitValue versionLength statusOk greetingFrom replyFrom startOf isAbsent valueFor understood groupFrom askedFrom askedWith
+ordered = refl
 
 abbrev one-field : List ℕ
 one-field = codes "GNUTELLA CONNECT/0.6\r\nA: wxyz\r\n\r\n"

@@ -26,6 +26,19 @@ EndIsFirst = (m : List ℕ) (p : ℕ) → (groupLength m ≡ p + 2) ↔ (EndsIn 
 abbrev pub NoEnd : Type 0
 NoEnd = (m : List ℕ) → (groupLength m ≡ 0) ↔ ((p : ℕ) → EndsIn m p → ⊥)
 
+-- a group without an end is refused for that, whatever its bytes are: 18 where 4,096 of them are there, else 4
+abbrev pub EndFirst : Type 0
+EndFirst =
+    (m : List ℕ) → ((p : ℕ) → EndsIn m p → ⊥)
+    → (4096 ≤ length m → readGroup m .answer ≡ 18) × (length m < 4096 → readGroup m .answer ≡ 4)
+
+-- what is refused when the group is read is refused alike when a field is asked for, whatever the name and the room:
+-- 18, 4 and 17 come before 10 and 2
+abbrev pub AskedAsRead : Type 0
+AskedAsRead =
+    (m name : List ℕ) (room : ℕ) → (readGroup m .answer ≡ 0 → ⊥)
+    → askField m name room ≡ record { answer = readGroup m .answer; used = 0; written = 0 }
+
 -- reading and asking are the same of both
 abbrev pub SameAnswers : List ℕ → List ℕ → Type 0
 SameAnswers a b =

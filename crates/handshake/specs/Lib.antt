@@ -6,3 +6,4 @@ pub mod Fields
 pub mod Step
 pub mod Group
 pub mod Claims
+pub mod Words

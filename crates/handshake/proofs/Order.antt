@@ -1,0 +1,52 @@
+-- The order of refusals.
+use mathlib.Core.Path.{_≡_, refl, sym, _∙_}
+use mathlib.Core.Bool.{Bool, true, false, cond, not, _&&_}
+use mathlib.Core.List.{List, [], _∷_}
+use Prim.Native.Nat.{ℕ}
+use lib.Dec.{eqb, leb, ltb}
+use lib.ListN.{length}
+use borrow.Author.Tests.{le-leb, lt-leb, eqb-true}
+use Rattle.laws.specs.Tests.{firstOf}
+use Rattle.handshake.specs.declared.start.Start.{Start}
+use Rattle.handshake.specs.Lines.{groupLength}
+use Rattle.handshake.specs.Group.{groupRules, refusedGroup, groupFrom, readGroup, askedFrom, askedWith, understood, startIn, fieldsIn, valueIn}
+use Rattle.handshake.specs.Fields.{isAbsent}
+use Rattle.handshake.proofs.Ends.{no-end}
+use Rattle.handshake.specs.Claims.{EndFirst, AskedAsRead}
+
+pub end-first : EndFirst
+unfolding groupFrom
+end-first m h =
+    let e : groupLength m ≡ 0 = no-end m .1 h in
+    (λ l. rw (e, le-leb 4096 (length m) l), λ l. rw (e, lt-leb 4096 (length m) l))
+
+-- the answer of reading is its first refusal
+pub read-answer : (m : List ℕ) → readGroup m .answer ≡ firstOf (groupRules (groupLength m) (length m) (understood m (groupLength m)))
+unfolding groupFrom
+read-answer m = go (firstOf (groupRules (groupLength m) (length m) (understood m (groupLength m))))
+  where
+    s : Start
+    s = startIn m (groupLength m)
+
+    case : (f : ℕ) (t : Bool) → eqb f 0 ≡ t → (cond t (record { answer = 0; used = groupLength m; kind = s .kind; major = s .major; minor = s .minor; code = s .code }) (refusedGroup f)) .answer ≡ f
+    case f true e = sym (eqb-true f 0 e)
+    case f false e = refl
+
+    go : (f : ℕ) → (cond (eqb f 0) (record { answer = 0; used = groupLength m; kind = s .kind; major = s .major; minor = s .minor; code = s .code }) (refusedGroup f)) .answer ≡ f
+    go f = case f (eqb f 0) refl
+
+-- one of the first three refusals is that of a longer list too
+asked-first : (a b c d e : Bool) (n long : ℕ) → (firstOf ((a, 18) ∷ (b, 4) ∷ (c, 17) ∷ []) ≡ 0 → ⊥)
+    → askedWith (firstOf ((a, 18) ∷ (b, 4) ∷ (c, 17) ∷ (d, 10) ∷ (e, 2) ∷ [])) n long ≡ record { answer = firstOf ((a, 18) ∷ (b, 4) ∷ (c, 17) ∷ []); used = 0; written = 0 }
+unfolding askedWith
+asked-first true b c d e n long h = refl
+asked-first false true c d e n long h = refl
+asked-first false false true d e n long h = refl
+asked-first false false false d e n long h = absurd (h refl)
+
+pub asked-as-read : AskedAsRead
+unfolding askedFrom
+asked-as-read m name room h =
+    let n = groupLength m in
+    rw (read-answer m)
+    (asked-first (eqb n 0 && leb 4096 (length m)) (eqb n 0) (not (understood m n)) (isAbsent name (fieldsIn m n)) (ltb room (length (valueIn m name))) n (length (valueIn m name)) (λ e. h (read-answer m ∙ e)))
