@@ -2,11 +2,13 @@
 use mathlib.Core.Path.{_≡_, refl, sym, _∙_}
 use mathlib.Core.Bool.{Bool, true, false, cond, not, _&&_}
 use mathlib.Core.List.{List, [], _∷_}
-use Prim.Native.Nat.{ℕ}
+use Prim.Native.Nat.{ℕ, zero, suc, _<_}
+use native.Mathlib.Omega.{arith}
 use lib.Dec.{eqb, leb, ltb}
 use lib.ListN.{length}
-use borrow.Author.Tests.{le-leb, lt-leb, eqb-true}
+use borrow.Author.Tests.{le-leb, lt-leb, eqb-true, eqb-false}
 use Rattle.laws.specs.Tests.{firstOf}
+use Rattle.laws.proofs.Refusals.{no-refusal}
 use Rattle.handshake.specs.declared.start.Start.{Start}
 use Rattle.handshake.specs.Lines.{groupLength}
 use Rattle.handshake.specs.Group.{groupRules, refusedGroup, groupFrom, readGroup, askedFrom, askedWith, understood, startIn, fieldsIn, valueIn}
@@ -34,6 +36,17 @@ read-answer m = go (firstOf (groupRules (groupLength m) (length m) (understood m
 
     go : (f : ℕ) → (cond (eqb f 0) (record { answer = 0; used = groupLength m; kind = s .kind; major = s .major; minor = s .minor; code = s .code }) (refusedGroup f)) .answer ≡ f
     go f = case f (eqb f 0) refl
+
+-- a group that is read is whole
+pub read-whole : (m : List ℕ) → readGroup m .answer ≡ 0 → 0 < groupLength m
+read-whole m e =
+    let n = groupLength m in
+    let h = no-refusal (groupRules n (length m) (understood m n)) refl (sym (read-answer m) ∙ e) in
+    positive n (eqb-false n 0 (h .1 .0))
+  where
+    positive : (n : ℕ) → (n ≡ 0 → ⊥) → 0 < n
+    positive zero h = absurd (h refl)
+    positive (suc n) h = omega arith
 
 -- one of the first three refusals is that of a longer list too
 asked-first : (a b c d e : Bool) (n long : ℕ) → (firstOf ((a, 18) ∷ (b, 4) ∷ (c, 17) ∷ []) ≡ 0 → ⊥)

@@ -10,5 +10,6 @@ pub mod Listing
 pub mod Busy
 pub mod ReadBack
 pub mod Asking
+pub mod Behind
 pub mod ReadGroups
 pub mod Six

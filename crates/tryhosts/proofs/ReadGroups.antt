@@ -6,9 +6,9 @@ use mathlib.Core.Bool.{Bool, true, false, not, _&&_}
 use mathlib.Core.List.{List, [], _∷_, _++_, map, append-assoc, append-nil}
 use native.Mathlib.Omega.{arith}
 use lib.Dec.{eqb, leb, ltb}
-use lib.ListN.{length, length-append, take, getD, List·getD-append}
+use lib.ListN.{length, length-append, length-take, take, drop, getD, List·getD-append}
 use lib.Seq.{take-all, take-append-seam, getD-append-add, getD-append-seam}
-use borrow.Author.Tests.{eqb-true, eqb-false, ltb-true, ltb-false, leb-true, le-leb, ne-eqb, not-true}
+use borrow.Author.Tests.{eqb-true, eqb-false, ltb-true, ltb-false, leb-true, le-leb, ne-eqb, not-true, not-false}
 use Rattle.laws.specs.Tests.{all}
 use Rattle.handshake.specs.Text.{isText, isBlank, leading, lower, compared, digitOf, digitValue}
 use Rattle.handshake.specs.Lines.{endsAt, groupLength, linesOf, firstLine, otherLines, onto}
@@ -16,17 +16,23 @@ use Rattle.handshake.specs.Start.{versionLength, statusOk, greetingFrom, replyF
 use Rattle.handshake.specs.Fields.{linesOk, isAbsent, valueFor}
 use Rattle.handshake.specs.Group.{linesIn, startIn, understood, groupFrom, readGroup}
 use Rattle.handshake.specs.declared.start.Start.{Start}
+use Rattle.handshake.specs.declared.Group.{Group}
 use Rattle.handshake.specs.Claims.{EmptyLineAt}
 use Rattle.handshake.proofs.Ends.{end-is-first}
+use Rattle.handshake.proofs.Behind.{not-read-behind}
+use Rattle.handshake.proofs.Order.{read-whole}
 use Rattle.tryhosts.specs.Decimal.{isDigit}
 use Rattle.tryhosts.specs.Pairs.{comma, dot, colon, pieces, bare, filled, itemsOf, goodPair, pairIn, pairsFrom, pairsOf}
 use Rattle.tryhosts.specs.Tried.{tryValue, groupAnswer, groupTried}
-use Rattle.tryhosts.specs.Groups.{crlf, octetOf, busyLine, tryFront, tryName, pairText, pairsText, tryLine, greetingBytes, okBytes, busyBytes}
-use Rattle.tryhosts.specs.Claims.{isHost, ReadAs, GroupsReadBack}
+use Rattle.tryhosts.specs.Groups.{crlf, octetOf, busyLine, tryFront, tryName, pairText, pairsText, tryLine, greetingBytes, okBytes, busyBytes, pairsIn, canWrite, textAnswer, busyAnswer, wroteOf, areaOf}
+use Rattle.tryhosts.specs.Claims.{isHost, ReadAs, TextReadAs, GroupsReadBack, AreaReadAs, AreasReadBack}
 use Rattle.tryhosts.specs.declared.Pair.{Pair}
-use Rattle.laws.proofs.Refusals.{and-fst, and-snd}
+use Rattle.tryhosts.specs.declared.Pairs.{Pairs}
+use Rattle.laws.proofs.Refusals.{and-fst, and-snd, no-refusal}
 use Rattle.tryhosts.proofs.ReadBack.{all-append, clean, digit-clean, pair-clean, Host, host-first, Digits, below-thousand, below-most, part, behind₁, pair-split, decimal-all, pairs-items, pairs-good, pairs-same}
 use Rattle.tryhosts.proofs.Putting.{pair-size}
+use Rattle.tryhosts.proofs.Busy.{can-few}
+use Rattle.tryhosts.proofs.Behind.{hosts-not-behind}
 
 -- ---- lines, each with its end
 
@@ -264,17 +270,17 @@ module _ (first second : List ℕ) (h : all isLine (first ∷ second ∷ []) ≡
 
 -- ---- the three groups
 
-greeting-back : ReadAs greetingBytes 1 0 []
+greeting-alone : ReadAs greetingBytes (length greetingBytes) 1 0 []
 unfolding greetingBytes groupLength endsAt lower compared digitOf digitValue versionLength statusOk greetingFrom replyFrom startOf isAbsent valueFor understood groupFrom groupTried groupAnswer itemsOf pieces bare filled goodPair pairsOf pairsFrom
-greeting-back = record { group = refl; hosts = refl }
+greeting-alone = record { group = refl; hosts = refl }
 
-ok-back : ReadAs okBytes 2 200 []
+ok-alone : ReadAs okBytes (length okBytes) 2 200 []
 unfolding okBytes groupLength endsAt lower compared digitOf digitValue versionLength statusOk greetingFrom replyFrom startOf isAbsent valueFor understood groupFrom groupTried groupAnswer itemsOf pieces bare filled goodPair pairsOf pairsFrom
-ok-back = record { group = refl; hosts = refl }
+ok-alone = record { group = refl; hosts = refl }
 
-busy-none-back : ReadAs (busyBytes []) 2 503 []
+busy-none : ReadAs (busyBytes []) (length (busyBytes [])) 2 503 []
 unfolding busyBytes tryLine groupLength endsAt lower compared digitOf digitValue versionLength statusOk greetingFrom replyFrom startOf isAbsent valueFor understood groupFrom groupTried groupAnswer itemsOf pieces bare filled goodPair pairsOf pairsFrom
-busy-none-back = record { group = refl; hosts = refl }
+busy-none = record { group = refl; hosts = refl }
 
 -- the first line of the reply
 abbrev busyStart : Start
@@ -325,8 +331,8 @@ module _ (p : Pair) (ps : List Pair) (hs : all isHost (p ∷ ps) ≡ true) where
   unfolding busyBytes tryLine
   reply-is = refl
 
-  busy-some-back : length (p ∷ ps) ≤ 32 → leading isBlank value ≡ 0 → ReadAs (busyBytes (p ∷ ps)) 2 503 (p ∷ ps)
-  busy-some-back n f =
+  busy-some : length (p ∷ ps) ≤ 32 → leading isBlank value ≡ 0 → ReadAs (busyBytes (p ∷ ps)) (length (busyBytes (p ∷ ps))) 2 503 (p ∷ ps)
+  busy-some n f =
       rw reply-is
       (record {
         group = read-two busyLine line line-is (line-small n) busyStart busy-start refl line-ok;
@@ -340,9 +346,34 @@ unfolding pairsText
 value-front p [] h = rw append-nil at (no-blank-here p [] h [])
 value-front p (q ∷ qs) h = no-blank-here p (q ∷ qs) h (comma ∷ pairsText (q ∷ qs))
 
-busy-back : (ps : List Pair) → length ps ≤ 32 → all isHost ps ≡ true → ReadAs (busyBytes ps) 2 503 ps
-busy-back [] n h = busy-none-back
-busy-back (p ∷ ps) n h = busy-some-back p ps h n (value-front p ps h)
+busy-alone : (ps : List Pair) → length ps ≤ 32 → all isHost ps ≡ true → ReadAs (busyBytes ps) (length (busyBytes ps)) 2 503 ps
+busy-alone [] n h = busy-none
+busy-alone (p ∷ ps) n h = busy-some p ps h n (value-front p ps h)
+
+-- ---- with anything behind them
+
+read-behind : {text : List ℕ} {kind code : ℕ} {ps : List Pair} → ReadAs text (length text) kind code ps → TextReadAs text kind code ps
+read-behind {text} r x =
+    let h : 0 < groupLength text = read-whole text (ap (λ (g : Group). g .answer) (r .group)) in
+    record { group = not-read-behind text x h .0 ∙ r .group; hosts = hosts-not-behind text x h ∙ r .hosts }
 
 pub groups-read-back : GroupsReadBack
-groups-read-back = (greeting-back, ok-back, busy-back)
+groups-read-back = (read-behind greeting-alone, read-behind ok-alone, λ ps n h. read-behind (busy-alone ps n h))
+
+-- the area of a writer that answers 0 begins with the text
+read-area : {text : List ℕ} {kind code : ℕ} {ps : List Pair} → TextReadAs text kind code ps → (answer : ℕ) (area : List ℕ) → AreaReadAs answer text area kind code ps
+unfolding areaOf wroteOf
+read-area {text} r answer area e = rw e (r (drop (0 + length text) area))
+
+few-pairs : (room : ℕ) (pairs : Pairs) → busyAnswer room pairs ≡ 0 → length (pairsIn pairs) ≤ 32
+unfolding busyAnswer
+few-pairs room pairs e =
+    let h = no-refusal ((not (canWrite pairs), 6) ∷ (ltb room (length (busyBytes (pairsIn pairs))), 2) ∷ []) refl e in
+    omega (arith, can-few pairs (not-false (canWrite pairs) (h .0)), length-take (pairs .count) (pairs .pairs))
+
+pub areas-read-back : AreasReadBack
+areas-read-back area = (
+  read-area (groups-read-back .0) (textAnswer (length area) greetingBytes) area,
+  read-area (groups-read-back .1) (textAnswer (length area) okBytes) area,
+  λ pairs h e. read-area (groups-read-back .2 (pairsIn pairs) (few-pairs (length area) pairs e) h) (busyAnswer (length area) pairs) area e,
+)

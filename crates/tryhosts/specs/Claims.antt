@@ -1,18 +1,20 @@
 -- What is proved of pairs and groups, besides the functions' contracts.
-use Prim.Native.Nat.{ℕ, _≤_}
+use Prim.Native.Nat.{ℕ, _≤_, _<_}
 use mathlib.Core.Path.{_≡_}
 use mathlib.Core.Logic.{_↔_}
 use mathlib.Core.Bool.{Bool, true, not}
-use mathlib.Core.List.{List, [], _∷_}
+use mathlib.Core.List.{List, [], _∷_, _++_}
 use lib.Dec.{eqb, leb}
-use lib.ListN.{length}
+use lib.ListN.{length, take}
 use Rattle.laws.specs.Tests.{every, any, all}
 use Rattle.tryhosts.specs.Pairs.{itemsOf, goodPair, pairsFrom, triedOf}
+use Rattle.handshake.specs.Lines.{groupLength}
 use Rattle.handshake.specs.Group.{readGroup}
 use Rattle.handshake.specs.declared.Group.{Group}
-use Rattle.tryhosts.specs.Groups.{pairsText, greetingBytes, okBytes, busyBytes}
+use Rattle.tryhosts.specs.Groups.{pairsText, greetingBytes, okBytes, busyBytes, pairsIn, textAnswer, busyAnswer, wroteOf, areaOf}
 use Rattle.tryhosts.specs.Tried.{groupTried}
 use Rattle.tryhosts.specs.declared.Pair.{Pair}
+use Rattle.tryhosts.specs.declared.Pairs.{Pairs}
 
 -- a host that can be tried: four octets and a port that is not 0
 abbrev pub isHost : Pair → Bool
@@ -30,20 +32,53 @@ ReadBack =
     (ps : List Pair) → length ps ≤ 32 → all isHost ps ≡ true
     → triedOf (pairsText ps) ≡ record { answer = 0; pairs = pairsFrom ps }
 
+-- ---- the bytes that are read
+
+-- bytes behind a group are not read when its hosts are asked for
+abbrev pub HostsNotBehind : Type 0
+HostsNotBehind = (m x : List ℕ) → 0 < groupLength m → groupTried (m ++ x) ≡ groupTried m
+
+-- the group alone has the hosts that it has with all that stands behind it
+abbrev pub HostsAlone : Type 0
+HostsAlone = (m : List ℕ) → 0 < groupLength m → groupTried (take (groupLength m) m) ≡ groupTried m
+
+-- what is refused when the group is read is refused alike when its hosts are asked for: 18, 4 and 17 come before 6
+abbrev pub HostsAsRead : Type 0
+HostsAsRead =
+    (m : List ℕ) → (readGroup m .answer ≡ 0 → ⊥)
+    → groupTried m ≡ record { answer = readGroup m .answer; used = 0; pairs = pairsFrom [] }
+
 -- ---- groups that were written, read
 
--- the reading of a whole text of this kind and code, of version 0.6
-abbrev pub wholeGroup : List ℕ → ℕ → ℕ → Group
-wholeGroup text kind code = record { answer = 0; used = length text; kind = kind; major = 0; minor = 6; code = code }
+-- the reading of a whole group of n bytes, of this kind and code, of version 0.6
+abbrev pub wholeGroup : ℕ → ℕ → ℕ → Group
+wholeGroup n kind code = record { answer = 0; used = n; kind = kind; major = 0; minor = 6; code = code }
 
--- a text is read as such a group, with these hosts to try
-pub record ReadAs (text : List ℕ) (kind code : ℕ) (ps : List Pair) : Type 0 where
-  pub group : readGroup text ≡ wholeGroup text kind code
-  pub hosts : groupTried text ≡ record { answer = 0; used = length text; pairs = pairsFrom ps }
+-- bytes are read as such a group, with these hosts to try
+pub record ReadAs (bytes : List ℕ) (n kind code : ℕ) (ps : List Pair) : Type 0 where
+  pub group : readGroup bytes ≡ wholeGroup n kind code
+  pub hosts : groupTried bytes ≡ record { answer = 0; used = n; pairs = pairsFrom ps }
+
+-- a text is read as a group of its length, whatever stands behind it
+abbrev pub TextReadAs : List ℕ → ℕ → ℕ → List Pair → Type 0
+TextReadAs text kind code ps = (x : List ℕ) → ReadAs (text ++ x) (length text) kind code ps
 
 -- the greeting is a greeting; the replies are replies of code 200 and 503, the latter with its hosts
 abbrev pub GroupsReadBack : Type 0
 GroupsReadBack =
-    ReadAs greetingBytes 1 0 []
-    × ReadAs okBytes 2 200 []
-    × ((ps : List Pair) → length ps ≤ 32 → all isHost ps ≡ true → ReadAs (busyBytes ps) 2 503 ps)
+    TextReadAs greetingBytes 1 0 []
+    × TextReadAs okBytes 2 200 []
+    × ((ps : List Pair) → length ps ≤ 32 → all isHost ps ≡ true → TextReadAs (busyBytes ps) 2 503 ps)
+
+-- where a writer of the text answers 0, the area as it leaves it is read as a group of the bytes written
+abbrev pub AreaReadAs : ℕ → List ℕ → List ℕ → ℕ → ℕ → List Pair → Type 0
+AreaReadAs answer text area kind code ps = answer ≡ 0 → ReadAs (areaOf answer text area) (wroteOf answer text .written) kind code ps
+
+-- so what the three writers leave in an area of any length is read back
+abbrev pub AreasReadBack : Type 0
+AreasReadBack =
+    (area : List ℕ)
+    → AreaReadAs (textAnswer (length area) greetingBytes) greetingBytes area 1 0 []
+    × AreaReadAs (textAnswer (length area) okBytes) okBytes area 2 200 []
+    × ((pairs : Pairs) → all isHost (pairsIn pairs) ≡ true
+    → AreaReadAs (busyAnswer (length area) pairs) (busyBytes (pairsIn pairs)) area 2 503 (pairsIn pairs))
