@@ -1,6 +1,6 @@
 -- Hosts are read from the group alone, and a group that can't be read has none.
 use Prim.Native.Nat.{ℕ}
-use mathlib.Core.Path.{_≡_, refl, sym, _∙_}
+use mathlib.Core.Path.{_≡_, refl, _∙_}
 use mathlib.Core.Bool.{Bool, true, false, not, _&&_}
 use mathlib.Core.List.{List, [], _∷_, _++_}
 use native.Mathlib.Omega.{arith}
@@ -9,10 +9,10 @@ use lib.ListN.{length, take}
 use borrow.Author.Tests.{ne-eqb}
 use Rattle.laws.specs.Tests.{firstOf, all}
 use Rattle.handshake.specs.Lines.{groupLength}
-use Rattle.handshake.specs.Group.{readGroup, understood}
+use Rattle.handshake.specs.Group.{understood}
 use Rattle.handshake.proofs.Behind.{SameGroup, same-behind, same-alone, length-same, understood-same, value-same}
 use Rattle.handshake.proofs.Order.{read-answer}
-use Rattle.tryhosts.specs.Pairs.{itemsOf, goodPair, pairsFrom, pairsOf}
+use Rattle.tryhosts.specs.Pairs.{itemsOf, goodPair}
 use Rattle.tryhosts.specs.Groups.{tryName}
 use Rattle.tryhosts.specs.Tried.{tryValue, groupAnswer, groupTried}
 use Rattle.tryhosts.specs.Claims.{HostsNotBehind, HostsAlone, HostsAsRead}

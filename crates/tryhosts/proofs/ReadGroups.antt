@@ -361,9 +361,9 @@ pub groups-read-back : GroupsReadBack
 groups-read-back = (read-behind greeting-alone, read-behind ok-alone, λ ps n h. read-behind (busy-alone ps n h))
 
 -- the area of a writer that answers 0 begins with the text
-read-area : {text : List ℕ} {kind code : ℕ} {ps : List Pair} → TextReadAs text kind code ps → (answer : ℕ) (area : List ℕ) → AreaReadAs answer text area kind code ps
+read-area : (text area : List ℕ) (answer : ℕ) {kind code : ℕ} {ps : List Pair} → TextReadAs text kind code ps → AreaReadAs answer text area kind code ps
 unfolding areaOf wroteOf
-read-area {text} r answer area e = rw e (r (drop (0 + length text) area))
+read-area text area answer r e = rw e (r (drop (0 + length text) area))
 
 few-pairs : (room : ℕ) (pairs : Pairs) → busyAnswer room pairs ≡ 0 → length (pairsIn pairs) ≤ 32
 unfolding busyAnswer
@@ -373,7 +373,7 @@ few-pairs room pairs e =
 
 pub areas-read-back : AreasReadBack
 areas-read-back area = (
-  read-area (groups-read-back .0) (textAnswer (length area) greetingBytes) area,
-  read-area (groups-read-back .1) (textAnswer (length area) okBytes) area,
-  λ pairs h e. read-area (groups-read-back .2 (pairsIn pairs) (few-pairs (length area) pairs e) h) (busyAnswer (length area) pairs) area e,
+  read-area greetingBytes area (textAnswer (length area) greetingBytes) (groups-read-back .0),
+  read-area okBytes area (textAnswer (length area) okBytes) (groups-read-back .1),
+  λ pairs h e. read-area (busyBytes (pairsIn pairs)) area (busyAnswer (length area) pairs) (groups-read-back .2 (pairsIn pairs) (few-pairs (length area) pairs e) h) e,
 )
