@@ -58,13 +58,21 @@ pub record SameGroup (m b : List ℕ) : Type 0 where
 pub same-behind : (m x : List ℕ) → 0 < groupLength m → SameGroup m (m ++ x)
 same-behind m x h =
     let i = length-in m h in
-    record { whole = h; same = sym (take-append-le (groupLength m) m x (i .1)); long = simp length-append (omega (arith, i .1)) }
+    record {
+      whole = h;
+      same = sym (take-append-le (groupLength m) m x (i .1));
+      long = simp length-append (omega (arith, i .1));
+    }
 
 -- the group alone
 pub same-alone : (m : List ℕ) → 0 < groupLength m → SameGroup m (take (groupLength m) m)
 same-alone m h =
     let i = length-in m h in
-    record { whole = h; same = sym (take-take (groupLength m) (groupLength m) m (omega arith)); long = simp length-take (omega (arith, i .1)) }
+    record {
+      whole = h;
+      same = sym (take-take (groupLength m) (groupLength m) m (omega arith));
+      long = simp length-take (omega (arith, i .1));
+    }
 
 -- then b has that group
 module _ (m b : List ℕ) (g : SameGroup m b) where

@@ -3,7 +3,7 @@ use mathlib.Core.Path.{_≡_, refl, sym, ap, ap₂, _∙_}
 use mathlib.Core.Logic.{_⊎_, inl, inr, ⊎-elim}
 use mathlib.Core.Bool.{Bool, true, false, cond, not, _||_}
 use mathlib.Core.List.{List, [], _∷_, _++_, append-assoc, append-nil}
-use Prim.Native.Nat.{ℕ, zero, suc, _+_, _-_, _≤_, _<_}
+use Prim.Native.Nat.{ℕ, zero, suc, _+_, _≤_, _<_}
 use native.Mathlib.Omega.{arith}
 use native.Mathlib.Decide.{decLt}
 use native.Mathlib.Nat.{zero-add}
@@ -13,13 +13,13 @@ use lib.ListN.{length, getD, take, drop, take-append-drop, length-append, length
 use lib.Seq.{length-take-le, getD-append-add, take-all, take-suc, take-add, getD-take, getD-drop, getD-append-seam, drop-append-add, drop-append-seam}
 use borrow.Author.Tests.{eq-eqb, ne-eqb, eqb-true, eqb-false, le-leb, leb-true, not-true}
 use Rattle.laws.specs.Tests.{every}
-use Rattle.laws.proofs.Refusals.{clash, and-fst, and-snd, or-split, or-left, or-right, Each, each}
+use Rattle.laws.proofs.Refusals.{clash, and-fst, and-snd, or-split, or-left, or-right, and-intro, Each, each}
 use Rattle.handshake.specs.declared.start.Version.{Version}
 use Rattle.handshake.specs.declared.start.Start.{Start}
 use Rattle.handshake.specs.Text.{isDigit, leading, compared, same, startsWith, digitOf, decimalFrom, digitCount, digitValue}
 use Rattle.handshake.specs.Start.{greetingText, replyText, oneToThree, atLeast06, versionLength, behindDot, versionOf, statusOk, isStatus, noStart, greetingFrom, greetingOf, replyFrom, behindVersion, replyOf, startOf}
 use Rattle.handshake.proofs.TextLaws.{run-length, leading-passes}
-use Rattle.handshake.specs.Words.{Digit, Number, one, two, three, Versioned, Greeting, GreetingExactly, Status, Reply, ReplyExactly, OtherLines}
+use Rattle.handshake.specs.Words.{Digit, Number, one, two, three, Versioned, Greeting, GreetingExactly, Status, Reply, ReplyExactly, GreetingOrReply, NoOtherKind}
 
 -- ---- numbers
 
@@ -45,7 +45,8 @@ module _ (t : List ℕ) (e : isDigit (getD t 0 0) ≡ false) where
   unfolding digitValue digitOf
   number-value (one {x} p) = rw (number-count (one p), digit-true x p, zero-add)
   number-value (two {x} {y} p q) = rw (number-count (two p q), digit-true x p, digit-true y q, zero-add)
-  number-value (three {x} {y} {z} p q r) = rw (number-count (three p q r), digit-true x p, digit-true y q, digit-true z r, zero-add)
+  number-value (three {x} {y} {z} p q r) =
+      rw (number-count (three p q r), digit-true x p, digit-true y q, digit-true z r, zero-add)
 
 number-length : {s : List ℕ} {n : ℕ} → Number s n → (1 ≤ length s) × (length s ≤ 3)
 number-length (one p) = (omega arith, omega arith)
@@ -53,24 +54,29 @@ number-length (two p q) = (omega arith, omega arith)
 number-length (three p q r) = (omega arith, omega arith)
 
 -- one to three digits at the front are a number
-take-number : (k : ℕ) (s : List ℕ) → 1 ≤ k → k ≤ 3 → k ≤ length s → ((i : ℕ) → i < k → isDigit (getD s i 0) ≡ true) → Number (take k s) (decimalFrom 0 (take k s))
+take-number : (k : ℕ) (s : List ℕ) → 1 ≤ k → k ≤ 3 → k ≤ length s → ((i : ℕ) → i < k → isDigit (getD s i 0) ≡ true)
+    → Number (take k s) (decimalFrom 0 (take k s))
 unfolding digitOf
 take-number zero s a b c h = absurd (omega arith)
 take-number (suc k) [] a b c h = absurd (omega arith)
 take-number (suc zero) (x ∷ s) a b c h = rw (h 0 (omega arith), zero-add) (one (true-digit x (h 0 (omega arith))))
 take-number (suc (suc k)) (x ∷ []) a b c h = absurd (omega arith)
 take-number (suc (suc zero)) (x ∷ y ∷ s) a b c h =
-    rw (h 0 (omega arith), h 1 (omega arith), zero-add) (two (true-digit x (h 0 (omega arith))) (true-digit y (h 1 (omega arith))))
+    rw (h 0 (omega arith), h 1 (omega arith), zero-add)
+    (two (true-digit x (h 0 (omega arith))) (true-digit y (h 1 (omega arith))))
 take-number (suc (suc (suc k))) (x ∷ y ∷ []) a b c h = absurd (omega arith)
 take-number (suc (suc (suc zero))) (x ∷ y ∷ z ∷ s) a b c h =
     rw (h 0 (omega arith), h 1 (omega arith), h 2 (omega arith), zero-add)
     (three (true-digit x (h 0 (omega arith))) (true-digit y (h 1 (omega arith))) (true-digit z (h 2 (omega arith))))
 take-number (suc (suc (suc (suc k)))) (x ∷ y ∷ z ∷ s) a b c h = absurd (omega arith)
 
+digits-within : (s : List ℕ) → digitCount s ≤ length s
+digits-within s = omega (arith, run-length (λ t. isDigit (getD t 0 0)) (take 6 s), length-take 6 s)
+
 front-number : (s : List ℕ) → 1 ≤ digitCount s → digitCount s ≤ 3 → Number (take (digitCount s) s) (digitValue s)
 unfolding digitValue
 front-number s a b =
-    take-number (digitCount s) s a b (omega (arith, run-length (λ t. isDigit (getD t 0 0)) (take 6 s), length-take 6 s))
+    take-number (digitCount s) s a b (digits-within s)
     (λ i h. ap isDigit (sym (getD-take 6 s i 0 (omega arith))) ∙ leading-passes isDigit (take 6 s) i h)
 
 -- ---- versions
@@ -92,27 +98,41 @@ found : (s : List ℕ) → (versionOf s .length ≡ 0 → ⊥) → Found s
 unfolding versionLength
 found s h = go (every tests) refl
   where
+    a : ℕ
+    a = digitCount s
+
+    b : ℕ
+    b = digitCount (behindDot s)
+
+    x : ℕ
+    x = digitValue s
+
+    y : ℕ
+    y = digitValue (behindDot s)
+
     tests : List Bool
-    tests = oneToThree (digitCount s) ∷ eqb (getD s (digitCount s) 0) 46 ∷ oneToThree (digitCount (behindDot s)) ∷ atLeast06 (digitValue s) (digitValue (behindDot s)) ∷ []
+    tests = oneToThree a ∷ eqb (getD s a 0) 46 ∷ oneToThree b ∷ atLeast06 x y ∷ []
 
     go : (t : Bool) → every tests ≡ t → Found s
-    go false e = absurd (h (ap (λ t. cond t (digitCount s + 1 + digitCount (behindDot s)) 0) e))
+    go false e = absurd (h (ap (λ t. cond t (a + 1 + b) 0) e))
     go true e =
         let k : Each tests = each tests e in
-        let p = one-to-three (digitCount s) (k .0) in
-        let q = one-to-three (digitCount (behindDot s)) (k .1 .1 .0) in
+        let p = one-to-three a (k .0) in
+        let q = one-to-three b (k .1 .1 .0) in
+        let l = or-split (leb 1 x) (leb 6 y) (k .1 .1 .1 .0) in
         record {
           some-major = p .0;
           few-major = p .1;
           dot = eqb-true _ 46 (k .1 .0);
           some-minor = q .0;
           few-minor = q .1;
-          least = ⊎-elim (λ u. inl (leb-true 1 _ u)) (λ u. inr (leb-true 6 _ u)) (or-split (leb 1 (digitValue s)) (leb 6 (digitValue (behindDot s))) (k .1 .1 .1 .0));
-          size = ap (λ t. cond t (digitCount s + 1 + digitCount (behindDot s)) 0) e;
+          least = ⊎-elim (λ u. inl (leb-true 1 x u)) (λ u. inr (leb-true 6 y u)) l;
+          size = ap (λ t. cond t (a + 1 + b) 0) e;
         }
 
 -- the bytes of the version at the front
-versioned : (s : List ℕ) → (versionOf s .length ≡ 0 → ⊥) → Versioned (take (versionOf s .length) s) (digitValue s) (digitValue (behindDot s))
+versioned : (s : List ℕ) → (versionOf s .length ≡ 0 → ⊥)
+    → Versioned (take (versionOf s .length) s) (digitValue s) (digitValue (behindDot s))
 versioned s h =
     record {
       left = take a s;
@@ -123,7 +143,7 @@ versioned s h =
       whole =
           ap (λ n. take n s) (f .size)
           ∙ take-add (a + 1) b s
-          ∙ ap (λ x. x ++ take b (behindDot s)) (ap (λ n. take n s) (add-one a) ∙ take-suc s a 0 within ∙ ap (λ x. take a s ++ (x ∷ [])) (f .dot))
+          ∙ ap (λ x. x ++ take b (behindDot s)) with-dot
           ∙ append-assoc (take a s) (46 ∷ []) (take b (behindDot s));
     }
   where
@@ -143,6 +163,9 @@ versioned s h =
         go (yes p) = p
         go (no p) = absurd (omega (arith, f .dot, List·getD-eq-default s 0 {n = a} (omega arith)))
 
+    with-dot : take (a + 1) s ≡ take a s ++ (46 ∷ [])
+    with-dot = ap (λ n. take n s) (add-one a) ∙ take-suc s a 0 within ∙ ap (λ x. take a s ++ (x ∷ [])) (f .dot)
+
 versioned-as : {x y : List ℕ} {a b c d : ℕ} → x ≡ y → a ≡ b → c ≡ d → Versioned x a c → Versioned y b d
 versioned-as p q r v = rw (p, q, r) at v
 
@@ -154,24 +177,40 @@ module _ (text t : List ℕ) (major minor : ℕ) (v : Versioned text major minor
   split : text ++ t ≡ v .left ++ (46 ∷ rest)
   split = ap (λ x. x ++ t) (v .whole) ∙ append-assoc (v .left) (46 ∷ v .right) t
 
+  -- the number before the dot
+  count₁ : digitCount (v .left ++ (46 ∷ rest)) ≡ length (v .left)
+  count₁ = number-count (46 ∷ rest) refl (v .is-major)
+
+  value₁ : digitValue (v .left ++ (46 ∷ rest)) ≡ major
+  value₁ = number-value (46 ∷ rest) refl (v .is-major)
+
   behind-is : behindDot (v .left ++ (46 ∷ rest)) ≡ rest
-  behind-is = ap (λ n. drop (n + 1) (v .left ++ (46 ∷ rest))) (number-count (46 ∷ rest) refl (v .is-major)) ∙ drop-append-add (v .left) (46 ∷ rest) 1
+  behind-is = ap (λ n. drop (n + 1) (v .left ++ (46 ∷ rest))) count₁ ∙ drop-append-add (v .left) (46 ∷ rest) 1
+
+  -- and the one behind it
+  count₂ : digitCount rest ≡ length (v .right)
+  count₂ = number-count t e (v .is-minor)
+
+  value₂ : digitValue rest ≡ minor
+  value₂ = number-value t e (v .is-minor)
+
+  least-is : (1 ≤ major) ⊎ (6 ≤ minor) → (leb 1 major || leb 6 minor) ≡ true
+  least-is (inl u) = or-left (leb 1 major) (leb 6 minor) (le-leb 1 major u)
+  least-is (inr u) = or-right (leb 1 major) (leb 6 minor) (le-leb 6 minor u)
+
+  few-is : (n : ℕ) → (1 ≤ n) × (n ≤ 3) → oneToThree n ≡ true
+  few-is n h = and-intro (leb 1 n) (leb n 3) (le-leb 1 n (h .0)) (le-leb n 3 (h .1))
 
   length-is : versionOf (v .left ++ (46 ∷ rest)) .length ≡ length text
   unfolding versionLength
   length-is =
-      let p = number-length (v .is-major) in
-      let q = number-length (v .is-minor) in
-      rw (behind-is, number-count (46 ∷ rest) refl (v .is-major), number-value (46 ∷ rest) refl (v .is-major), number-count t e (v .is-minor), number-value t e (v .is-minor), getD-append-seam, le-leb 1 (length (v .left)) (p .0), le-leb (length (v .left)) 3 (p .1), le-leb 1 (length (v .right)) (q .0), le-leb (length (v .right)) 3 (q .1), least-is (v .least))
+      rw (behind-is, count₁, value₁, count₂, value₂, getD-append-seam, few-is (length (v .left)) (number-length (v .is-major)), few-is (length (v .right)) (number-length (v .is-minor)), least-is (v .least))
       (omega (arith, ap length (v .whole), length-append (v .left) (46 ∷ v .right)))
-    where
-      least-is : (1 ≤ major) ⊎ (6 ≤ minor) → (leb 1 major || leb 6 minor) ≡ true
-      least-is h = ⊎-elim (λ u. or-left (leb 1 major) (leb 6 minor) (le-leb 1 major u)) (λ u. or-right (leb 1 major) (leb 6 minor) (le-leb 6 minor u)) h
 
   version-is : versionOf (text ++ t) ≡ record { length = length text; major = major; minor = minor }
   version-is =
       ap versionOf split
-      ∙ rw (length-is, behind-is, number-value (46 ∷ rest) refl (v .is-major), number-value t e (v .is-minor))
+      ∙ rw (length-is, behind-is, value₁, value₂)
 
 version-some : (text : List ℕ) (major minor : ℕ) → Versioned text major minor → length text ≡ 0 → ⊥
 version-some text major minor v z = omega (arith, ap length (v .whole), length-append (v .left) (46 ∷ v .right))
@@ -184,10 +223,15 @@ same-exact [] [] e = refl
 same-exact [] (y ∷ b) e = absurd (clash e refl)
 same-exact (x ∷ a) [] e = absurd (clash e refl)
 same-exact (x ∷ a) (y ∷ b) e =
-    ap₂ (λ u v. u ∷ v) (eqb-true x y (and-fst (eqb x y) (same false a b) e)) (same-exact a b (and-snd (eqb x y) (same false a b) e))
+    ap₂
+    (λ u v. u ∷ v)
+    (eqb-true x y (and-fst (eqb x y) (same false a b) e))
+    (same-exact a b (and-snd (eqb x y) (same false a b) e))
 
 starts-is : (p s : List ℕ) → startsWith p s ≡ true → s ≡ p ++ drop (length p) s
-starts-is p s e = sym (take-append-drop (length p) s) ∙ ap (λ x. x ++ drop (length p) s) (sym (same-exact p (take (length p) s) e))
+starts-is p s e =
+    sym (take-append-drop (length p) s)
+    ∙ ap (λ x. x ++ drop (length p) s) (sym (same-exact p (take (length p) s) e))
 
 -- ---- greetings
 
@@ -229,8 +273,9 @@ module _ (s : List ℕ) (major minor : ℕ) where
   unfolding greetingFrom
   greeting-forth e =
       let v = versionOf s in
-      let c = chosen (every (not (eqb (v .length) 0) ∷ eqb (v .length) (length s) ∷ [])) (greeting (v .major) (v .minor)) (greeting major minor) e (λ z. omega arith) in
-      let k = each (not (eqb (v .length) 0) ∷ eqb (v .length) (length s) ∷ []) (c .0) in
+      let tests : List Bool = not (eqb (v .length) 0) ∷ eqb (v .length) (length s) ∷ [] in
+      let c = chosen (every tests) (greeting (v .major) (v .minor)) (greeting major minor) e (λ z. omega arith) in
+      let k = each tests (c .0) in
       let n : v .length ≡ length s = eqb-true _ _ (k .1 .0) in
       let a : digitValue s ≡ major = ap (λ (x : Start). x .major) (c .1) in
       let b : digitValue (behindDot s) ≡ minor = ap (λ (x : Start). x .minor) (c .1) in
@@ -239,7 +284,7 @@ module _ (s : List ℕ) (major minor : ℕ) where
   greeting-back : Versioned s major minor → greetingOf s ≡ greeting major minor
   unfolding greetingFrom
   greeting-back v =
-      let e : versionOf s ≡ record { length = length s; major = major; minor = minor } = ap versionOf (sym (append-nil s)) ∙ version-is s [] major minor v refl in
+      let e = ap versionOf (sym (append-nil s)) ∙ version-is s [] major minor v refl in
       ap (λ x. greetingFrom x (length s)) e
       ∙ rw (eq-eqb (length s) (length s) refl, ne-eqb (length s) 0 (version-some s major minor v))
 
@@ -250,7 +295,9 @@ greeting-exactly line major minor = (forth, back)
     forth : startOf line ≡ greeting major minor → Greeting line major minor
     forth e = go (startsWith greetingText line) (startsWith replyText line) refl e
       where
-        go : (t u : Bool) → startsWith greetingText line ≡ t → cond t (greetingOf (drop 17 line)) (cond u (replyOf (drop 9 line)) noStart) ≡ greeting major minor → Greeting line major minor
+        go : (t u : Bool) → startsWith greetingText line ≡ t
+            → cond t (greetingOf (drop 17 line)) (cond u (replyOf (drop 9 line)) noStart) ≡ greeting major minor
+            → Greeting line major minor
         go true u p e = (drop 17 line, greeting-forth (drop 17 line) major minor e, starts-is greetingText line p)
         go false true p e = absurd (reply-kind _ _ _ (ap kindOf e))
         go false false p e = absurd (omega (arith, ap kindOf e))
@@ -264,16 +311,21 @@ status-forth : (s : List ℕ) → isStatus s ≡ true → Status s (digitValue (
 unfolding statusOk
 status-forth [] e = absurd (clash e refl)
 status-forth (x ∷ s) e =
-    let k = each (eqb x 32 ∷ eqb (digitCount s) 3 ∷ (leb (length (x ∷ s)) 4 || eqb (getD s 3 0) 32) ∷ []) e in
+    let few = leb (length (x ∷ s)) 4 in
+    let space = eqb (getD s 3 0) 32 in
+    let k = each (eqb x 32 ∷ eqb (digitCount s) 3 ∷ (few || space) ∷ []) e in
     let n : digitCount s ≡ 3 = eqb-true _ 3 (k .1 .0) in
     record {
       digits = take 3 s;
       text = drop 3 s;
       is-code = rw n at (front-number s (omega arith) (omega arith));
-      three-digits = length-take-le 3 s (omega (arith, run-length (λ t. isDigit (getD t 0 0)) (take 6 s), length-take 6 s));
-      ending = ⊎-elim (λ u. inl (drop-of-length-le s {i = 3} (omega (arith, leb-true (length (x ∷ s)) 4 u)))) (λ u. inr (getD-drop 3 s 0 0 ∙ eqb-true _ 32 u)) (or-split (leb (length (x ∷ s)) 4) (eqb (getD s 3 0) 32) (k .1 .1 .0));
+      three-digits = length-take-le 3 s (omega (arith, digits-within s));
+      ending = ⊎-elim (λ u. inl (none-left u)) (λ u. inr (getD-drop 3 s 0 0 ∙ eqb-true _ 32 u)) (or-split few space (k .1 .1 .0));
       whole = ap₂ (λ u v. u ∷ v) (eqb-true x 32 (k .0)) (sym (take-append-drop 3 s));
     }
+  where
+    none-left : leb (length (x ∷ s)) 4 ≡ true → drop 3 s ≡ []
+    none-left u = drop-of-length-le s {i = 3} (omega (arith, leb-true (length (x ∷ s)) 4 u))
 
 -- no digit stands where the text begins or there is none
 no-digit : (text : List ℕ) → (text ≡ []) ⊎ (getD text 0 0 ≡ 32) → isDigit (getD text 0 0) ≡ false
@@ -290,32 +342,40 @@ module _ (digits text : List ℕ) (n : length digits ≡ 3) where
   at-three = omega arith
 
   ends-well : (text ≡ []) ⊎ (getD text 0 0 ≡ 32) → (few || space) ≡ true
-  ends-well (inl e) = or-left few space (le-leb (length (32 ∷ (digits ++ text))) 4 (omega (arith, length-append digits text, ap length e)))
+  ends-well (inl e) =
+      let n : length (32 ∷ (digits ++ text)) ≤ 4 = omega (arith, length-append digits text, ap length e) in
+      or-left few space (le-leb (length (32 ∷ (digits ++ text))) 4 n)
   ends-well (inr e) =
-      or-right few space (eq-eqb (getD (digits ++ text) 3 0) 32 (ap (λ k. getD (digits ++ text) k 0) at-three ∙ getD-append-add digits text 0 0 ∙ e))
+      let s = ap (λ k. getD (digits ++ text) k 0) at-three ∙ getD-append-add digits text 0 0 ∙ e in
+      or-right few space (eq-eqb (getD (digits ++ text) 3 0) 32 s)
 
 module _ {status : List ℕ} {code : ℕ} (h : Status status code) where
+  no-more : isDigit (getD (h .text) 0 0) ≡ false
+  no-more = no-digit (h .text) (h .ending)
+
   status-back : isStatus status ≡ true
   unfolding statusOk
   status-back =
       ap isStatus (h .whole)
-      ∙ rw (number-count (h .text) (no-digit (h .text) (h .ending)) (h .is-code), h .three-digits, ends-well (h .digits) (h .text) (h .three-digits) (h .ending))
+      ∙ rw (number-count (h .text) no-more (h .is-code), h .three-digits, ends-well (h .digits) (h .text) (h .three-digits) (h .ending))
 
   code-back : digitValue (drop 1 status) ≡ code
-  code-back = ap (λ s. digitValue (drop 1 s)) (h .whole) ∙ number-value (h .text) (no-digit (h .text) (h .ending)) (h .is-code)
+  code-back = ap (λ s. digitValue (drop 1 s)) (h .whole) ∙ number-value (h .text) no-more (h .is-code)
 
   behind-version : isDigit (getD status 0 0) ≡ false
   behind-version = ap (λ s. isDigit (getD s 0 0)) (h .whole)
 
 module _ (s : List ℕ) (major minor code : ℕ) where
-  reply-forth : replyOf s ≡ reply major minor code → (version : List ℕ) × (status : List ℕ) × Versioned version major minor × Status status code × (s ≡ version ++ status)
+  reply-forth : replyOf s ≡ reply major minor code
+      → (version : List ℕ) × (status : List ℕ) × Versioned version major minor × Status status code × (s ≡ version ++ status)
   unfolding replyFrom
   reply-forth e =
       let v = versionOf s in
       let t = isStatus (behindVersion s) in
       let d = digitValue (drop 1 (behindVersion s)) in
-      let c = chosen (every (not (eqb (v .length) 0) ∷ t ∷ [])) (reply (v .major) (v .minor) d) (reply major minor code) e (λ z. omega arith) in
-      let k = each (not (eqb (v .length) 0) ∷ t ∷ []) (c .0) in
+      let tests : List Bool = not (eqb (v .length) 0) ∷ t ∷ [] in
+      let c = chosen (every tests) (reply (v .major) (v .minor) d) (reply major minor code) e (λ z. omega arith) in
+      let k = each tests (c .0) in
       let a : digitValue s ≡ major = ap (λ (x : Start). x .major) (c .1) in
       let b : digitValue (behindDot s) ≡ minor = ap (λ (x : Start). x .minor) (c .1) in
       let f : d ≡ code = ap (λ (x : Start). x .code) (c .1) in (
@@ -326,11 +386,12 @@ module _ (s : List ℕ) (major minor code : ℕ) where
         sym (take-append-drop (v .length) s),
       )
 
-reply-back : (version status : List ℕ) (major minor code : ℕ) → Versioned version major minor → Status status code → replyOf (version ++ status) ≡ reply major minor code
+reply-back : (version status : List ℕ) (major minor code : ℕ) → Versioned version major minor → Status status code
+    → replyOf (version ++ status) ≡ reply major minor code
 unfolding replyFrom
 reply-back version status major minor code v h =
     let s = version ++ status in
-    let e : versionOf s ≡ record { length = length version; major = major; minor = minor } = version-is version status major minor v (behind-version h) in
+    let e = version-is version status major minor v (behind-version h) in
     let b : behindVersion s ≡ status = ap (λ (x : Version). drop (x .length) s) e ∙ drop-append-seam version status in
     ap₂ (λ x y. replyFrom x (isStatus y) (digitValue (drop 1 y))) e b
     ∙ rw (ne-eqb (length version) 0 (version-some version major minor v), status-back h, code-back h)
@@ -342,8 +403,11 @@ reply-exactly line major minor code = (forth, back)
     forth : startOf line ≡ reply major minor code → Reply line major minor code
     forth e = go (startsWith greetingText line) (startsWith replyText line) refl e
       where
-        go : (t u : Bool) → startsWith replyText line ≡ u → cond t (greetingOf (drop 17 line)) (cond u (replyOf (drop 9 line)) noStart) ≡ reply major minor code → Reply line major minor code
-        go true u p e = absurd (omega (arith, greeting-kind (versionOf (drop 17 line)) (length (drop 17 line)), ap kindOf e))
+        go : (t u : Bool) → startsWith replyText line ≡ u
+            → cond t (greetingOf (drop 17 line)) (cond u (replyOf (drop 9 line)) noStart) ≡ reply major minor code
+            → Reply line major minor code
+        go true u p e =
+            absurd (omega (arith, greeting-kind (versionOf (drop 17 line)) (length (drop 17 line)), ap kindOf e))
         go false true p e =
             let q = reply-forth (drop 9 line) major minor code e in
             (q .0, q .1, q .2, q .3, starts-is replyText line p ∙ ap (λ x. replyText ++ x) (q .4))
@@ -380,13 +444,15 @@ kinds line = go (startsWith greetingText line) (startsWith replyText line)
   where
     go : (t u : Bool) → Kinds (cond t (greetingOf (drop 17 line)) (cond u (replyOf (drop 9 line)) noStart))
     go true u = greeting-kinds (versionOf (drop 17 line)) (length (drop 17 line))
-    go false true = reply-kinds (versionOf (drop 9 line)) (isStatus (behindVersion (drop 9 line))) (digitValue (drop 1 (behindVersion (drop 9 line))))
+    go false true =
+        let status = behindVersion (drop 9 line) in
+        reply-kinds (versionOf (drop 9 line)) (isStatus status) (digitValue (drop 1 status))
     go false false = none refl
 
-pub other-lines : OtherLines
-other-lines line h = go (kinds line)
+pub no-other-kind : NoOtherKind
+no-other-kind line h = go (kinds line)
   where
-    go : Kinds (startOf line) → Greeting line (startOf line .major) (startOf line .minor) ⊎ Reply line (startOf line .major) (startOf line .minor) (startOf line .code)
+    go : Kinds (startOf line) → GreetingOrReply line (startOf line)
     go (none e) = absurd (h e)
     go (first e) = inl (greeting-exactly line _ _ .0 e)
     go (second e) = inr (reply-exactly line _ _ _ .0 e)

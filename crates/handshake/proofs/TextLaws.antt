@@ -68,10 +68,12 @@ module _ (f : ℕ → Bool) where
   leading-stops (b ∷ bs) h = stops-case (f b) b bs refl (leading-stops bs) h
 
   -- so many pass, and the next one fails
-  pub leading-is : (s : List ℕ) (k : ℕ) → ((i : ℕ) → i < k → f (getD s i 0) ≡ true) → k < length s → f (getD s k 0) ≡ false → leading f s ≡ k
+  pub leading-is : (s : List ℕ) (k : ℕ) → ((i : ℕ) → i < k → f (getD s i 0) ≡ true) → k < length s → f (getD s k 0) ≡ false
+      → leading f s ≡ k
   leading-is [] k h n e = absurd (omega arith)
   leading-is (b ∷ bs) zero h n e = rw e
-  leading-is (b ∷ bs) (suc k) h n e = rw (h 0 (omega arith)) (ap suc (leading-is bs k (λ i q. h (suc i) (omega arith)) (omega arith) e))
+  leading-is (b ∷ bs) (suc k) h n e =
+      rw (h 0 (omega arith)) (ap suc (leading-is bs k (λ i q. h (suc i) (omega arith)) (omega arith) e))
 
 -- more than six digits are not looked at
 pub digit-count : (s : List ℕ) → digitCount s ≤ 6

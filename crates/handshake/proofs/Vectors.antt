@@ -118,23 +118,36 @@ fields-written : map (λ f. askedOut (codes (f .0)) (codes (f .1 .0)) area) fiel
 unfolding groupLength endsAt lower compared digitOf digitValue versionLength statusOk greetingFrom replyFrom startOf isAbsent valueFor understood groupFrom askedFrom askedWith
 fields-written = refl
 
--- two names that are not the same: `[` and `{` are 91 and 123, `@` and `` ` `` 64 and 96, and A and a with a grave accent 192 and 224,
--- each 32 apart as the two cases of a letter are
+-- two names that are not the same: 91 and 123, 64 and 96, 192 and 224 are 32 apart as the two cases of a letter are
 abbrev apart : List (String × String)
 apart = ("[", "{") ∷ ("@", "`") ∷ ("À", "à") ∷ ("à", "À") ∷ ("A", "AA") ∷ ("AA", "A") ∷ []
 
-abbrev with-field : String → List ℕ
-with-field name = codes "GNUTELLA/0.6 200\r\n" ++ (codes name ++ codes ": x\r\n\r\n")
+-- a group with a field of this name
+abbrev named : String → List ℕ
+named name = codes "GNUTELLA/0.6 200\r\n" ++ (codes name ++ codes ": x\r\n\r\n")
 
-apart-asked : map (λ p. askField (with-field (p .0)) (codes (p .1)) 7) apart ≡ map (λ p. asked 10 (length (with-field (p .0))) 0) apart
+apart-asked : map (λ p. askField (named (p .0)) (codes (p .1)) 7) apart ≡ map (λ p. asked 10 (length (named (p .0))) 0) apart
 unfolding groupLength endsAt lower compared digitOf digitValue versionLength statusOk greetingFrom replyFrom startOf isAbsent valueFor understood groupFrom askedFrom askedWith
 apart-asked = refl
 
--- asked for B in an area of no bytes: a line that is no field before the absent name and before the short area; then the one, and the other
--- (an absent name has no value, so no area is short for it)
-ordered : map (λ m. askField (codes m) (codes "B") 0) ("GNUTELLA/0.6 200\r\nA\r\n\r\n" ∷ "GNUTELLA/0.6 200\r\nB: x\r\nA\r\n\r\n" ∷ "GNUTELLA/0.6 200\r\nA: x\r\n\r\n" ∷ "GNUTELLA/0.6 200\r\nB: x\r\n\r\n" ∷ []) ≡ asked 17 0 0 ∷ asked 17 0 0 ∷ asked 10 26 0 ∷ asked 2 0 0 ∷ []
+-- groups that are asked for B in an area of no bytes
+abbrev ordered : List (String × Asked)
+ordered =
+    -- a line that is no field, and no such name
+    ("GNUTELLA/0.6 200\r\nA\r\n\r\n", asked 17 0 0)
+    -- a line that is no field, and a value that has no room
+    ∷ ("GNUTELLA/0.6 200\r\nB: x\r\nA\r\n\r\n", asked 17 0 0)
+    -- no end, and no such name
+    ∷ ("GNUTELLA/0.6 200\r\nA: x\r\n", asked 4 0 0)
+    -- no such name, and so no value that could want room
+    ∷ ("GNUTELLA/0.6 200\r\nA: x\r\n\r\n", asked 10 26 0)
+    -- a value that has no room
+    ∷ ("GNUTELLA/0.6 200\r\nB: x\r\n\r\n", asked 2 0 0)
+    ∷ []
+
+ordered-asked : map (λ g. askField (codes (g .0)) (codes "B") 0) ordered ≡ map (λ g. g .1) ordered
 unfolding groupLength endsAt lower compared digitOf digitValue versionLength statusOk greetingFrom replyFrom startOf isAbsent valueFor understood groupFrom askedFrom askedWith
-ordered = refl
+ordered-asked = refl
 
 abbrev one-field : List ℕ
 one-field = codes "GNUTELLA CONNECT/0.6\r\nA: wxyz\r\n\r\n"

@@ -1,5 +1,6 @@
--- The rules of a handshake once more, in words over the values of bytes: what is proved of the definitions beside it. A definition that took
--- another byte for a blank, a letter or a digit, or a version of another shape, would not have these.
+-- The rules of a handshake once more, in words over the values of bytes: what is proved of the definitions that
+-- the contracts cite. A definition that took another byte for a blank, a letter or a digit, or a version or a status
+-- of another shape, would not have these.
 use Prim.Native.Nat.{ℕ, _+_, _-_, _*_, _≤_, _<_}
 use mathlib.Core.Path.{_≡_}
 use mathlib.Core.Logic.{_↔_, _⊎_}
@@ -7,6 +8,7 @@ use mathlib.Core.Bool.{true}
 use mathlib.Core.List.{List, [], _∷_, _++_}
 use lib.ListN.{length, getD, take, drop}
 use Rattle.laws.specs.Text.{codes}
+use Rattle.handshake.specs.declared.start.Start.{Start}
 use Rattle.handshake.specs.Text.{isBlank, sameName}
 use Rattle.handshake.specs.Start.{startOf}
 use Rattle.handshake.specs.Fields.{continues, isField, nameOf, valueOf}
@@ -21,13 +23,21 @@ TwoCases upper lower = (65 ≤ upper) × (upper ≤ 90) × (lower ≡ upper + 32
 abbrev pub SameByte : ℕ → ℕ → Type 0
 SameByte a b = (a ≡ b) ⊎ (TwoCases a b ⊎ TwoCases b a)
 
--- two names are the same exactly if they are equally long and have such bytes at each place
-abbrev pub NamesSame : Type 0
-NamesSame = (a b : List ℕ) → (sameName a b ≡ true) ↔ ((length a ≡ length b) × ((i : ℕ) → i < length a → SameByte (getD a i 0) (getD b i 0)))
+-- equally long, and such bytes at each place
+abbrev pub SameBytes : List ℕ → List ℕ → Type 0
+SameBytes a b = (length a ≡ length b) × ((i : ℕ) → i < length a → SameByte (getD a i 0) (getD b i 0))
 
--- so a byte that is no letter, be it below 65, 91 to 96, or 123 and more, is the same as no other byte
+-- two names are the same exactly if they are so
+abbrev pub NamesSame : Type 0
+NamesSame = (a b : List ℕ) → (sameName a b ≡ true) ↔ SameBytes a b
+
+-- no letter: below A, from `[` to the byte before a, or above z, as each byte of 128 or more
+abbrev pub NoLetter : ℕ → Type 0
+NoLetter a = (a < 65) ⊎ (((91 ≤ a) × (a ≤ 96)) ⊎ (123 ≤ a))
+
+-- so a byte that is no letter is the same as no other byte
 abbrev pub OthersApart : Type 0
-OthersApart = (a b : ℕ) → (a < 65) ⊎ (((91 ≤ a) × (a ≤ 96)) ⊎ (123 ≤ a)) → sameName (a ∷ []) (b ∷ []) ≡ true → a ≡ b
+OthersApart = (a b : ℕ) → NoLetter a → sameName (a ∷ []) (b ∷ []) ≡ true → a ≡ b
 
 -- ---- blanks and fields
 
@@ -38,15 +48,19 @@ Blank b = (b ≡ 32) ⊎ (b ≡ 9)
 abbrev pub BlankExactly : Type 0
 BlankExactly = (b : ℕ) → (isBlank b ≡ true) ↔ Blank b
 
--- a name of n bytes, one or more, none of them a blank or a colon, and behind it a colon
+-- a byte of a name: neither a blank nor a colon
+abbrev pub NameByte : ℕ → Type 0
+NameByte b = (Blank b → ⊥) × (b ≡ 58 → ⊥)
+
+-- the first n bytes, one or more, are such bytes, and a colon stands behind them
 abbrev pub NamedBy : List ℕ → ℕ → Type 0
-NamedBy line n = (0 < n) × (getD line n 0 ≡ 58) × ((i : ℕ) → i < n → (Blank (getD line i 0) → ⊥) × (getD line i 0 ≡ 58 → ⊥))
+NamedBy line n = (0 < n) × (getD line n 0 ≡ 58) × ((i : ℕ) → i < n → NameByte (getD line i 0))
 
 -- a line is a field exactly if it begins so
 abbrev pub FieldExactly : Type 0
 FieldExactly = (line : List ℕ) → (isField line ≡ true) ↔ ((n : ℕ) × NamedBy line n)
 
--- the text without the blanks at its front: k of them, and none more
+-- the text without the blanks at its front, however many they are
 pub record Unblanked (text value : List ℕ) : Type 0 where
   pub count : ℕ
   pub blanks : (i : ℕ) → i < count → Blank (getD text i 0)
@@ -55,7 +69,9 @@ pub record Unblanked (text value : List ℕ) : Type 0 where
 
 -- then the name is what stands before the colon, and the value what stands behind it without the blanks at its front
 abbrev pub FieldParts : Type 0
-FieldParts = (line : List ℕ) (n : ℕ) → NamedBy line n → (nameOf line ≡ take n line) × Unblanked (drop (n + 1) line) (valueOf line)
+FieldParts =
+    (line : List ℕ) (n : ℕ) → NamedBy line n
+    → (nameOf line ≡ take n line) × Unblanked (drop (n + 1) line) (valueOf line)
 
 -- a line goes on with a value exactly if its first byte is a blank
 abbrev pub ContinuesExactly : Type 0
@@ -71,7 +87,8 @@ Digit b = (48 ≤ b) × (b ≤ 57)
 pub data Number : List ℕ → ℕ → Type 0 where
   one : {x : ℕ} → Digit x → Number (x ∷ []) (x - 48)
   two : {x y : ℕ} → Digit x → Digit y → Number (x ∷ y ∷ []) ((x - 48) * 10 + (y - 48))
-  three : {x y z : ℕ} → Digit x → Digit y → Digit z → Number (x ∷ y ∷ z ∷ []) (((x - 48) * 10 + (y - 48)) * 10 + (z - 48))
+  three : {x y z : ℕ} → Digit x → Digit y → Digit z
+      → Number (x ∷ y ∷ z ∷ []) (((x - 48) * 10 + (y - 48)) * 10 + (z - 48))
 
 -- a version: a number of one to three digits on each side of a dot, at least 0.6 as two numbers
 pub record Versioned (text : List ℕ) (major minor : ℕ) : Type 0 where
@@ -84,7 +101,8 @@ pub record Versioned (text : List ℕ) (major minor : ℕ) : Type 0 where
 
 -- a greeting is its word and a version, and nothing more
 abbrev pub Greeting : List ℕ → ℕ → ℕ → Type 0
-Greeting line major minor = (version : List ℕ) × Versioned version major minor × (line ≡ codes "GNUTELLA CONNECT/" ++ version)
+Greeting line major minor =
+    (version : List ℕ) × Versioned version major minor × (line ≡ codes "GNUTELLA CONNECT/" ++ version)
 
 abbrev pub GreetingExactly : Type 0
 GreetingExactly =
@@ -103,15 +121,18 @@ pub record Status (status : List ℕ) (code : ℕ) : Type 0 where
 -- a reply is its word, a version and a status
 abbrev pub Reply : List ℕ → ℕ → ℕ → ℕ → Type 0
 Reply line major minor code =
-    (version : List ℕ) × (status : List ℕ) × Versioned version major minor × Status status code × (line ≡ codes "GNUTELLA/" ++ (version ++ status))
+    (version : List ℕ) × (status : List ℕ) × Versioned version major minor × Status status code
+    × (line ≡ codes "GNUTELLA/" ++ (version ++ status))
 
 abbrev pub ReplyExactly : Type 0
 ReplyExactly =
     (line : List ℕ) (major minor code : ℕ)
     → (startOf line ≡ record { kind = 2; major = major; minor = minor; code = code }) ↔ Reply line major minor code
 
+-- what is read of a first line is one of the two
+abbrev pub GreetingOrReply : List ℕ → Start → Type 0
+GreetingOrReply line s = Greeting line (s .major) (s .minor) ⊎ Reply line (s .major) (s .minor) (s .code)
+
 -- and any other first line is of kind 0, for which a group is not understood
-abbrev pub OtherLines : Type 0
-OtherLines =
-    (line : List ℕ) → (startOf line .kind ≡ 0 → ⊥)
-    → Greeting line (startOf line .major) (startOf line .minor) ⊎ Reply line (startOf line .major) (startOf line .minor) (startOf line .code)
+abbrev pub NoOtherKind : Type 0
+NoOtherKind = (line : List ℕ) → (startOf line .kind ≡ 0 → ⊥) → GreetingOrReply line (startOf line)

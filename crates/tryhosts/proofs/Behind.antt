@@ -21,7 +21,8 @@ module _ (m b : List ℕ) (g : SameGroup m b) where
   answer-same : groupAnswer b ≡ groupAnswer m
   unfolding groupAnswer
   answer-same =
-      rw (value-same m b g tryName, length-same m b g, understood-same m b g, ne-eqb (groupLength m) 0 (λ e. omega arith))
+      let some : eqb (groupLength m) 0 ≡ false = ne-eqb (groupLength m) 0 (λ e. omega arith) in
+      rw (value-same m b g tryName, length-same m b g, understood-same m b g, some)
 
   hosts-same : groupTried b ≡ groupTried m
   unfolding groupTried
@@ -34,10 +35,13 @@ pub hosts-alone : HostsAlone
 hosts-alone m h = hosts-same m (take (groupLength m) m) (same-alone m h)
 
 -- one of the first three refusals comes before a bad pair
-first-three : (a b c d : Bool) → (firstOf ((a, 18) ∷ (b, 4) ∷ (c, 17) ∷ []) ≡ 0 → ⊥)
-    → (firstOf ((a, 18) ∷ (b, 4) ∷ (c, 17) ∷ (d, 6) ∷ []) ≡ firstOf ((a, 18) ∷ (b, 4) ∷ (c, 17) ∷ []))
-    × (eqb (firstOf ((a, 18) ∷ (b, 4) ∷ (c, 17) ∷ [])) 0 ≡ false)
-    × (eqb (firstOf ((a, 18) ∷ (b, 4) ∷ (c, 17) ∷ [])) 6 ≡ false)
+abbrev three : Bool → Bool → Bool → ℕ
+three a b c = firstOf ((a, 18) ∷ (b, 4) ∷ (c, 17) ∷ [])
+
+first-three : (a b c d : Bool) → (three a b c ≡ 0 → ⊥)
+    → (firstOf ((a, 18) ∷ (b, 4) ∷ (c, 17) ∷ (d, 6) ∷ []) ≡ three a b c)
+    × (eqb (three a b c) 0 ≡ false)
+    × (eqb (three a b c) 6 ≡ false)
 first-three true b c d h = (refl, refl, refl)
 first-three false true c d h = (refl, refl, refl)
 first-three false false true d h = (refl, refl, refl)
@@ -47,5 +51,7 @@ pub hosts-as-read : HostsAsRead
 unfolding groupTried groupAnswer
 hosts-as-read m h =
     let n = groupLength m in
-    let k = first-three (eqb n 0 && leb 4096 (length m)) (eqb n 0) (not (understood m n)) (not (all goodPair (itemsOf (tryValue m)))) (λ e. h (read-answer m ∙ e)) in
+    let end = eqb n 0 in
+    let bad = not (all goodPair (itemsOf (tryValue m))) in
+    let k = first-three (end && leb 4096 (length m)) end (not (understood m n)) bad (λ e. h (read-answer m ∙ e)) in
     rw (read-answer m, k .0, k .1, k .2)

@@ -352,7 +352,8 @@ busy-alone (p ∷ ps) n h = busy-some p ps h n (value-front p ps h)
 
 -- ---- with anything behind them
 
-read-behind : {text : List ℕ} {kind code : ℕ} {ps : List Pair} → ReadAs text (length text) kind code ps → TextReadAs text kind code ps
+read-behind : {text : List ℕ} {kind code : ℕ} {ps : List Pair}
+    → ReadAs text (length text) kind code ps → TextReadAs text kind code ps
 read-behind {text} r x =
     let h : 0 < groupLength text = read-whole text (ap (λ (g : Group). g .answer) (r .group)) in
     record { group = not-read-behind text x h .0 ∙ r .group; hosts = hosts-not-behind text x h ∙ r .hosts }
@@ -361,7 +362,8 @@ pub groups-read-back : GroupsReadBack
 groups-read-back = (read-behind greeting-alone, read-behind ok-alone, λ ps n h. read-behind (busy-alone ps n h))
 
 -- the area of a writer that answers 0 begins with the text
-read-area : (text area : List ℕ) (answer : ℕ) {kind code : ℕ} {ps : List Pair} → TextReadAs text kind code ps → AreaReadAs answer text area kind code ps
+read-area : (text area : List ℕ) (answer : ℕ) {kind code : ℕ} {ps : List Pair}
+    → TextReadAs text kind code ps → AreaReadAs answer text area kind code ps
 unfolding areaOf wroteOf
 read-area text area answer r e = rw e (r (drop (0 + length text) area))
 
@@ -375,5 +377,11 @@ pub areas-read-back : AreasReadBack
 areas-read-back area = (
   read-area greetingBytes area (textAnswer (length area) greetingBytes) (groups-read-back .0),
   read-area okBytes area (textAnswer (length area) okBytes) (groups-read-back .1),
-  λ pairs h e. read-area (busyBytes (pairsIn pairs)) area (busyAnswer (length area) pairs) (groups-read-back .2 (pairsIn pairs) (few-pairs (length area) pairs e) h) e,
+  busy,
 )
+  where
+    busy : (pairs : Pairs) → all isHost (pairsIn pairs) ≡ true
+        → AreaReadAs (busyAnswer (length area) pairs) (busyBytes (pairsIn pairs)) area 2 503 (pairsIn pairs)
+    busy pairs h e =
+        read-area (busyBytes (pairsIn pairs)) area (busyAnswer (length area) pairs)
+        (groups-read-back .2 (pairsIn pairs) (few-pairs (length area) pairs e) h) e

@@ -58,22 +58,34 @@ busyWithTwo : busyBytes (host 1 2 3 4 1234 ∷ host 10 0 255 13 20 ∷ []) ≡ c
 unfolding busyBytes tryLine pairsText pairText decimal
 busyWithTwo = refl
 
--- groups, each with its answer, the bytes used and how many hosts it lists
+-- what is handed back of a group: its answer, the bytes used and how many hosts it lists
 abbrev asked : String → ℕ × ℕ × ℕ
 asked text = (groupTried (codes text) .answer, groupTried (codes text) .used, groupTried (codes text) .pairs .count)
 
--- two fields, one on two lines, in a greeting and in a reply; no such field; a bad pair; no end; not understood
-groups : map asked ("GNUTELLA CONNECT/0.6\r\nX-Try: 1.2.3.4:5\r\nx-try: 6.7.8.9:1,\r\n 1.1.1.1:1\r\n\r\n" ∷ "GNUTELLA/0.6 503 Busy\r\nX-Try: 1.2.3.4:5\r\nx-try: 6.7.8.9:1,\r\n 1.1.1.1:1\r\n\r\n" ∷ "GNUTELLA/0.6 200 OK\r\nA: b\r\n\r\n" ∷ "GNUTELLA/0.6 503 Busy\r\nX-Try: 1.2.3.4:0\r\n\r\n" ∷ "GNUTELLA CONNECT/0.6\r\n" ∷ "X-Try: 1.2.3.4:5\r\n\r\n" ∷ []) ≡ (0, 73, 3) ∷ (0, 74, 3) ∷ (0, 29, 0) ∷ (6, 43, 0) ∷ (4, 0, 0) ∷ (17, 0, 0) ∷ []
-unfolding groupLength endsAt lower compared digitOf digitValue versionLength statusOk greetingFrom replyFrom startOf isAbsent valueFor understood groupTried groupAnswer pairsFrom pairsOf itemsOf pieces bare filled goodPair pairIn upTo past
-groups = refl
+-- groups, each with what is handed back
+abbrev groups : List (String × (ℕ × ℕ × ℕ))
+groups =
+    -- two fields, one on two lines, in a greeting and in a reply
+    ("GNUTELLA CONNECT/0.6\r\nX-Try: 1.2.3.4:5\r\nx-try: 6.7.8.9:1,\r\n 1.1.1.1:1\r\n\r\n", (0, 73, 3))
+    ∷ ("GNUTELLA/0.6 503 Busy\r\nX-Try: 1.2.3.4:5\r\nx-try: 6.7.8.9:1,\r\n 1.1.1.1:1\r\n\r\n", (0, 74, 3))
+    -- no such field
+    ∷ ("GNUTELLA/0.6 200 OK\r\nA: b\r\n\r\n", (0, 29, 0))
+    -- a bad pair
+    ∷ ("GNUTELLA/0.6 503 Busy\r\nX-Try: 1.2.3.4:0\r\n\r\n", (6, 43, 0))
+    -- no end; not understood
+    ∷ ("GNUTELLA CONNECT/0.6\r\n", (4, 0, 0))
+    ∷ ("X-Try: 1.2.3.4:5\r\n\r\n", (17, 0, 0))
+    -- a bad pair in a group without an end, and in one with a line that is no field
+    ∷ ("GNUTELLA/0.6 503 Busy\r\nX-Try: 1.2.3.4:0\r\n", (4, 0, 0))
+    ∷ ("GNUTELLA/0.6 503 Busy\r\nX-Try: 1.2.3.4:0\r\nA\r\n\r\n", (17, 0, 0))
+    -- a value that begins on a line that goes on with it has a space in front, which follows no comma
+    ∷ ("GNUTELLA/0.6 503 Busy\r\nX-Try:\r\n 1.2.3.4:5\r\n\r\n", (6, 45, 0))
+    ∷ ("GNUTELLA/0.6 503 Busy\r\nX-Try: \r\n\t 1.2.3.4:5\r\n\r\n", (6, 47, 0))
+    -- there it follows one: the value's own, and the one that joins two fields
+    ∷ ("GNUTELLA/0.6 503 Busy\r\nX-Try:,\r\n\t 1.2.3.4:5\r\n\r\n", (0, 47, 1))
+    ∷ ("GNUTELLA/0.6 503 Busy\r\nX-Try: 1.2.3.4:5\r\nX-Try:\r\n 6.7.8.9:1\r\n\r\n", (0, 63, 2))
+    ∷ []
 
--- with a bad pair: a line that is no field, before the pair and behind it, and no end
-refusals : map asked ("GNUTELLA/0.6 503 Busy\r\nA\r\nX-Try: 1.2.3.4:0\r\n\r\n" ∷ "GNUTELLA/0.6 503 Busy\r\nX-Try: 1.2.3.4:0\r\nA\r\n\r\n" ∷ "GNUTELLA/0.6 503 Busy\r\nX-Try: 1.2.3.4:0\r\n" ∷ []) ≡ (17, 0, 0) ∷ (17, 0, 0) ∷ (4, 0, 0) ∷ []
+groups-asked : map (λ g. asked (g .0)) groups ≡ map (λ g. g .1) groups
 unfolding groupLength endsAt lower compared digitOf digitValue versionLength statusOk greetingFrom replyFrom startOf isAbsent valueFor understood groupTried groupAnswer pairsFrom pairsOf itemsOf pieces bare filled goodPair pairIn upTo past
-refusals = refl
-
--- a value that begins on a line that goes on with it has a space in front, which no comma precedes; behind a comma, its own or the one
--- that joins two fields, it is the space that may stand there
-leading : map asked ("GNUTELLA/0.6 503 Busy\r\nX-Try:\r\n 1.2.3.4:5\r\n\r\n" ∷ "GNUTELLA/0.6 503 Busy\r\nX-Try: \r\n\t 1.2.3.4:5\r\n\r\n" ∷ "GNUTELLA/0.6 503 Busy\r\nX-Try:,\r\n\t 1.2.3.4:5\r\n\r\n" ∷ "GNUTELLA/0.6 503 Busy\r\nX-Try: 1.2.3.4:5\r\nX-Try:\r\n 6.7.8.9:1\r\n\r\n" ∷ []) ≡ (6, 45, 0) ∷ (6, 47, 0) ∷ (0, 47, 1) ∷ (0, 63, 2) ∷ []
-unfolding groupLength endsAt lower compared digitOf digitValue versionLength statusOk greetingFrom replyFrom startOf isAbsent valueFor understood groupTried groupAnswer pairsFrom pairsOf itemsOf pieces bare filled goodPair pairIn upTo past
-leading = refl
+groups-asked = refl

@@ -72,7 +72,8 @@ GroupsReadBack =
 
 -- where a writer of the text answers 0, the area as it leaves it is read as a group of the bytes written
 abbrev pub AreaReadAs : ℕ → List ℕ → List ℕ → ℕ → ℕ → List Pair → Type 0
-AreaReadAs answer text area kind code ps = answer ≡ 0 → ReadAs (areaOf answer text area) (wroteOf answer text .written) kind code ps
+AreaReadAs answer text area kind code ps =
+    answer ≡ 0 → ReadAs (areaOf answer text area) (wroteOf answer text .written) kind code ps
 
 -- so what the three writers leave in an area of any length is read back
 abbrev pub AreasReadBack : Type 0
