@@ -8,4 +8,7 @@ pub mod OrderLaws
 pub mod KeepLaws
 pub mod BoundLaws
 pub mod AdmissionLaws
+pub mod HistoryLaws
+pub mod Answers
 pub mod Vectors
+pub mod AnswerBounds

@@ -3,3 +3,5 @@ pub mod Patch
 pub mod Tables
 pub mod Updates
 pub mod Admission
+pub mod History
+pub mod Answers
