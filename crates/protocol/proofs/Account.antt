@@ -51,7 +51,7 @@ module _ (L room : ℕ) (o : Outcome) (e : Expected) (us : List Update) (q : Acc
       go false z false i = rw (z, i) q
       go false z true i =
           rw (z, i)
-          (subst (λ (n : ℕ). Accounts (updated room (e .held) (ttlOf m) (hopsOf m) (payloadOf m)) (update (payloadOf m) n ∷ us)) (sym (h .0 z i))
+          (subst (λ (n : ℕ). Accounts (updated room (e .held) (ttlOf m) (hopsOf m) (payloadOf m)) (update (payloadOf m) n ∷ us)) (sym (h .0 z i .0))
           (after-update (e .held) us q (payloadOf m) room (ttlOf m) (hopsOf m)))
   account-call (Ask number text out a) h = go (unsent (o .answer))
     where

@@ -20,6 +20,8 @@ use Rattle.wire.specs.Header.{kindOf, ttlOf, hopsOf, payloadOf, routeUpdate}
 use Rattle.tables.specs.declared.Table.{Table}
 use Rattle.tables.specs.Tables.{Held, settled, heldIn, noTable}
 use Rattle.tables.specs.Updates.{updateAnswer, updated}
+use Rattle.tables.specs.Answers.{Answers}
+use Rattle.tables.proofs.Answers.{answers}
 use Rattle.protocol.specs.declared.Own.{Own}
 use Rattle.protocol.specs.declared.Line.{Line}
 use Rattle.protocol.specs.declared.Station.{Station}
@@ -34,7 +36,7 @@ use Rattle.protocol.specs.Calls.{openingRules, opening, closedState, clo
 use Rattle.protocol.specs.Runs.{Area, Same, Other, Call, Open, Close, Message, Ask, World, lent, keptArea, outcomeOf, areaAfter, step, run, start, FairArea, FairCall, Fair}
 use Rattle.protocol.specs.Expected.{Expected, wiped, brings, asks, brought, isUpdateOf, expectedAnswer, hears, feed, expected}
 use Rattle.protocol.specs.History.{Update, updatesOf, sumAt}
-use Rattle.protocol.specs.Demand3.{lifeLeft, MayGo, Forwarded, Agrees, entriesAt, Stands, Demand3}
+use Rattle.protocol.specs.Demand3.{lifeLeft, MayGo, Forwarded, updateIn, Agrees, entriesAt, Stands, Demand3}
 use Rattle.protocol.proofs.Updates.{Sound, sound-updated, updated-within, update-sent}
 use Rattle.protocol.proofs.Account.{Accounts, noHeld, nothing-yet, account-call}
 use Rattle.protocol.proofs.Forwarding.{goes-iff, own-goes-iff, forwarded}
@@ -211,7 +213,7 @@ module _ (L room : ℕ) (seven : L ≤ 7) (e : Expected) (us : List Update) (t :
                 whileClosed = λ o. absurd (clash (v ∙ open′) o);
                 sound = sound-heard;
               }),
-          ((λ _ _. a), (λ _ y. absurd (no-query L clock own m out k y))),
+          ((λ _ _. (a, subst (λ (n : ℕ). Answers room us (updateIn m) n) (sym a) (answers room (e .held) us t (updateIn m)))), (λ _ y. absurd (no-query L clock own m out k y))),
         )
 
   update-good : (l clock : ℕ) (own : Own) (m : List ℕ) (out : ℕ) → LetIn s l m (length area) → eqb (kindOf m) routeUpdate ≡ true

@@ -4,7 +4,8 @@
 -- What is expected of a line, document 01's slate, is specs/Expected; the updates of its opening are specs/History.
 -- The sentences of the demand, in our words, and what carries each:
 --   a call gets the state that the last one left, and the area so, or one of another room: Runs `run`, `Fair`
---   the updates of L are answered as expected: `Agrees`, the first part for a message
+--   the updates of L are answered as expected, which is: exactly as their bytes and the updates before them in the
+--     opening say (tables, specs/Answers): `Agrees`, the first part for a message
 --   those refused by 1 to 5 count as unsent: Expected `fed`, History `noted`
 --   its table stands as expected, mark, and length, Infinity and entries while there are any: `Stands`, live to closed
 --   each entry is Infinity plus the sum of its numbers accepted since the last accepted RESET: `Stands`, sums
@@ -28,6 +29,7 @@ use Rattle.wire.specs.Header.{kindOf, ttlOf, hopsOf, payloadOf}
 use Rattle.keywords.specs.Keywords.{keywordsOf}
 use Rattle.keywords.specs.Hash.{placeOf}
 use Rattle.tables.specs.Tables.{settled}
+use Rattle.tables.specs.Answers.{Sent, Answers}
 use Rattle.protocol.specs.declared.Station.{Station}
 use Rattle.protocol.specs.Lines.{lineAt}
 use Rattle.protocol.specs.Order.{inOrder}
@@ -85,13 +87,18 @@ pub record Forwarded (e : Expected) (us : List Update) (may : Type 0) (text : Li
   pub afterRefusal : spoiled us ≡ true → may → sent ≡ true
   pub otherwise : speaks us ≡ true → may → (sent ≡ false) ↔ Stopped e text ttl
 
+-- an update as a message brings it
+abbrev pub updateIn : List ℕ → Sent
+updateIn m = record { ttl = ttlOf m; hops = hopsOf m; payload = payloadOf m }
+
 -- a call and its outcome, read with what was expected before it and the updates until then. An opening or closing that
 -- is not unsent is done
 abbrev pub Agrees : (L room : ℕ) → Expected → List Update → Call → Outcome → Type 0
 Agrees L room e us (Open l) o = unsent (o .answer) ≡ false → o .answer ≡ 0
 Agrees L room e us (Close l) o = unsent (o .answer) ≡ false → o .answer ≡ 0
 Agrees L room e us (Message l clock own m out a) o =
-    (unsent (o .answer) ≡ false → isUpdateOf L l m ≡ true → o .answer ≡ expectedAnswer room e m)
+    (unsent (o .answer) ≡ false → isUpdateOf L l m ≡ true
+    → (o .answer ≡ expectedAnswer room e m) × Answers room us (updateIn m) (o .answer))
     × (o .answer ≡ 0 → kindOf m ≡ 0x80
     → Forwarded e us (MayGo e L l m) (textIn (payloadOf m)) (lifeLeft m - 1) (getD (o .to) L false))
 Agrees L room e us (Ask n text out a) o = o .answer ≡ 0 → Forwarded e us (e .live ≡ true) text 7 (getD (o .to) L false)
