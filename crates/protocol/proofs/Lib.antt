@@ -25,3 +25,4 @@ pub mod LateHits
 pub mod Numbers
 pub mod Blind
 pub mod Extent
+pub mod QueryText

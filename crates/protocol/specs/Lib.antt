@@ -21,3 +21,4 @@ pub mod Periods
 pub mod Kept
 pub mod Blind
 pub mod Extent
+pub mod QueryText
