@@ -111,14 +111,14 @@ impl Table {
             return 15;
         }
         let entries = &mut part[at..end];
-        let fits = if bits == 4 { nibbles_fit(entries, data, self.infinity) } else { bytes_fit(entries, data, self.infinity) };
-        if !fits {
+        let within = if bits == 4 { apply4(entries, data, self.infinity) } else { apply8(entries, data, self.infinity) };
+        if !within {
+            if bits == 4 {
+                undo4(entries, data);
+            } else {
+                undo8(entries, data);
+            }
             return 16;
-        }
-        if bits == 4 {
-            add_nibbles(entries, data);
-        } else {
-            add_bytes(entries, data);
         }
         if place == size {
             *self = Table { mark: SETTLED, place: 1, size: 0, bits: 0, at: 0, ..*self };
@@ -142,42 +142,51 @@ impl Table {
     }
 }
 
-/// Data bytes that are unpacked at a time at 4 bits.
-const BLOCK: usize = 128;
+// A PATCH is applied at once, each sum modulo 256, while the least and the greatest sum are noted. If one of these is outside of 1..Infinity
+// it is undone: what was added modulo 256 can be taken away again, whatever the entries were.
 
-/// The numbers of at most [`BLOCK`] bytes at 4 bits, as 8-bit numbers: two for each byte, the first four bits first.
+/// The two numbers of a byte at 4 bits, each 8 too high, which makes them 0 to 15. The first four bits come first.
 #[inline]
-fn unpacked(data: &[u8]) -> [u8; 2 * BLOCK] {
-    let mut numbers = [0; 2 * BLOCK];
-    for (pair, &byte) in numbers.chunks_exact_mut(2).zip(data) {
-        let byte = u16::from(byte);
-        pair.copy_from_slice(&((byte << 8 | byte >> 4) & 0x0F0F).to_le_bytes());
+fn raised(byte: u8) -> [u8; 2] {
+    [byte >> 4 ^ 8, byte & 15 ^ 8]
+}
+
+/// Adds numbers of 4 bits, two to a byte, and says whether all sums are within 1..Infinity. The sums are noted 8 too high, as the numbers are; one
+/// that is over 255 is noted as that, which is outside as well.
+fn apply4(entries: &mut [u8], data: &[u8], infinity: u8) -> bool {
+    let (mut least, mut greatest) = (u8::MAX, 0);
+    for (pair, &byte) in entries.chunks_exact_mut(2).zip(data) {
+        for (entry, number) in pair.iter_mut().zip(raised(byte)) {
+            let sum = entry.saturating_add(number);
+            least = least.min(sum);
+            greatest = greatest.max(sum);
+            *entry = entry.wrapping_add(number).wrapping_sub(8);
+        }
     }
-    numbers.map(|number| (number ^ 8).wrapping_sub(8))
+    data.is_empty() || (least >= 8 + 1 && greatest <= 8 + infinity)
 }
 
-/// Whether every 8-bit number leads its entry to 1..Infinity.
-fn bytes_fit(entries: &[u8], numbers: &[u8], infinity: u8) -> bool {
-    entries.iter().zip(numbers).fold(true, |all, (&entry, &number)| {
-        let sum = i16::from(entry) + i16::from(number as i8);
-        all & (sum >= 1) & (sum <= i16::from(infinity))
-    })
-}
-
-fn add_bytes(entries: &mut [u8], numbers: &[u8]) {
-    for (entry, &number) in entries.iter_mut().zip(numbers) {
-        *entry = entry.wrapping_add(number);
+fn undo4(entries: &mut [u8], data: &[u8]) {
+    for (entry, number) in entries.iter_mut().zip(data.iter().flat_map(|&byte| raised(byte))) {
+        *entry = entry.wrapping_sub(number).wrapping_add(8);
     }
 }
 
-fn nibbles_fit(entries: &[u8], data: &[u8], infinity: u8) -> bool {
-    let mut blocks = entries.chunks(2 * BLOCK).zip(data.chunks(BLOCK));
-    blocks.all(|(entries, data)| bytes_fit(entries, &unpacked(data), infinity))
+/// Adds numbers of 8 bits, each a byte, and says whether all sums are within 1..Infinity.
+fn apply8(entries: &mut [u8], data: &[u8], infinity: u8) -> bool {
+    let (mut least, mut greatest) = (i16::MAX, i16::MIN);
+    for (entry, &byte) in entries.iter_mut().zip(data) {
+        let sum = i16::from(*entry) + i16::from(byte as i8);
+        least = least.min(sum);
+        greatest = greatest.max(sum);
+        *entry = sum as u8;
+    }
+    least >= 1 && greatest <= i16::from(infinity)
 }
 
-fn add_nibbles(entries: &mut [u8], data: &[u8]) {
-    for (entries, data) in entries.chunks_mut(2 * BLOCK).zip(data.chunks(BLOCK)) {
-        add_bytes(entries, &unpacked(data));
+fn undo8(entries: &mut [u8], data: &[u8]) {
+    for (entry, &byte) in entries.iter_mut().zip(data) {
+        *entry = entry.wrapping_sub(byte);
     }
 }
 
@@ -234,7 +243,8 @@ mod tests {
     /// C60: high four bits first, numbers with a sign.
     #[test]
     fn numbers_of_a_byte() {
-        assert_eq!(unpacked(&[0x09, 0x78, 0x8F])[..7], [0, -7, 7, -8, -8, -1, 0i8].map(|number| number as u8));
+        let numbers = |byte| raised(byte).map(|number| number as i8 - 8);
+        assert_eq!([0x09, 0x78, 0x8F].map(numbers), [[0, -7], [7, -8], [-8, -1]]);
         let (_, part, answers) = after(&[&[0, 4, 0, 0, 0, 127], &[1, 1, 1, 0, 8, 0x82, 0xFF, 0, 0xFF]]);
         assert_eq!((part, answers), ([1, 126, 127, 126, 7, 7, 7, 7], vec![0, 0]));
     }

@@ -1,100 +1,156 @@
 //! The remembered queries, and the test that a state is in order.
 //!
-//! Whether a number is remembered twice is found in time linear in the kept numbers, by marks: 1,024 words, of which each joins by OR the low
-//! halves of the kept numbers that have the same low ten bits. A number with a bit that its word lacks is not kept, and of random numbers
-//! nearly all have one; only for the others are the kept numbers looked through.
+//! A state carries a ranking: the kept places in the order of their numbers. It is a help and no part of the state's value, and every call tests
+//! it in one pass before it is used. If it has as many places as are kept, each of them kept and each with a greater number than the one before,
+//! then these are all the kept places, and no number is among them twice. A ranking that fails, as it may after the fields of a state were
+//! written from outside, is made anew by sorting, and then decides. A number is looked up in it by halving.
 
 use super::{kept, Line, State, GONE, LINES, MEMORY};
 use std::ops::Range;
 
-const WORDS: usize = 1_024;
+/// The kept places by rising numbers, in the first places of the array.
+#[derive(Clone, Debug)]
+pub(super) struct Ranking([u16; MEMORY]);
 
-/// The marks of the kept numbers.
-pub(super) struct Marks([u64; WORDS]);
-
-impl Marks {
-    pub(super) fn new() -> Marks {
-        Marks([0; WORDS])
-    }
-
-    /// Whether a number with this low half may have been marked.
-    #[inline]
-    fn maybe(&self, low: u64) -> bool {
-        low & !self.0[low as usize % WORDS] == 0
-    }
-
-    #[inline]
-    fn mark(&mut self, low: u64) {
-        self.0[low as usize % WORDS] |= low;
+/// States with unlike rankings are alike.
+impl PartialEq for Ranking {
+    fn eq(&self, _: &Ranking) -> bool {
+        true
     }
 }
 
-/// The first eight bytes of a number.
+impl Eq for Ranking {}
+
+impl Ranking {
+    pub(super) const EMPTY: Ranking = Ranking([0; MEMORY]);
+}
+
+/// What numbers are ranked by first.
 #[inline]
-fn low_half(number: &[u8; 16]) -> u64 {
+fn first_half(number: &[u8; 16]) -> u64 {
     u128::from_le_bytes(*number) as u64
 }
 
-/// Whether all askers fit these lines: each is an open line, here or gone.
-fn fitting(askers: &[u8], lines: &[Line; LINES]) -> bool {
-    let known = askers.iter().fold(true, |all, &asker| all & (asker <= GONE));
-    let mut closed = (0u8..).zip(lines).filter(|(_, line)| !line.open);
-    known && closed.all(|(line, _)| !askers.contains(&line))
+/// What numbers are ranked by: the first half, then the second.
+#[inline]
+fn value(number: &[u8; 16]) -> u128 {
+    u128::from_le_bytes(*number).rotate_left(64)
+}
+
+/// How many askers are marks of this range. They are summed up in bytes, few enough at a time for a byte.
+fn count_within(askers: &[u8], marks: Range<u8>) -> usize {
+    let count = |some: &[u8]| some.iter().fold(0, |count: u8, asker| count + u8::from(marks.contains(asker)));
+    askers.chunks(128).map(|some| usize::from(count(some))).sum()
+}
+
+/// Whether each asker is an open line, here or gone: the marks from one closed line to the next are counted, and these must be all.
+fn all_known(askers: &[u8], lines: &[Line; LINES]) -> bool {
+    let (mut known, mut from) = (0, 0);
+    for (line, mark) in lines.iter().zip(0..) {
+        if !line.open {
+            known += count_within(askers, from..mark);
+            from = mark + 1;
+        }
+    }
+    known + count_within(askers, from..GONE + 1) == askers.len()
 }
 
 impl State {
-    /// The kept places, the oldest first.
-    #[inline]
-    fn kept(&self) -> [Range<usize>; 2] {
-        kept(usize::from(self.count), usize::from(self.next), MEMORY)
+    /// Whether the state is in order.
+    pub fn in_order(&self) -> bool {
+        self.in_order_but_numbers() && (self.stands(&self.ranking) || self.stands(&self.ranked()))
     }
 
-    /// Whether the state is in order; if so, the kept numbers are marked.
-    pub(super) fn in_order_marked(&self, marks: &mut Marks) -> bool {
-        let ring = usize::from(self.count) <= MEMORY && usize::from(self.next) < MEMORY;
-        if !ring || !self.lines.iter().all(|line| line.in_order(self.room)) {
+    /// Whether the state is in order; if so, its ranking stands.
+    pub(super) fn ready(&mut self) -> bool {
+        if !self.in_order_but_numbers() {
             return false;
         }
-        for places in self.kept() {
-            if !fitting(&self.askers[places.clone()], &self.lines) {
-                return false;
-            }
-            for (place, number) in places.clone().zip(&self.numbers[places]) {
-                let low = low_half(number);
-                if marks.maybe(low) && self.place_of(number) != Some(place) {
-                    return false;
-                }
-                marks.mark(low);
-            }
+        if !self.stands(&self.ranking) {
+            self.ranking = self.ranked();
+            return self.stands(&self.ranking);
         }
         true
     }
 
-    /// The first kept place of a number, from the oldest on.
-    #[inline(never)]
-    fn place_of(&self, number: &[u8; 16]) -> Option<usize> {
-        let low = low_half(number);
-        let among = |places: Range<usize>| {
-            let at = self.numbers[places.clone()].iter().position(|kept| low_half(kept) == low && kept == number)?;
-            Some(places.start + at)
-        };
-        let [older, newer] = self.kept();
-        among(older).or_else(|| among(newer))
+    /// Whether the state is in order but for numbers that are kept twice.
+    fn in_order_but_numbers(&self) -> bool {
+        let (count, next) = (usize::from(self.count), usize::from(self.next));
+        count <= MEMORY
+            && next < MEMORY
+            && self.lines.iter().all(|line| line.in_order(self.room))
+            && kept(count, next, MEMORY).into_iter().all(|places| all_known(&self.askers[places], &self.lines))
     }
 
-    /// The kept place of a number, given the marks of the kept numbers.
+    /// The kept number at a place.
     #[inline]
-    pub(super) fn find(&self, marks: &Marks, number: &[u8; 16]) -> Option<usize> {
-        if marks.maybe(low_half(number)) {
-            self.place_of(number)
-        } else {
-            None
-        }
+    fn number(&self, place: u16) -> &[u8; 16] {
+        &self.numbers[usize::from(place) % MEMORY]
     }
 
-    /// Remembers a query; the oldest of 512 makes way.
-    pub(super) fn remember(&mut self, number: &[u8; 16], asker: u8) {
+    #[inline]
+    fn places<'a>(&self, ranking: &'a Ranking) -> &'a [u16] {
+        &ranking.0[..usize::from(self.count)]
+    }
+
+    /// Whether a ranking has every kept place, and no number twice. The ring is in order.
+    fn stands(&self, ranking: &Ranking) -> bool {
+        let (places, newest) = (self.places(ranking), self.next.wrapping_sub(1));
+        let all_kept = places.iter().fold(true, |all, &place| all & (self.count > newest.wrapping_sub(place) % MEMORY as u16));
+        all_kept && (self.halves_rise(places) || places.windows(2).all(|two| value(self.number(two[0])) < value(self.number(two[1]))))
+    }
+
+    /// Whether the first halves of the numbers rise, as those of random numbers do.
+    fn halves_rise(&self, places: &[u16]) -> bool {
+        let (mut rising, mut before) = (true, 0);
+        for &place in places {
+            let half = first_half(self.number(place));
+            rising &= before < half;
+            before = half;
+        }
+        rising
+    }
+
+    /// A new ranking, by sorting.
+    #[cold]
+    #[inline(never)]
+    fn ranked(&self) -> Ranking {
+        let mut ranking = Ranking::EMPTY;
+        let kept = kept(usize::from(self.count), usize::from(self.next), MEMORY).into_iter().flatten();
+        ranking.0.iter_mut().zip(kept).for_each(|(entry, place)| *entry = place as u16);
+        ranking.0[..usize::from(self.count)].sort_unstable_by_key(|&place| value(self.number(place)));
+        ranking
+    }
+
+    /// The rank of a number, or the one that it would have.
+    #[inline]
+    fn rank(&self, number: &[u8; 16]) -> Result<usize, usize> {
+        self.places(&self.ranking).binary_search_by_key(&value(number), |&place| value(self.number(place)))
+    }
+
+    /// The kept place of a number, or the rank that it would have. The ranking stands.
+    #[inline]
+    pub(super) fn find(&self, number: &[u8; 16]) -> Result<usize, usize> {
+        self.rank(number).map(|rank| usize::from(self.ranking.0[rank]))
+    }
+
+    /// Remembers a query whose number is not kept and would have this rank; the oldest of 512 makes way. The ranking stands, also after it.
+    pub(super) fn remember(&mut self, rank: usize, number: &[u8; 16], asker: u8) {
         let place = usize::from(self.next);
+        let (mut rank, mut end) = (rank, usize::from(self.count));
+        if end == MEMORY {
+            // The ranks between the oldest's and the new one move by one; the new one's is one less if the oldest was before it.
+            let oldest = self.rank(&self.numbers[place]).unwrap_or_else(|rank| rank);
+            if oldest < rank {
+                rank -= 1;
+                self.ranking.0.copy_within(oldest + 1..rank + 1, oldest);
+                end = rank;
+            } else {
+                end = oldest;
+            }
+        }
+        self.ranking.0.copy_within(rank..end, rank + 1);
+        self.ranking.0[rank] = self.next;
         self.numbers[place] = *number;
         self.askers[place] = asker;
         self.next = (self.next + 1) % MEMORY as u16;
