@@ -144,7 +144,8 @@ impl Call {
         attempt(self, call, still)
     }
 
-    /// Drops payload bytes of a message and sets its length to what is left; takes the shortest output area that is long enough.
+    /// Drops what is behind a message, then bytes of its payload, and sets its length to what is left; takes the shortest output area that is
+    /// long enough.
     fn shorten_message(&mut self, still: &mut dyn FnMut(&Call) -> bool) {
         let (line, clock, own, bytes, route) = match self {
             Call::Message { line, clock, own, bytes, route, .. } if bytes.len() >= HEADER => (*line, *clock, *own, bytes.clone(), *route),
@@ -155,7 +156,8 @@ impl Call {
             let bytes = [&bytes[..19], &(payload.len() as u32).to_le_bytes(), payload].concat();
             Call::Message { line, clock, own, bytes, out, route }
         };
-        let mut payload = bytes[HEADER..].to_vec();
+        let length = u32::from_le_bytes([bytes[19], bytes[20], bytes[21], bytes[22]]) as usize;
+        let mut payload: Vec<u8> = bytes[HEADER..].iter().copied().take(length).collect();
         if still(&framed(&payload)) {
             drop_runs(&mut payload, &mut |payload| still(&framed(payload)));
             *self = framed(&payload);

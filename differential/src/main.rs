@@ -24,14 +24,22 @@ use proved::Proved;
 use run::{run, Count, Counts, Runner};
 use second::Reference;
 use std::process::ExitCode;
-use std::time::Instant;
+use std::time::{Duration, Instant};
 use std::{env, fs, panic};
+
+/// How often a run says on standard error how far it is.
+const PROGRESS: Duration = Duration::from_secs(5);
 
 /// Makes cases and runs them until so many calls are done; the case of the first disagreement if there is one.
 fn compare(calls: u64, seed: u64, counts: &mut Counts) -> Option<Case> {
+    let mut told = Instant::now();
     for at in 0.. {
         if counts.all.calls >= calls {
             break;
+        }
+        if told.elapsed() >= PROGRESS {
+            eprintln!("differential: {} of {calls} calls", counts.all.calls);
+            told = Instant::now();
         }
         let mut maker = Maker::of_case(seed, at);
         let mut case = Case { start: maker.start(), calls: Vec::new() };

@@ -2,9 +2,22 @@
 //!
 //! It is written from the project's statement of the core (document 01) and its sources: document 002 for messages, 001 for route tables
 //! and their hash, 004 for the stored pongs. It is there to be compared with the proved crates of `crates/`: both print the table of
-//! `docs/VECTORS.md` and the text of a session file, and the two must be equal. It shares nothing with those crates, neither code nor
-//! definitions nor tests, so that a fault in one of the two shows. It also is the bar that the proved crates are timed against, so it
-//! allocates nothing while a message is handled.
+//! `docs/VECTORS.md` and the text of a session file, and both are called with the same random lists of calls (`differential/`); all must be
+//! equal. It also is the bar that the proved crates are timed against, so it allocates nothing while a message is handled.
+//!
+//! It shares neither code nor definitions nor tests with those crates, so that a fault in one of the two shows. Where there is more than one way
+//! it goes another than they do:
+//!
+//! - A number that is remembered twice: the kept numbers have a ranking that must rise, and a number is looked up in it by halving. There a
+//!   filter of words is filled in passing, and the ring is gone through where it does not decide.
+//! - Askers: those that are known are counted. There each is held against every closed line.
+//! - PATCH: added at once, with a note of the least and the greatest sum, and undone if one is outside. There every number is tried, in blocks at
+//!   4 bits, before any is added.
+//! - Hash: four bytes of a keyword at a time. There it goes byte by byte. A handshake field: one pass over the group. There it takes three.
+//!
+//! Both go the same way, the plain one, in this: the kept places of a ring are taken as two straight stretches; a query's keywords are cut and
+//! hashed once for all lines; a place is the top bits of the hash, moved down; a table's state has the same seven fields; and every update is
+//! tested in the order 14, 15, 16.
 //!
 //! No promise of this crate is proved. It has unit tests for document 01's own examples and for errors that are easily made.
 //!

@@ -131,12 +131,12 @@ impl Table {
     /// Whether the table withholds a query with this text that would be sent with this TTL: it is settled, and the entry of some keyword
     /// is Infinity or more than the TTL.
     pub fn withholds(&self, part: &[u8], ttl: u8, text: &[u8]) -> bool {
-        self.mark == SETTLED && self.length != 0 && keywords(text).any(|keyword| self.far(part, ttl, hash::product(keyword.bytes)))
+        self.mark == SETTLED && self.length != 0 && keywords(text).any(|keyword| self.stops(part, ttl, hash::product(keyword.bytes)))
     }
 
-    /// Whether the entry for a keyword's product is Infinity or more than the TTL. The table is not empty.
+    /// Whether a keyword with this product is stopped: its entry is Infinity or more than the TTL. The table is not empty.
     #[inline]
-    pub fn far(&self, part: &[u8], ttl: u8, product: u32) -> bool {
+    pub fn stops(&self, part: &[u8], ttl: u8, product: u32) -> bool {
         let entry = part[hash::top(product, 31 - self.length.leading_zeros()) as usize];
         entry == self.infinity || entry > ttl
     }
@@ -247,6 +247,56 @@ mod tests {
         assert_eq!([0x09, 0x78, 0x8F].map(numbers), [[0, -7], [7, -8], [-8, -1]]);
         let (_, part, answers) = after(&[&[0, 4, 0, 0, 0, 127], &[1, 1, 1, 0, 8, 0x82, 0xFF, 0, 0xFF]]);
         assert_eq!((part, answers), ([1, 126, 127, 126, 7, 7, 7, 7], vec![0, 0]));
+    }
+
+    /// Every number on every entry, at 4 and at 8 bits: the sum if it is within 1..Infinity, else 16 and every entry as it was.
+    #[test]
+    fn every_number_on_every_entry() {
+        for (bits, numbers) in [(4, -8..=7i16), (8, -128..=127)] {
+            for infinity in [2, 8, 127] {
+                for (entry, number) in (0..=255u8).flat_map(|entry| numbers.clone().map(move |number| (entry, number))) {
+                    for place in 0..4 {
+                        let mut part = [1; 4];
+                        part[place] = entry;
+                        let mut data = [0; 4];
+                        data[place] = number as u8;
+                        let mut payload = vec![1, 1, 1, 0, bits];
+                        match bits {
+                            4 => payload.extend(data.chunks(2).map(|two| two[0] << 4 | (two[1] & 15))),
+                            _ => payload.extend(data),
+                        }
+                        let (mut table, mut patched) = (waiting(4, infinity), part);
+                        let sum = i16::from(entry) + number;
+                        let answer = table.update(&mut patched, 1, 0, &payload);
+                        if (1..=i16::from(infinity)).contains(&sum) {
+                            part[place] = sum as u8;
+                            assert_eq!((answer, patched), (0, part), "{number} on {entry}");
+                        } else {
+                            assert_eq!((answer, patched), (16, part), "{number} on {entry}");
+                        }
+                    }
+                }
+            }
+        }
+    }
+
+    /// A long PATCH that leads outside at its first, a middle or its last number leaves every entry.
+    #[test]
+    fn a_long_patch_is_undone() {
+        for bits in [4u8, 8] {
+            for bad in [0, 1, 500, 1022, 1023] {
+                let entries: Vec<u8> = (0..1024).map(|entry| 2 + (entry * 37 % 90) as u8).collect();
+                let mut data = vec![if bits == 4 { 0x1F } else { 0xFF }; 1024 * usize::from(bits) / 8];
+                let mut part = entries.clone();
+                part[bad] = if bad % 2 == 0 { 100 } else { 1 };
+                data[bad * usize::from(bits) / 8] = if bits == 4 { 0x1F } else if bad % 2 == 0 { 1 } else { 0xFF };
+                let before = part.clone();
+                let mut table = waiting(1024, 100);
+                let payload = [&[1, 1, 1, 0, bits][..], &data].concat();
+                assert_eq!((table.update(&mut part, 1, 0, &payload), table.mark), (16, BROKEN), "{bits} bits, entry {bad}");
+                assert_eq!(part, before);
+            }
+        }
     }
 
     /// C61: TTL and Hops of an update.

@@ -6,7 +6,9 @@ use crate::random::Random;
 use lunozhar::raw::Pair;
 use lunozhar_reference::handshake;
 
-const NAMES: [&[u8]; 9] = [b"X-Try", b"x-try", b"X-TRY", b"A", b"a", b"User-Agent", b"Pong-Caching", b"\xC4b", b"B"];
+/// Among them names that only a letter's case makes unlike, and names that it does not: `[` and `{`, and letters that are no ASCII.
+const NAMES: [&[u8]; 12] =
+    [b"X-Try", b"x-try", b"X-TRY", b"A", b"a", b"User-Agent", b"Pong-Caching", b"\xC4b", b"\xE4b", b"[b", b"{b", b"B"];
 
 /// One of the handshake's calls.
 pub fn call(random: &mut Random) -> Call {
@@ -71,7 +73,7 @@ fn first_line(random: &mut Random) -> Vec<u8> {
         return [b"GNUTELLA CONNECT/", &version[..]].concat();
     }
     let code = if random.one_in(5) { digits(random, 4) } else { random.pick(&[b"200", b"503"]).to_vec() };
-    let text: &[u8] = random.pick(&[b"", b" ", b" OK", b" Busy now", b"x"]);
+    let text: &[u8] = random.pick(&[b"", b" ", b" OK", b" Busy now", b"x", b"\tOK"]);
     [b"GNUTELLA/", &version[..], b" ", &code, text].concat()
 }
 
@@ -138,7 +140,7 @@ fn field(random: &mut Random, bytes: &mut Vec<u8>) {
     let odd: &[u8] = random.pick(&[b"", b"A b", b"A\tb"]);
     let name = if random.one_in(60) { odd } else { random.pick(&NAMES) };
     let pairs = name.eq_ignore_ascii_case(b"X-Try");
-    let blanks: &[u8] = random.pick(&[b"", b" ", b" ", b"\t ", b"   "]);
+    let blanks: &[u8] = random.pick(&[b"", b" ", b" ", b"\t ", b"   ", b"\x0B"]);
     bytes.extend([name, b":", blanks, &value(random, pairs)].concat());
     if random.one_in(5) {
         let more: &[u8] = random.pick(&[b"\r\n ", b"\r\n\t \t", b",\r\n "]);

@@ -1,9 +1,9 @@
 //! Random messages and own queries.
 
-use super::start::{lengths, number, place_of};
-use super::Maker;
+use super::start::{lengths, near, number, number_at};
+use super::{Maker, HALF, NO_LINES};
 use crate::call::{Call, HEADER};
-use crate::convert::number_of;
+use crate::field::Area;
 use lunozhar::raw::{Station, Table};
 
 const PING: u8 = 0x00;
@@ -45,16 +45,38 @@ impl Maker {
             self.spoil(&mut bytes);
         }
         let clock = if framed.kind == PING && !self.random.one_in(3) { self.ping_clock(station, at) } else { self.tick() };
-        Call::Message { line, clock, own: self.own(), bytes, out: self.output(), route: self.lent_route(route) }
+        let mut made = Call::Message { line, clock, own: self.own(), bytes, out: self.output(), route: self.lent_route(route) };
+        if framed.kind == PING && framed.ttl == 1 && framed.hops <= 1 && self.random.one_in(2) {
+            self.next = Some(after_probe(&made));
+        }
+        if self.random.one_in(80) {
+            self.refuse_twice(&mut made);
+        }
+        made
     }
 
-    /// A clock around the time when the next ping of a line is taken, or when a stored pong gets too old.
+    /// A clock around the time when the next ping of a line is taken, or when a stored pong gets too old; also half of the round later.
     fn ping_clock(&mut self, station: &Station, line: usize) -> u32 {
+        let round = if self.random.one_in(4) { HALF } else { 0 };
         if station.lines[line].pinged && self.random.one_in(2) {
-            return station.lines[line].pingtime.wrapping_add(self.random.pick(&[0, 1, 998, 999, 1_000, 1_001]));
+            let step = self.random.pick(&[0, 1, 998, 999, 1_000, 1_001, u32::MAX]);
+            return station.lines[line].pingtime.wrapping_add(round).wrapping_add(step);
         }
         let pong = station.lines[self.random.below(8)].pongs[self.random.below(10)];
-        pong.clock.wrapping_add(self.random.pick(&[0, 14_998, 14_999, 15_000, 15_001]))
+        let step = self.random.pick(&[0, 14_998, 14_999, 15_000, 15_001, u32::MAX]);
+        pong.clock.wrapping_add(round).wrapping_add(step)
+    }
+
+    /// Makes a call that has two reasons to be refused: an area that is too short and a line that no station has.
+    fn refuse_twice(&mut self, call: &mut Call) {
+        if let Call::Message { line, out, route, .. } = call {
+            *line = self.random.pick(&NO_LINES);
+            if self.random.one_in(2) {
+                out.length = 4118;
+            } else {
+                *route = Some(Area { length: 31, seed: 1, top: 8 });
+            }
+        }
     }
 
     /// Cuts a message, lengthens it, or changes its length field.
@@ -87,14 +109,18 @@ impl Maker {
         }
     }
 
-    /// A number that is remembered, or stands in a place that is not kept.
-    fn known(&mut self, station: &Station) -> [u8; 16] {
+    /// A number: of sixteen, so many are remembered or stand in a place that is not kept, and two are near to such a number.
+    fn number(&mut self, station: &Station, known: usize) -> [u8; 16] {
         let (kept, any) = (self.random.below(station.count.clamp(1, 512)), self.random.below(512));
-        let place = place_of(station, if self.random.one_in(8) { any } else { kept });
-        number_of(station.lo[place], station.hi[place])
+        let there = number_at(station, if self.random.one_in(8) { any } else { kept });
+        match self.random.below(16) {
+            turn if turn < known => there,
+            turn if turn < known + 2 => near(&mut self.random, there),
+            _ => number(&mut self.random),
+        }
     }
 
-    /// A text of keywords, also of any bytes.
+    /// A text of keywords, also of any bytes. What is near to a space may stand in its place.
     fn text(&mut self) -> Vec<u8> {
         if self.random.one_in(60) {
             let length = self.random.pick(&[500, 4_000, 4_092, 4_093]);
@@ -104,6 +130,9 @@ impl Maker {
         for _ in 0..self.random.pick(&[0, 1, 1, 1, 2, 2, 3]) {
             text.extend(self.keyword().iter().take(9));
             text.extend(vec![b' '; self.random.pick(&[0, 1, 1, 2])]);
+            if self.random.one_in(8) {
+                text.push(self.random.pick(b"\t\t\x0B\x1F\xA0\r"));
+            }
         }
         if self.random.one_in(6) {
             text.insert(0, b' ');
@@ -112,7 +141,7 @@ impl Maker {
     }
 
     fn query(&mut self, station: &Station) -> Framed {
-        let number = if self.random.one_in(5) { self.known(station) } else { number(&mut self.random) };
+        let number = self.number(station, 3);
         let mut payload = self.random.bytes(2);
         payload.extend(self.text().iter().filter(|&&byte| byte != 0));
         payload.truncate(PAYLOAD - 1);
@@ -136,7 +165,7 @@ impl Maker {
     }
 
     fn hit(&mut self, station: &Station) -> Framed {
-        let number = if self.random.one_in(8) { number(&mut self.random) } else { self.known(station) };
+        let number = self.number(station, 12);
         let length = self.random.pick(&[27, 27, 27, 28, 40, 300, 26, 0, PAYLOAD]);
         let (ttl, hops) = (self.random.pick(&[0, 1, 2, 2, 3, 7, 255]), self.random.pick(&[0, 1, 7, 254, 255, 255]));
         Framed { number, kind: HIT, ttl, hops, payload: self.random.bytes(length) }
@@ -172,14 +201,17 @@ impl Maker {
             self.patch(&table, part)
         };
         let (mut ttl, mut hops) = (1, 0);
-        match self.random.below(24) {
-            0 => (ttl, hops) = (self.random.pick(&[0, 1, 2, 255]), self.random.pick(&[0, 1, 255])),
+        match self.random.below(26) {
+            0 => (ttl, hops) = self.random.pick(&[(0, 0), (2, 0), (255, 0), (1, 1), (1, 1), (1, 255), (2, 1)]),
             1 => payload.truncate(self.random.pick(&[0, 1, 2, 4, 5, 6])),
             2 => payload.push(self.random.byte()),
             3 | 9 => {
                 let at = self.random.below(payload.len().min(7));
                 payload[at] = payload[at].wrapping_add(self.random.pick(&[1, 2, 4, 255]));
             }
+            // The size or the bits are other than those of the run's first message.
+            10 if payload.len() > 5 => payload[2] = payload[2].wrapping_add(1),
+            11 if payload.len() > 5 => payload[4] ^= 4 ^ 8,
             4..=8 if payload.len() > 5 => {
                 let at = 5 + self.random.below(payload.len() - 5);
                 payload[at] = self.random.byte();
@@ -195,7 +227,7 @@ impl Maker {
         let mut length = if lengths.is_empty() { 4 } else { self.random.pick(lengths) };
         let mut infinity = self.random.pick(&[2, 7, 8, 8, 8, 127]);
         if self.random.one_in(10) {
-            length = self.random.pick(&[0, 1, 2, 3, 5, 6, length + 1, 2 * length, 65_536, 131_072, 0x0100_0004, 0x8000_0000]);
+            length = self.random.pick(&[0, 1, 2, 2, 2, 3, 5, 6, length + 1, 2 * length, 65_536, 131_072, 0x0100_0004, 0x8000_0000]);
         }
         if self.random.one_in(10) {
             infinity = self.random.pick(&[0, 1, 2, 127, 128, 255]);
@@ -244,7 +276,7 @@ impl Maker {
 
     /// An own query.
     pub(super) fn ask(&mut self, station: &Station, route: &[u8]) -> Call {
-        let number = if self.random.one_in(5) { self.known(station) } else { number(&mut self.random) };
+        let number = self.number(station, 3);
         let mut text: Vec<u8> = self.text().into_iter().filter(|&byte| byte != 0).collect();
         match self.random.below(16) {
             0 => text.insert(self.random.below(text.len() + 1), 0),
@@ -257,4 +289,15 @@ impl Maker {
         }
         Call::Ask { number, text, out: self.output(), route: self.lent_route(route) }
     }
+}
+
+/// A ping that comes by the same line at the same time as a ping that asked for this station alone.
+fn after_probe(probe: &Call) -> Call {
+    let mut call = probe.clone();
+    if let Call::Message { bytes, .. } = &mut call {
+        bytes.truncate(HEADER);
+        bytes.resize(HEADER, 0);
+        bytes[16..].copy_from_slice(&[PING, 7, 0, 0, 0, 0, 0]);
+    }
+    call
 }

@@ -11,6 +11,9 @@ use crate::field::Area;
 use crate::random::Random;
 use lunozhar::raw::{Own, Station};
 
+/// Half of the clock's round.
+const HALF: u32 = 0x8000_0000;
+
 /// Line numbers that no station has.
 const NO_LINES: [u32; 8] = [8, 9, 10, 15, 16, 255, 0x8000_0000, u32::MAX];
 
@@ -19,16 +22,18 @@ pub struct Maker {
     clock: u32,
     /// Whether the start is damaged; then few calls will do.
     damaged: bool,
+    /// A call that is to follow at once.
+    next: Option<Call>,
 }
 
 impl Maker {
     /// The maker of one case.
     pub fn of_case(seed: u64, case: u64) -> Maker {
         let mut random = Random::of_case(seed, case);
-        let late = u32::MAX - random.below(20_000) as u32;
+        let before = 1 + random.below(20_000) as u32;
         let clock = random.number() as u32;
-        let clock = random.pick(&[0, 1_000_000, late, clock]);
-        Maker { clock, damaged: random.one_in(2), random }
+        let clock = random.pick(&[0, 1_000_000, 0u32.wrapping_sub(before), HALF - before, clock]);
+        Maker { clock, damaged: random.one_in(2), next: None, random }
     }
 
     /// How many calls the case has.
@@ -51,6 +56,9 @@ impl Maker {
 
     /// A call for this state and route area.
     pub fn call(&mut self, station: &Station, route: &[u8]) -> Call {
+        if let Some(call) = self.next.take() {
+            return call;
+        }
         if self.damaged && self.random.one_in(2) {
             return Call::InOrder {};
         }
@@ -103,13 +111,14 @@ impl Maker {
         }
     }
 
-    /// The next clock: mostly a little later, also back, round, or anywhere.
+    /// The next clock: mostly a little later, also back, by half of the round, or anywhere.
     fn tick(&mut self) -> u32 {
-        let steps = [0, 0, 0, 1, 300, 700, 998, 999, 1_000, 1_001, 5_000, 14_999, 15_000];
+        let step = self.random.pick(&[0, 0, 0, 1, 300, 700, 998, 999, 1_000, 1_001, 5_000, 14_999, 15_000]);
         self.clock = match self.random.below(40) {
             0 => self.random.number() as u32,
-            1 => self.clock.wrapping_sub(self.random.pick(&steps)),
-            _ => self.clock.wrapping_add(self.random.pick(&steps)),
+            1 => self.clock.wrapping_sub(step),
+            2 => self.clock.wrapping_add(HALF + step),
+            _ => self.clock.wrapping_add(step),
         };
         self.clock
     }
@@ -154,23 +163,81 @@ mod tests {
     use crate::run::{Counts, Runner};
     use crate::second::Reference;
 
-    fn counted(cases: u64) -> Counts {
+    /// Runs cases and hands each call to `each`, with the state it meets and the call before it.
+    fn counted(cases: u64, mut each: impl FnMut(&Station, Option<&Call>, &Call)) -> Counts {
         let mut counts = Counts::default();
         for case in 0..cases {
             let mut maker = Maker::of_case(2, case);
             let mut runner = Runner::<Reference, Reference>::begin(&maker.start());
+            let mut before = None;
             for _ in 0..maker.length() {
                 let call = maker.call(runner.station(), runner.route());
+                each(runner.station(), before.as_ref(), &call);
                 runner.step(&call, &mut counts).expect("one implementation agrees with itself");
+                before = Some(call);
             }
         }
         counts
     }
 
+    /// The byte in which a number differs from a kept one, if it is the only one.
+    fn near_byte(station: &Station, number: &[u8]) -> Option<usize> {
+        (0..station.count.min(512)).find_map(|age| {
+            let kept = start::number_at(station, age);
+            let mut unlike = (0..16).filter(|&byte| kept[byte] != number[byte]);
+            unlike.next().filter(|_| unlike.next().is_none())
+        })
+    }
+
+    /// What is seldom met and told of no answer, by name.
+    fn rare_things(station: &Station, before: Option<&Call>, call: &Call) -> Vec<String> {
+        let mut met = Vec::new();
+        let mut note = |is: bool, what: &str| is.then(|| met.push(what.to_string()));
+        match call {
+            Call::Open { line } => drop(note(*line > 7, "line over 7 opened")),
+            Call::Ask { number, .. } => drop(near_byte(station, number).map(|byte| note(true, &format!("own query near in byte {byte}")))),
+            Call::Message { line, clock, bytes, out, route, .. } if bytes.len() > 22 => {
+                let (kind, ttl, hops) = (bytes[16], bytes[17], bytes[18]);
+                note(*line > 7 && (out.length < 4119 || route.map_or(false, |area| area.length < 32)), "2 and 3 at once");
+                if kind >= 0x80 {
+                    let name = if kind == 0x80 { "query" } else { "hit" };
+                    near_byte(station, bytes).map(|byte| note(true, &format!("{name} near in byte {byte}")));
+                }
+                note(kind == 0x80 && bytes.iter().skip(25).any(|&byte| byte == b'\t'), "tab in a text");
+                note(kind == 0x30 && bytes[23..].starts_with(&[0, 2, 0, 0, 0]), "RESET of 2 entries");
+                note(kind == 0x30 && (ttl, hops) == (1, 1), "Hops 1 of an update");
+                let asking = station.lines.get(*line as usize).filter(|line| line.pinged && kind == 0 && ttl > 1);
+                let elapsed = asking.map_or(0, |line| clock.wrapping_sub(line.pingtime));
+                note((HALF..HALF + 1_000).contains(&elapsed), "half of the round since a ping");
+                note(elapsed > u32::MAX - 1_000, "a clock before the last ping's");
+                if let Some(Call::Message { line: other, clock: then, bytes: last, .. }) = before {
+                    let probe = last.len() > 22 && last[16..19] == [0, 1, last[18] & 1];
+                    note(probe && kind == 0 && ttl > 1 && (line, clock) == (other, then), "a ping at once after a probe");
+                    note(*then < HALF && HALF <= *clock && clock - then < 20_000, "a clock over 2^31");
+                    note(clock < then && clock.wrapping_sub(*then) < 20_000, "a clock over 2^32");
+                }
+            }
+            _ => {}
+        }
+        met
+    }
+
+    /// A generator that never meets what faults would be seen by is a poor one too.
+    #[test]
+    fn rare_things_are_met() {
+        let mut times = std::collections::BTreeMap::new();
+        let calls = counted(2_000, |station, before, call| {
+            rare_things(station, before, call).into_iter().for_each(|what| *times.entry(what).or_insert(0) += 1);
+        });
+        // Three kinds of calls with numbers that are near in any of sixteen bytes, and ten things besides.
+        assert_eq!(times.len(), 3 * 16 + 10, "{times:?}");
+        assert!(times.values().all(|&times| times >= 3), "{times:?} in {} calls", calls.all.calls);
+    }
+
     /// A generator that never meets an answer is a poor one.
     #[test]
     fn every_answer_is_met() {
-        let Counts { all, kinds } = counted(1_000);
+        let Counts { all, kinds } = counted(1_000, |_, _, _| ());
         for (answer, times) in all.answers.iter().enumerate() {
             assert!(times * 20_000 > 100 * all.calls, "answer {answer}: {times} of {}", all.calls);
         }

@@ -1,6 +1,8 @@
 //! Random states, in order and not, and their route areas.
 
+use super::HALF;
 use crate::case::{Start, ZERO};
+use crate::convert::number_of;
 use crate::field::Area;
 use crate::random::Random;
 use lunozhar::raw::{Line, Pong, Station, Table, Tally};
@@ -75,9 +77,9 @@ fn some_line(random: &mut Random, room: usize, clock: u32) -> Line {
         let kept = (pongnext + 9 - place) % 10 < pongcount;
         random.fill(&mut pong.bytes);
         pong.hops = if kept { random.pick(&[0, 1, 3, 6, 7]) } else { random.byte() };
-        pong.clock = clock.wrapping_sub(random.pick(&[0, 1, 1_000, 13_000, 14_999, 15_000, 15_001, u32::MAX]));
+        pong.clock = clock.wrapping_sub(random.pick(&[0, 1, 1_000, 13_000, 14_999, 15_000, 15_001, HALF + 14_999, u32::MAX]));
     }
-    let pingtime = clock.wrapping_sub(random.pick(&[0, 1, 500, 999, 1_000, 1_001, 20_000, u32::MAX]));
+    let pingtime = clock.wrapping_sub(random.pick(&[0, 1, 500, 999, 1_000, 1_001, 20_000, HALF, HALF + 999, u32::MAX]));
     Line { live, pinged: live && random.one_in(2), pingtime, pongcount, pongnext, pongs, table: some_table(random, room, live) }
 }
 
@@ -120,6 +122,13 @@ pub fn number(random: &mut Random) -> [u8; 16] {
     number.to_le_bytes()
 }
 
+/// The number with one of its bytes changed, in one bit or anyhow.
+pub fn near(random: &mut Random, mut number: [u8; 16]) -> [u8; 16] {
+    let any = 1 + random.below(255) as u8;
+    number[random.below(16)] ^= random.pick(&[1, 0x10, 0x80, any]);
+    number
+}
+
 pub fn put_number(station: &mut Station, place: usize, number: [u8; 16]) {
     let number = u128::from_le_bytes(number);
     station.lo[place] = number as u64;
@@ -131,7 +140,14 @@ pub fn place_of(station: &Station, age: usize) -> usize {
     (station.next + 2 * 512 - 1 - age) % 512
 }
 
-/// The ring of remembered queries, turned anywhere. Kept places have numbers of their own, the others copies of these or anything.
+/// The number at the place of an age.
+pub fn number_at(station: &Station, age: usize) -> [u8; 16] {
+    let place = place_of(station, age);
+    number_of(station.lo[place], station.hi[place])
+}
+
+/// The ring of remembered queries, turned anywhere. Kept places have numbers of their own, some near to another's; the others have copies of
+/// these or anything.
 fn memory(random: &mut Random, station: &mut Station) {
     let some = random.below(513);
     station.count = random.pick(&[0, 1, 2, 5, 40, some, 511, 512]);
@@ -142,6 +158,10 @@ fn memory(random: &mut Random, station: &mut Station) {
         let place = place_of(station, age);
         let mut made = number(random);
         if age < station.count {
+            if age > 0 && random.one_in(6) {
+                let other = number_at(station, random.below(age));
+                made = near(random, other);
+            }
             while !seen.insert(made) {
                 random.fill(&mut made);
             }
@@ -153,8 +173,7 @@ fn memory(random: &mut Random, station: &mut Station) {
             };
         } else {
             if station.count > 0 && random.one_in(4) {
-                let kept = place_of(station, random.below(station.count));
-                made = crate::convert::number_of(station.lo[kept], station.hi[kept]);
+                made = number_at(station, random.below(station.count));
             }
             station.asker[place] = random.byte();
         }
@@ -171,8 +190,9 @@ pub fn damage(random: &mut Random, station: &mut Station) {
         0 => station.count = random.pick(&[512, 513, 600, 65_535]),
         1 => station.next = random.pick(&[511, 512, 1_000, 65_535]),
         2 | 3 => {
-            let other = place_of(station, random.below(512));
-            (station.lo[place], station.hi[place]) = (station.lo[other], station.hi[other]);
+            let other = number_at(station, random.below(512));
+            let made = if random.one_in(3) { near(random, other) } else { other };
+            put_number(station, place, made);
         }
         4 | 5 => station.asker[place] = random.pick(&[0, 3, 7, 8, 9, 10, 255, byte]),
         6 | 7 => {

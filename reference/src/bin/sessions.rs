@@ -38,6 +38,9 @@ impl Random {
     }
 }
 
+/// Half of the clock's round.
+const HALF: u32 = 0x8000_0000;
+
 /// What a file is made with: its random numbers, the clock, and the numbers of queries it has sent.
 struct Maker {
     random: Random,
@@ -53,7 +56,7 @@ impl Maker {
         for _ in 0..8 {
             random.next();
         }
-        let clock = random.pick(&[0, 1_000_000, u32::MAX - 20_000, u32::MAX - 500]);
+        let clock = random.pick(&[0, 1_000_000, HALF - 20_000, HALF - 500, u32::MAX - 20_000, u32::MAX - 500]);
         Maker { random, clock, asked: Vec::new(), runs: [(1, 1, 4, 4); 8] }
     }
 
@@ -152,7 +155,12 @@ impl Maker {
     }
 
     fn event(&mut self, kind: u8, line: u8, message: &[u8]) -> Vec<u8> {
-        self.clock = self.clock.wrapping_add(self.random.pick(&[0, 1, 300, 700, 999, 1000, 5000, 16_000]));
+        let step = self.random.pick(&[0, 1, 300, 700, 999, 1000, 5000, 14_999, 15_000, 16_000]);
+        self.clock = match self.random.below(24) {
+            0 => self.clock.wrapping_sub(step),
+            1 => self.clock.wrapping_add(HALF + step),
+            _ => self.clock.wrapping_add(step),
+        };
         session::event(kind, line, self.clock, message)
     }
 
@@ -206,45 +214,82 @@ impl Maker {
             size += event.len() + 4;
             events.push(event);
         }
-        while 8 + events.iter().map(|event| event.len() + 4).sum::<usize>() > FILE {
-            events.pop();
-        }
+        shorten(&mut events, FILE);
         events
+    }
+
+    /// Makes the file of these events so many bytes long, by a last event with bytes behind it that are not read.
+    fn fill(&mut self, events: &mut Vec<Vec<u8>>, length: usize) {
+        shorten(events, length - 10);
+        let more = self.random.bytes(length - 10 - size(events));
+        let kind = self.random.below(2) as u8;
+        events.push(self.event(kind, 3, &more));
     }
 }
 
-/// Spoils a file: cut, lengthened, an offset or a count moved, a wrong kind, or too long.
-fn spoil(random: &mut Random, bytes: &mut Vec<u8>) {
-    match random.below(6) {
+/// The length of the file of these events.
+fn size(events: &[Vec<u8>]) -> usize {
+    8 + events.iter().map(|event| event.len() + 4).sum::<usize>()
+}
+
+/// Drops events until their file has at most so many bytes.
+fn shorten(events: &mut Vec<Vec<u8>>, length: usize) {
+    while size(events) > length {
+        events.pop();
+    }
+}
+
+/// A file that is spoiled in one of ten ways.
+fn spoiled(way: u64, maker: &mut Maker, mut events: Vec<Vec<u8>>) -> Vec<u8> {
+    // An event of five bytes, and a file of one byte too many that is right otherwise.
+    match way {
         0 => {
+            let at = maker.random.below(events.len() as u64) as usize;
+            events[at].truncate(5);
+        }
+        1 => maker.fill(&mut events, FILE + 1),
+        _ => {}
+    }
+    let (mut bytes, random) = (file(&events), &mut maker.random);
+    match way {
+        0 | 1 => {}
+        2 => {
             let keep = random.below(bytes.len() as u64) as usize;
             bytes.truncate(keep);
         }
-        1 => bytes.push(0),
-        2 => {
+        3 => bytes.push(0),
+        4 => {
             let at = random.below(12.min(bytes.len() as u64)) as usize;
             bytes[at] = bytes[at].wrapping_add(1);
         }
-        3 => bytes.splice(0..4, 0x4000_0000u32.to_le_bytes()).for_each(drop),
-        4 => {
-            let first = u32::from_le_bytes([bytes[4], bytes[5], bytes[6], bytes[7]]) as usize;
-            if first < bytes.len() {
-                bytes[first] = 3;
-            }
+        5 => bytes.splice(0..4, 0x4000_0000u32.to_le_bytes()).for_each(drop),
+        6 => {
+            // A kind that there is not, of the last event.
+            let last = bytes.len() - events[events.len() - 1].len();
+            bytes[last] = 3;
         }
-        _ => bytes.resize(FILE + 1, 0),
+        7 => bytes.resize(FILE + 1, 0),
+        _ => {
+            // An offset that falls below the one before it, or below the file's first event.
+            let at = 1 + random.below(events.len() as u64 - 1) as usize;
+            let before = 8 + 4 * events.len() + events[..at - 1].iter().map(Vec::len).sum::<usize>();
+            let offset = if way == 8 { before - 1 } else { random.below(8) as usize };
+            bytes.splice(4 + 4 * at..8 + 4 * at, (offset as u32).to_le_bytes()).for_each(drop);
+        }
     }
+    bytes
 }
 
 fn make(dir: &Path, count: u64, seed: u64) -> std::io::Result<()> {
     fs::create_dir_all(dir)?;
     for i in 0..count {
         let mut maker = Maker::new(seed.wrapping_mul(1_000_003).wrapping_add(i).wrapping_add(1));
-        let events = maker.events();
-        let mut bytes = file(&events);
-        if i % 10 == 9 {
-            spoil(&mut maker.random, &mut bytes);
+        let mut events = maker.events();
+        // Of ten files one is spoiled, and one as long as a file may be, or a byte shorter.
+        if i % 10 == 4 {
+            maker.fill(&mut events, FILE - (i / 10 % 2) as usize);
         }
+        let bytes = if i % 10 == 9 { spoiled(i / 10 % 10, &mut maker, events) } else { file(&events) };
         fs::write(dir.join(format!("{i:04}")), bytes)?;
     }
     Ok(())

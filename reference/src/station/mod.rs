@@ -1,6 +1,7 @@
 //! The station: its state, opening and closing a line, an arriving message, an own query.
 //!
-//! A line is the connection to one neighbour. Every call tests first that the state is in order, in time linear in what the state keeps.
+//! A line is the connection to one neighbour. Every call tests first that the state is in order, in one pass over what the state keeps; only after
+//! its fields were written from outside are the kept numbers sorted once.
 
 mod memory;
 #[cfg(test)]
@@ -302,7 +303,7 @@ impl State {
             Ok(_) => return refused(9),
             Err(rank) => self.remember(rank, number, HERE),
         }
-        let to = self.passing(0xFF, REACH, text, route);
+        let to = self.let_through(0xFF, REACH, text, route);
         if to == 0 {
             return QUIET;
         }
@@ -376,7 +377,7 @@ impl State {
         if life < 2 {
             return Ok(taken);
         }
-        let to = self.passing(!(1 << line), life - 1, text, route);
+        let to = self.let_through(!(1 << line), life - 1, text, route);
         if to == 0 {
             return Ok(taken);
         }
@@ -416,12 +417,12 @@ impl State {
     }
 
     /// The open lines among `candidates` whose table does not withhold a query with this text, to be sent with this TTL.
-    fn passing(&self, candidates: u8, ttl: u8, text: &[u8], route: &[u8]) -> u8 {
-        let (mut passing, mut settled) = (0u8, 0u8);
+    fn let_through(&self, candidates: u8, ttl: u8, text: &[u8], route: &[u8]) -> u8 {
+        let (mut through, mut settled) = (0u8, 0u8);
         for (line, Line { open, table, .. }) in self.lines.iter().enumerate() {
             let bit = 1 << line;
             if *open && candidates & bit != 0 {
-                passing |= bit;
+                through |= bit;
                 if table.mark == table::SETTLED {
                     settled |= bit;
                 }
@@ -434,13 +435,13 @@ impl State {
             let product = hash::product(keyword.bytes);
             for (line, Line { table, .. }) in self.lines.iter().enumerate() {
                 let bit = 1 << line;
-                if settled & bit != 0 && table.far(&route[line * self.room..], ttl, product) {
+                if settled & bit != 0 && table.stops(&route[line * self.room..], ttl, product) {
                     settled &= !bit;
-                    passing &= !bit;
+                    through &= !bit;
                 }
             }
         }
-        passing
+        through
     }
 }
 

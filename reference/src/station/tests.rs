@@ -288,6 +288,167 @@ fn order() {
     check(true, &with(Table { place: 255, size: 255, bits: 8, at: 0, ..running }));
 }
 
+/// A state with everything that can be kept: eight open lines, 512 queries, the ring turned to `next`, ten pongs of each line, its ring turned
+/// too, and of the tables three settled, two waiting, two running and one broken.
+fn full(next: u16) -> State {
+    let mut state = Setting::new(8 * 16, &[0, 1, 2, 3, 4, 5, 6, 7]).state;
+    (state.count, state.next) = (512, next);
+    for (place, number) in (0..).zip(&mut state.numbers) {
+        *number = numbered(place * 7 % 512);
+    }
+    for (place, asker) in (0u16..).zip(&mut state.askers) {
+        *asker = (place % 10) as u8;
+    }
+    let table = Table { mark: SETTLED, length: 16, infinity: 8, place: 1, size: 0, bits: 0, at: 0 };
+    for (line, turn) in state.lines.iter_mut().zip(0..) {
+        (line.pinged, line.ping_clock, line.pong_count, line.pong_next) = (true, 5, 10, turn);
+        line.pongs = [Pong { data: [turn; 14], hops: 7, clock: 3 }; PONGS];
+        line.table = match turn {
+            0 | 4 => Table { mark: WAITING, ..table },
+            1 | 5 => Table { mark: RUNNING, place: 2, size: 3, bits: 4, at: 16, ..table },
+            2 => Table { mark: BROKEN, ..table },
+            _ => table,
+        };
+    }
+    state
+}
+
+/// Each clause of order, broken alone in a full state; and what stands just inside of it.
+#[test]
+fn order_of_a_full_state() {
+    let close = |state: &mut State| {
+        state.lines[6] = Line::CLOSED;
+        state.askers.iter_mut().filter(|asker| **asker == 6).for_each(|asker| *asker = GONE);
+    };
+    for next in [0, 1, 200, 511] {
+        let good = full(next);
+        let check = |expected: bool, what: &str, edit: &dyn Fn(&mut State)| {
+            let mut state = good.clone();
+            edit(&mut state);
+            assert_eq!(state.in_order(), expected, "{what}, next {next}");
+            let before = state.clone();
+            let mut called = state.clone();
+            assert_eq!(called.open(8), if expected { 3 } else { 1 }, "{what}, next {next}");
+            assert!(called == before, "{what}, next {next}");
+        };
+        check(true, "nothing", &|_| {});
+        check(false, "count 513", &|state| state.count = 513);
+        check(false, "count 65,535", &|state| state.count = 65_535);
+        check(true, "count 511", &|state| state.count = 511);
+        check(true, "count 0", &|state| state.count = 0);
+        check(false, "next 512", &|state| state.next = 512);
+        check(false, "next 65,535", &|state| state.next = 65_535);
+        for (one, two) in [(0, 511), (511, 0), (199, 200), (200, 199), (0, 1), (37, 400)] {
+            check(false, "a number twice", &|state| state.numbers[one] = state.numbers[two]);
+        }
+        check(false, "an asker over 9", &|state| state.askers[300] = 10);
+        check(false, "an asker of 255", &|state| state.askers[0] = 255);
+        check(true, "a line closed", &close);
+        for (place, mark) in [(0, 6), (511, 6), (200, 6)] {
+            check(false, "a closed line as asker", &|state| (close(state), state.askers[place] = mark).1);
+        }
+        check(false, "closed with a table", &|state| (close(state), state.lines[6].table = good.lines[3].table).1);
+        check(false, "closed with a broken table", &|state| (close(state), state.lines[6].table.mark = BROKEN).1);
+        check(false, "closed with a pong", &|state| (close(state), state.lines[6].pong_count = 1).1);
+        check(false, "closed with a ping time", &|state| (close(state), state.lines[6].pinged = true).1);
+        check(false, "eleven pongs", &|state| state.lines[7].pong_count = 11);
+        check(true, "nine pongs", &|state| state.lines[7].pong_count = 9);
+        check(false, "pong next 10", &|state| state.lines[0].pong_next = 10);
+        for place in 0..10 {
+            check(false, "a pong's Hops", &|state| state.lines[place % 8].pongs[place].hops = 8);
+        }
+        check(false, "mark 5", &|state| state.lines[2].table.mark = 5);
+        check(false, "mark 255", &|state| state.lines[2].table.mark = 255);
+        for (line, rule) in [(0, "waiting"), (1, "running"), (3, "settled")] {
+            let check = |expected: bool, what: &str, edit: &dyn Fn(&mut Table)| {
+                check(expected, &format!("{rule}: {what}"), &|state| edit(&mut state.lines[line].table));
+            };
+            check(false, "length 12", &|table| (table.length, table.at) = (12, table.at.min(12)));
+            check(false, "length 2", &|table| (table.length, table.at) = (2, table.at.min(2)));
+            check(false, "length over the room", &|table| table.length = 32);
+            check(true, "length 4", &|table| (table.length, table.at) = (4, table.at.min(4)));
+            check(false, "Infinity 1", &|table| table.infinity = 1);
+            check(true, "Infinity 2", &|table| table.infinity = 2);
+            check(true, "Infinity 127", &|table| table.infinity = 127);
+            check(false, "Infinity 128", &|table| table.infinity = 128);
+            check(line == 1, "place 3", &|table| table.place = 3);
+            check(line != 1, "place 1", &|table| table.place = 1);
+            check(false, "place 0", &|table| table.place = 0);
+            check(false, "place 4", &|table| table.place = 4);
+            check(line == 1, "entry 1", &|table| table.at = 1);
+            check(false, "entry past the table", &|table| table.at = 17);
+            check(line != 1, "bits 5", &|table| table.bits = 5);
+            check(line != 1, "size 1", &|table| table.size = 1);
+        }
+    }
+}
+
+/// All sixteen bytes of a number count: in a state that is in order, for a query, an own query and a hit.
+#[test]
+fn numbers_unlike_in_one_byte() {
+    let kept = numbered(77);
+    for place in 0..16 {
+        for change in [1, 0x80, 0xFF] {
+            let mut other = kept;
+            other[place] ^= change;
+            let carrying = |mut bytes: Vec<u8>| {
+                bytes[..16].copy_from_slice(&other);
+                bytes
+            };
+            let mut setting = Setting::new(32, &[0, 1]);
+            assert_eq!(setting.answer(0, &query(77, 2, 0, "x")), 0);
+            assert_eq!(setting.answer(1, &carrying(hit(77, 2, 0))), 10, "byte {place}");
+            assert_eq!(setting.sent(1, &hit(77, 2, 0)), (0, 1), "byte {place}");
+            let state = setting.state.clone();
+            assert_eq!(setting.answer(1, &carrying(query(77, 2, 0, "x"))), 0, "byte {place}");
+            assert_eq!(setting.sent(1, &carrying(hit(77, 2, 0))), (0, 2), "byte {place}");
+            assert_eq!(setting.sent(1, &hit(77, 2, 0)), (0, 1), "byte {place}");
+            setting.state = state;
+            assert_eq!(setting.state.own_query(&other, b"", &mut setting.out, &setting.route).answer, 0, "byte {place}");
+            assert_eq!(setting.state.own_query(&other, b"", &mut setting.out, &setting.route).answer, 9, "byte {place}");
+            for next in [0, 1, 300] {
+                let mut state = full(next);
+                let (one, two) = (usize::from(next), (usize::from(next) + 511) % 512);
+                state.numbers[one] = numbered(1000);
+                state.numbers[two] = numbered(1000);
+                assert!(!state.in_order());
+                state.numbers[two][place] ^= change;
+                assert!(state.in_order(), "byte {place}");
+            }
+        }
+    }
+}
+
+/// The ranking of the kept numbers stays right while queries come and go, and a state whose fields were written is ranked anew.
+#[test]
+fn rankings() {
+    let mut setting = Setting::new(32, &[0, 1]);
+    let mut numbers: Vec<u32> = Vec::new();
+    for step in 0..1_700u32 {
+        let number = step.wrapping_mul(0x9E37_79B9);
+        let there = numbers.iter().rev().take(512).any(|&other| other == number);
+        assert_eq!(setting.state.own_query(&numbered(number), b"", &mut setting.out, &setting.route).answer, if there { 9 } else { 0 });
+        numbers.push(number);
+        let kept: Vec<u32> = numbers.iter().rev().take(512).copied().collect();
+        let known = [kept[0], kept[kept.len() / 2], kept[kept.len() - 1]];
+        for number in known {
+            let handled = setting.state.message(1, 0, &OWN, &hit(number, 2, 0), &mut setting.out, &mut setting.route);
+            assert!(handled.delivered, "{number}");
+        }
+        if let Some(&gone) = numbers.iter().rev().nth(512) {
+            assert_eq!(setting.answer(1, &hit(gone, 2, 0)), 10);
+        }
+        if step % 100 == 99 {
+            // The same queries, the ring turned otherwise.
+            let state = &mut setting.state;
+            state.numbers.rotate_left(7);
+            state.askers.rotate_left(7);
+            state.next = (state.next + 505) % 512;
+            assert!(state.in_order());
+        }
+    }
+}
+
 /// C29, C33: 2 before 3; the room is the route area's length divided by eight.
 #[test]
 fn areas() {
