@@ -289,7 +289,9 @@ mod tests {
                 let mut data = vec![if bits == 4 { 0x1F } else { 0xFF }; 1024 * usize::from(bits) / 8];
                 let mut part = entries.clone();
                 part[bad] = if bad % 2 == 0 { 100 } else { 1 };
-                data[bad * usize::from(bits) / 8] = if bits == 4 { 0x1F } else if bad % 2 == 0 { 1 } else { 0xFF };
+                if bits == 8 && bad % 2 == 0 {
+                    data[bad] = 1;
+                }
                 let before = part.clone();
                 let mut table = waiting(1024, 100);
                 let payload = [&[1, 1, 1, 0, bits][..], &data].concat();

@@ -198,6 +198,15 @@ impl Maker {
         self.event(2, line, &message)
     }
 
+    /// Two pings of a line, the second around a second later, around half of the clock's round, or before the first.
+    fn two_pings(&mut self) -> [Vec<u8>; 2] {
+        let line = self.random.below(2) as u8;
+        let first = self.event(2, line, &message(&[3; 16], 0x00, 7, 0, &[]));
+        let later = self.random.pick(&[0, 999, 1000, HALF, HALF, HALF + 999, HALF + 1000, u32::MAX]);
+        self.clock = self.clock.wrapping_add(later);
+        [first, session::event(2, line, self.clock, &message(&[4; 16], 0x00, 7, 0, &[]))]
+    }
+
     fn events(&mut self) -> Vec<Vec<u8>> {
         let mut events = vec![self.event(0, 0, &[]), self.event(0, 1, &[])];
         let mut size = 8;
@@ -213,6 +222,11 @@ impl Maker {
             };
             size += event.len() + 4;
             events.push(event);
+            if self.random.one_in(20) {
+                let two = self.two_pings();
+                size += two.iter().map(|event| event.len() + 4).sum::<usize>();
+                events.extend(two);
+            }
         }
         shorten(&mut events, FILE);
         events
