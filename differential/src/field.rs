@@ -161,7 +161,8 @@ impl<const N: usize> Field for [u8; N] {
     }
 }
 
-/// A lent area before a call: so many bytes, all zero for seed 0 and random for any other; within 1 to `top` where `top` is not 0.
+/// A lent area before a call: so many bytes, all zero for seed 0 and random for any other; within 1 to `top` where `top` is not 0, but for a few of
+/// some seeds' that are far outside.
 #[derive(Clone, Copy, Debug, PartialEq, Eq)]
 pub struct Area {
     pub length: usize,
@@ -176,7 +177,10 @@ impl Area {
         if self.seed != 0 {
             Random::new(self.seed).fill(bytes);
             if self.top != 0 {
-                bytes.iter_mut().for_each(|byte| *byte = *byte % self.top + 1);
+                let stray = [0, self.top + 1, 128, 135, 136, 250, 254, 255];
+                let outside = |byte: u8| self.seed % 8 == 3 && byte >= 0xF8;
+                let entry = |byte: u8| if outside(byte) { stray[usize::from(byte & 7)] } else { byte % self.top + 1 };
+                bytes.iter_mut().for_each(|byte| *byte = entry(*byte));
             }
         }
     }

@@ -213,8 +213,8 @@ impl Maker {
             10 if payload.len() > 5 => payload[2] = payload[2].wrapping_add(1),
             11 if payload.len() > 5 => payload[4] ^= 4 ^ 8,
             4..=8 if payload.len() > 5 => {
-                let at = 5 + self.random.below(payload.len() - 5);
-                payload[at] = self.random.byte();
+                let (at, any) = (5 + self.random.below(payload.len() - 5), self.random.byte());
+                payload[at] = self.random.pick(&[0x7F, 0x80, 0x81, 0x88, 0x77, any, any, any]);
             }
             _ => {}
         }
@@ -260,7 +260,7 @@ impl Maker {
         payload
     }
 
-    /// A number that leads an entry to 1..Infinity; where none does, any.
+    /// A number that leads an entry to 1..Infinity; where none does, the one that leads nearest, or the least or the greatest.
     fn step(&mut self, entry: u8, infinity: u8, bits: u8) -> u8 {
         let goal = 1 + self.random.below(usize::from(infinity.max(1))) as u8;
         let step = i16::from(goal) - i16::from(entry);
@@ -270,7 +270,7 @@ impl Maker {
         } else if (1..=infinity).contains(&entry) {
             0
         } else {
-            step.clamp(least, most) as u8
+            self.random.pick(&[step.clamp(least, most), least, most]) as u8
         }
     }
 
