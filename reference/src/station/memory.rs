@@ -38,6 +38,7 @@ fn value(number: &[u8; 16]) -> u128 {
 }
 
 /// How many askers are marks of this range. They are summed up in bytes, few enough at a time for a byte.
+#[inline(never)]
 fn count_within(askers: &[u8], marks: Range<u8>) -> usize {
     let count = |some: &[u8]| some.iter().fold(0, |count: u8, asker| count + u8::from(marks.contains(asker)));
     askers.chunks(128).map(|some| usize::from(count(some))).sum()
@@ -94,7 +95,7 @@ impl State {
     }
 
     /// Whether a ranking has every kept place, and no number twice. The ring is in order.
-    fn stands(&self, ranking: &Ranking) -> bool {
+    pub(super) fn stands(&self, ranking: &Ranking) -> bool {
         let (places, newest) = (self.places(ranking), self.next.wrapping_sub(1));
         let all_kept = places.iter().fold(true, |all, &place| all & (self.count > newest.wrapping_sub(place) % MEMORY as u16));
         all_kept && (self.halves_rise(places) || places.windows(2).all(|two| value(self.number(two[0])) < value(self.number(two[1]))))
@@ -111,15 +112,39 @@ impl State {
         rising
     }
 
-    /// A new ranking, by sorting.
+    /// A new ranking: the kept places as runs of one, then runs merged by twos until there is one.
     #[cold]
     #[inline(never)]
     fn ranked(&self) -> Ranking {
-        let mut ranking = Ranking::EMPTY;
-        let kept = kept(usize::from(self.count), usize::from(self.next), MEMORY).into_iter().flatten();
-        ranking.0.iter_mut().zip(kept).for_each(|(entry, place)| *entry = place as u16);
-        ranking.0[..usize::from(self.count)].sort_unstable_by_key(|&place| value(self.number(place)));
+        let (mut ranking, mut merged) = (Ranking::EMPTY, Ranking::EMPTY);
+        let count = usize::from(self.count);
+        for (entry, place) in ranking.0.iter_mut().zip(kept(count, usize::from(self.next), MEMORY).into_iter().flatten()) {
+            *entry = place as u16;
+        }
+        let mut run = 1;
+        while run < count {
+            for start in (0..count).step_by(2 * run) {
+                let (middle, end) = (count.min(start + run), count.min(start + 2 * run));
+                let (first, second) = (&ranking.0[start..middle], &ranking.0[middle..end]);
+                self.merge(first, second, &mut merged.0[start..end]);
+            }
+            std::mem::swap(&mut ranking, &mut merged);
+            run *= 2;
+        }
         ranking
+    }
+
+    /// Merges two runs of places with rising numbers.
+    fn merge<'a>(&self, mut first: &'a [u16], mut second: &'a [u16], merged: &mut [u16]) {
+        for entry in merged {
+            let from_second = match (first.first(), second.first()) {
+                (Some(&one), Some(&two)) => value(self.number(two)) < value(self.number(one)),
+                (one, _) => one.is_none(),
+            };
+            let run = if from_second { &mut second } else { &mut first };
+            *entry = run[0];
+            *run = &run[1..];
+        }
     }
 
     /// The rank of a number, or the one that it would have.

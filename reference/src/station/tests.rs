@@ -428,6 +428,7 @@ fn rankings() {
         let number = step.wrapping_mul(0x9E37_79B9);
         let there = numbers.iter().rev().take(512).any(|&other| other == number);
         assert_eq!(setting.state.own_query(&numbered(number), b"", &mut setting.out, &setting.route).answer, if there { 9 } else { 0 });
+        assert!(setting.state.stands(&setting.state.ranking), "step {step}");
         numbers.push(number);
         let kept: Vec<u32> = numbers.iter().rev().take(512).copied().collect();
         let known = [kept[0], kept[kept.len() / 2], kept[kept.len() - 1]];
@@ -444,7 +445,7 @@ fn rankings() {
             state.numbers.rotate_left(7);
             state.askers.rotate_left(7);
             state.next = (state.next + 505) % 512;
-            assert!(state.in_order());
+            assert!(state.in_order() && !state.stands(&state.ranking));
         }
     }
 }
