@@ -1,24 +1,18 @@
-// The vectors over the proved crates, as a table: docs/VECTORS.md says what each row is.
-mod bytes;
-mod cases;
-mod fields;
-mod groups;
-mod places;
+// The vectors over the proved crates: a row is printed for each line of standard input, as docs/VECTORS.md says.
+mod decode;
+mod events;
+mod handshakes;
+mod keyword;
 mod print;
+mod rows;
 mod sessions;
-mod texts;
-mod tries;
+mod sets;
 mod updates;
+mod words;
 mod writing;
 
 fn main() {
-    places::all();
-    texts::all();
-    updates::all();
-    writing::all();
-    groups::all();
-    fields::all();
-    tries::all();
-    cases::all();
-    sessions::all();
+    let mut input = [0u8; 262144];
+    let size = io::read_full(0, &mut input);
+    rows::all(&input[..size]);
 }

@@ -1,6 +1,7 @@
 // Words, numbers and lists of a row, on standard output, each with a space before it.
+use crate::words;
 
-pub fn word(text: &[u8]) {
+pub(crate) fn word(text: &[u8]) {
     io::write_all(1, b" ");
     if text.len() == 0 {
         io::write_all(1, b"-");
@@ -8,40 +9,21 @@ pub fn word(text: &[u8]) {
     io::write_all(1, text);
 }
 
-pub fn number(n: u64) {
+pub(crate) fn number(n: u64) {
     io::write_all(1, b" ");
     io::print_decimal(1, n);
 }
 
-pub fn end() {
+pub(crate) fn end() {
     io::write_all(1, b"\n");
 }
 
-pub fn wide(b: u8) -> u64 {
+pub(crate) fn wide(b: u8) -> u64 {
     b as u64
 }
 
-// The text as a word: `_` for each space.
-pub fn shown(text: &[u8]) {
-    if text.len() == 0 {
-        word(text);
-        return;
-    }
-    io::write_all(1, b" ");
-    let mut i = 0;
-    while i < text.len() {
-        let end = i + 1;
-        if text[i] == b' ' {
-            io::write_all(1, b"_");
-        } else {
-            io::write_all(1, &text[i..end]);
-        }
-        i = end;
-    }
-}
-
 // What stands before an item of a list: a comma, or a space before the first.
-pub fn between(later: bool) {
+pub(crate) fn between(later: bool) {
     if later {
         io::write_all(1, b",");
     } else {
@@ -50,7 +32,7 @@ pub fn between(later: bool) {
 }
 
 // The bytes as numbers, with commas.
-pub fn list(bytes: &[u8]) {
+pub(crate) fn list(bytes: &[u8]) {
     let mut i = 0;
     while i < bytes.len() {
         between(0 < i);
@@ -60,7 +42,7 @@ pub fn list(bytes: &[u8]) {
 }
 
 // The first n bytes in hexadecimal, or `-` for none.
-pub fn hex(bytes: &[u8], n: usize) {
+pub(crate) fn hex(bytes: &[u8], n: usize) {
     if n == 0 {
         word(b"");
         return;
@@ -76,7 +58,7 @@ pub fn hex(bytes: &[u8], n: usize) {
     }
 }
 
-pub fn flag(set: bool) {
+pub(crate) fn flag(set: bool) {
     if set {
         number(1);
     } else {
@@ -85,7 +67,7 @@ pub fn flag(set: bool) {
 }
 
 // The numbers of the flags that are set, with commas, or `-` for none.
-pub fn flags(set: [bool; 8]) {
+pub(crate) fn flags(set: [bool; 8]) {
     let mut some = false;
     let mut k: usize = 0;
     while k < 8 {
@@ -99,4 +81,18 @@ pub fn flags(set: [bool; 8]) {
     if !some {
         word(b"");
     }
+}
+
+// The line's word of this number.
+pub(crate) fn same(line: &[u8], n: usize) {
+    let w = words::word(line, n);
+    let a = w.start;
+    let b = w.end;
+    word(&line[a..b]);
+}
+
+// The row's kind, and its label, which is the line's second word.
+pub(crate) fn start(kind: &[u8], line: &[u8]) {
+    io::write_all(1, kind);
+    same(line, 1);
 }

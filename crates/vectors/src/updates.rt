@@ -1,14 +1,12 @@
-// `update LABEL ANSWER MARK LENGTH INFINITY PLACE SIZE BITS AT ENTRIES` and `withheld LABEL TTL TEXT ANSWER`
+// `update LABEL TTL HOPS PAYLOAD ..` and `withheld LABEL TTL TEXT PAYLOAD ..`: updates on a part of eight bytes that holds 7 everywhere
+// at first. TTL and Hops are the last update's, those before it have TTL 1 and Hops 0.
+use crate::decode;
 use crate::print;
+use crate::words;
 use tables::Table;
+use tables::Updated;
 
-// A table and the part of eight bytes that it stands in.
-struct Case {
-    table: Table,
-    part: [u8; 8],
-}
-
-fn start() -> Case {
+fn none() -> Updated {
     let table = Table {
         mark: 0,
         length: 0,
@@ -18,10 +16,38 @@ fn start() -> Case {
         bits: 0,
         at: 0,
     };
-    Case {
-        table,
-        part: [7u8; 8],
+    Updated { answer: 0, table }
+}
+
+fn step(table: Table, ttl: u8, hops: u8, line: &[u8], n: usize, part: &mut [u8]) -> Updated {
+    let mut area = [0u8; 512];
+    let size = decode::bytes(line, n, &mut area);
+    tables::updates::update(table, ttl, hops, &area[..size], part)
+}
+
+fn pick(first: bool, a: u8, b: u8) -> u8 {
+    if first { a } else { b }
+}
+
+// The updates that the line's words from this number on are, the last with this TTL and these Hops.
+fn run(line: &[u8], from: usize, ttl: u8, hops: u8, part: &mut [u8]) -> Updated {
+    let count = words::count(line);
+    let mut u = none();
+    let mut n = from;
+    while n < count {
+        let table = u.table;
+        let last = n + 1 == count;
+        u = step(
+            table,
+            pick(last, ttl, 1),
+            pick(last, hops, 0),
+            line,
+            n,
+            &mut *part,
+        );
+        n += 1;
     }
+    u
 }
 
 fn table_words(t: Table) {
@@ -34,119 +60,33 @@ fn table_words(t: Table) {
     print::number(t.at as u64);
 }
 
-// One update, its row, and what it leaves.
-fn row_by(label: &[u8], from: Case, ttl: u8, hops: u8, payload: &[u8]) -> Case {
-    let before = from.table;
-    let mut part = from.part;
-    let r = tablereader::updates::update(before, ttl, hops, payload, &mut part);
-    let table = r.table;
-    io::write_all(1, b"update");
-    print::word(label);
-    print::number(r.answer as u64);
+pub(crate) fn update(line: &[u8]) {
+    let mut part = [7u8; 8];
+    let u = run(
+        line,
+        4,
+        words::byte(line, 2),
+        words::byte(line, 3),
+        &mut part,
+    );
+    print::start(b"update", line);
+    print::number(u.answer as u64);
+    let table = u.table;
     table_words(table);
     print::list(&part);
     print::end();
-    Case { table, part }
 }
 
-fn row(label: &[u8], from: Case, payload: &[u8]) -> Case {
-    row_by(label, from, 1, 0, payload)
-}
-
-fn fields(p1: Case) {
-    row_by(b"ttl2", p1, 2, 0, b"\x00\x04\x00\x00\x00\x08");
-    row_by(b"hops1", p1, 1, 1, b"\x00\x04\x00\x00\x00\x08");
-    row(b"empty", p1, b"");
-    row(b"variant2", p1, b"\x02");
-    row(b"long", p1, b"\x00\x04\x00\x00\x00\x08\x00");
-    row(b"room8", start(), b"\x00\x08\x00\x00\x00\x08");
-    row(b"room16", start(), b"\x00\x10\x00\x00\x00\x08");
-    row(b"length3", start(), b"\x00\x03\x00\x00\x00\x08");
-    row(b"infinity1", start(), b"\x00\x04\x00\x00\x00\x01");
-    row(b"infinity127", start(), b"\x00\x04\x00\x00\x00\x7F");
-    row(b"infinity128", start(), b"\x00\x04\x00\x00\x00\x80");
-}
-
-fn patches(p1: Case) {
-    row(b"compressor", start(), b"\x01\x01\x01\x01\x04\x09\x09");
-    row(b"place0", p1, b"\x01\x00\x01\x00\x04\x09\x09");
-    row(b"place2of1", p1, b"\x01\x02\x01\x00\x04\x09\x09");
-    row(b"bits5", p1, b"\x01\x01\x01\x00\x05\x09\x09");
-    row(b"leftover", p1, b"\x01\x01\x01\x00\x04\x10");
-    row(b"past", p1, b"\x01\x01\x01\x00\x04\x00\x00\x00");
-    row(b"half", p1, b"\x01\x01\x01\x00\x04\x91\x00");
-    row(b"zero", p1, b"\x01\x01\x01\x00\x08\xF8\x00\x00\x00");
-}
-
-fn runs(first: Case) {
-    row(b"last", first, b"\x01\x02\x02\x00\x04");
-    row(b"again", first, b"\x01\x01\x02\x00\x04");
-    row(b"size3", first, b"\x01\x02\x03\x00\x04");
-    row(b"bits8", first, b"\x01\x02\x02\x00\x08");
-    row(b"inside", first, b"\x00\x04\x00\x00\x00\x02");
-}
-
-fn withheld(label: &[u8], c: Case, ttl: u8, text: &[u8]) {
-    let table = c.table;
-    let part = c.part;
-    io::write_all(1, b"withheld");
-    print::word(label);
-    print::number(ttl as u64);
-    print::shown(text);
-    if tablereader::admission::withheld(table, &part, ttl, text) {
-        print::number(1);
-    } else {
-        print::number(0);
-    }
-    print::end();
-}
-
-// The table of two entries' distance: Infinity 2, settled by a run of zeros. It has no row of its own.
-fn two() -> Case {
+pub(crate) fn withheld(line: &[u8]) {
     let mut part = [7u8; 8];
-    let none = start().table;
-    let r = tablereader::updates::update(none, 1, 0, b"\x00\x04\x00\x00\x00\x02", &mut part);
-    let waiting = r.table;
-    let s = tablereader::updates::update(
-        waiting,
-        1,
-        0,
-        b"\x01\x01\x01\x00\x08\x00\x00\x00\x00",
-        &mut part,
-    );
-    let table = s.table;
-    Case { table, part }
-}
-
-fn withheld_settled(p2: Case) {
-    withheld(b"P2", p2, 2, b"eb ebckl");
-    withheld(b"P2", p2, 2, b"ebcklmen");
-    withheld(b"P2", p2, 7, b"");
-    withheld(b"P2", p2, 1, b"eb");
-    withheld(b"P2", p2, 0, b"eb");
-}
-
-fn withheld_others(p1: Case, first: Case, p4: Case, none: Case) {
-    withheld(b"P1", p1, 2, b"ebcklmen");
-    withheld(b"first", first, 2, b"ebcklmen");
-    withheld(b"P4", p4, 2, b"ebcklmen");
-    withheld(b"none", none, 2, b"ebcklmen");
-    withheld(b"two", two(), 6, b"eb");
-}
-
-pub fn all() {
-    let p1 = row(b"P1", start(), b"\x00\x04\x00\x00\x00\x08");
-    let p2 = row(b"P2", p1, b"\x01\x01\x01\x00\x04\x09\x09");
-    row(b"P3", p1, b"\x01\x01\x01\x00\x08\x00\xF9\x00\xF9");
-    let p4 = row(b"P4", p1, b"\x01\x01\x01\x00\x04\x10\x00");
-    fields(p1);
-    let none = row(b"none", start(), b"\x01\x01\x01\x00\x04\x09\x09");
-    patches(p1);
-    let first = row(b"first", p1, b"\x01\x01\x02\x00\x04\x09\x09");
-    runs(first);
-    row(b"second", p2, b"\x01\x01\x01\x00\x04\x07\x00");
-    row(b"heal", p4, b"\x01\x01\x01\x00\x04\x00\x00");
-    row(b"reset", p4, b"\x00\x04\x00\x00\x00\x08");
-    withheld_settled(p2);
-    withheld_others(p1, first, p4, none);
+    let u = run(line, 4, 1, 0, &mut part);
+    let table = u.table;
+    let mut text = [0u8; 256];
+    let n = decode::bytes(line, 3, &mut text);
+    print::start(b"withheld", line);
+    print::same(line, 2);
+    print::same(line, 3);
+    let ttl = words::byte(line, 2);
+    print::flag(tables::admission::withheld(table, &part, ttl, &text[..n]));
+    print::end();
 }

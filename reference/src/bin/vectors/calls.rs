@@ -1,97 +1,212 @@
-//! The rows of the eleven cases, and of whole sessions.
+//! The rows of calls on a station, and of whole sessions: both are lists of events.
 
-use crate::{bytes, hex, joined};
-use lunozhar_reference::hash::place;
-use lunozhar_reference::header::{message, HIT, PING, QUERY, UPDATE};
+use crate::words::Line;
+use crate::{hex, joined};
+use lunozhar_reference::header;
 use lunozhar_reference::session::{self, event, file};
-use lunozhar_reference::station::{OwnPong, State, LINES, OUTPUT};
-use std::io::{self, Write};
+use lunozhar_reference::station::{Handled, OwnPong, State, LINES, OUTPUT};
+use lunozhar_reference::table::Table;
 
-const OWN: OwnPong = OwnPong { port: 6346, address: [127, 0, 0, 1], files: 0, kilobytes: 0, takes_calls: true };
-
-/// Payloads of P1 to P4.
-const P1: &str = "00 04 00 00 00 08";
-const P2: &str = "01 01 01 00 04 09 09";
-const P3: &str = "01 01 01 00 08 00 F9 00 F9";
-const P4: &str = "01 01 01 00 04 10 00";
-
-const ASKED: &[u8; 16] = b"the query number";
-
-fn update(payload: &str) -> Vec<u8> {
-    message(b"update of line 1", UPDATE, 1, 0, &bytes(payload))
+/// An event of a line.
+enum Event {
+    Open(u32),
+    Close(u32),
+    Message {
+        line: u32,
+        clock: u32,
+        bytes: Vec<u8>,
+    },
+    Ask {
+        number: [u8; 16],
+        text: Vec<u8>,
+    },
+    Terms {
+        output: usize,
+        route: usize,
+        calls: bool,
+    },
+    /// Something of the state set by hand.
+    Set(Set),
 }
 
-fn query(number: &[u8; 16], ttl: u8, hops: u8, text: &str) -> Vec<u8> {
-    message(number, QUERY, ttl, hops, format!("\0\0{text}\0").as_bytes())
+enum Set {
+    Ring { count: u16, next: u16 },
+    Kept { place: usize, number: u32, asker: u8 },
+    Line { line: usize, open: bool, pinged: bool, pongs: u8, next: u8 },
+    Hops { line: usize, place: usize, hops: u8 },
+    Table { line: usize, table: Table },
+    /// A full memory, whose oldest number is 0 and whose newest is 511.
+    Fill { asker: u8 },
 }
 
-fn hit(number: &[u8; 16], ttl: u8) -> Vec<u8> {
-    message(number, HIT, ttl, 0, b"twenty-seven bytes of a hit")
+fn small(number: u32) -> u16 {
+    u16::try_from(number).expect("a number of two bytes")
 }
 
-pub fn cases(out: &mut impl Write) -> io::Result<()> {
-    // Label, the updates of line 1 that stand before, the line and its message.
-    let rows: [(&str, &[&str], usize, Vec<u8>); 9] = [
-        ("P1", &[], 1, update(P1)),
-        ("P2", &[P1], 1, update(P2)),
-        ("P3", &[P1], 1, update(P3)),
-        ("P4", &[P1], 1, update(P4)),
-        ("Q1", &[P1, P2], 0, query(ASKED, 3, 1, "eb ebckl")),
-        ("Q2", &[P1, P2], 0, query(ASKED, 3, 1, "ebcklmen")),
-        ("Q3", &[P1, P2], 0, query(ASKED, 3, 1, "")),
-        ("Q4", &[P1, P2], 0, query(ASKED, 15, 6, "eb ebckl")),
-        ("Q5", &[P1, P2], 0, query(ASKED, 16, 0, "eb ebckl")),
-    ];
-    for (label, before, line, message) in rows {
-        let (mut route, mut area) = ([0; 32], [0; OUTPUT]);
-        let (_, mut state) = State::fresh(&route);
-        state.open(0);
-        state.open(1);
-        for payload in before {
-            state.message(1, 0, &OWN, &update(payload), &mut area, &mut route);
+/// Nineteen bytes of a header, the payload's length, the payload.
+fn framed(head: &[u8], payload: &[u8]) -> Vec<u8> {
+    let number = head[..16].try_into().expect("a message's number");
+    assert_eq!(head.len(), 19, "number, type, TTL and Hops");
+    header::message(number, head[16], head[17], head[18], payload)
+}
+
+/// The event whose name is this word, and how many words it takes.
+fn event_at(line: &Line, n: usize) -> (Event, usize) {
+    let (number, byte, size) = (|k| line.number(n + k), |k| line.byte(n + k), |k| line.size(n + k));
+    let flag = |k| line.number(n + k) != 0;
+    match line.word(n) {
+        "open" => (Event::Open(number(1)), 2),
+        "close" => (Event::Close(number(1)), 2),
+        "message" => {
+            let bytes = framed(&line.bytes(n + 3), &line.bytes(n + 4));
+            (Event::Message { line: number(1), clock: number(2), bytes }, 5)
         }
-        let done = state.message(line, 0, &OWN, &message, &mut area, &mut route);
-        let to = joined((0..LINES).filter(|line| done.to & (1 << line) != 0));
-        let (mark, entries) = (state.lines[1].table.mark, joined(&route[4..8]));
-        let written = hex(&area[..done.written]);
-        writeln!(out, "case {label} {} {} {to} {} {mark} {entries} {written}", done.answer, done.used, u8::from(done.search))?;
+        "raw" => (Event::Message { line: number(1), clock: number(2), bytes: line.bytes(n + 3) }, 4),
+        "ask" => {
+            let number = line.bytes(n + 1).try_into().expect("a message's number");
+            (Event::Ask { number, text: line.bytes(n + 2) }, 3)
+        }
+        "terms" => (Event::Terms { output: size(1), route: size(2), calls: flag(3) }, 4),
+        "ring" => (Event::Set(Set::Ring { count: small(number(1)), next: small(number(2)) }), 3),
+        "kept" => (Event::Set(Set::Kept { place: size(1), number: number(2), asker: byte(3) }), 4),
+        "line" => (Event::Set(Set::Line { line: size(1), open: flag(2), pinged: flag(3), pongs: byte(4), next: byte(5) }), 6),
+        "hops" => (Event::Set(Set::Hops { line: size(1), place: size(2), hops: byte(3) }), 4),
+        "table" => {
+            let (mark, length, infinity) = (byte(2), number(3), byte(4));
+            let table = Table { mark, length, infinity, place: byte(5), size: byte(6), bits: byte(7), at: number(8) };
+            (Event::Set(Set::Table { line: size(1), table }), 9)
+        }
+        "fill" => (Event::Set(Set::Fill { asker: byte(1) }), 2),
+        other => panic!("no event: {other:?}"),
     }
-    for (label, keyword) in [("H1", "eb"), ("H2", "ebckl")] {
-        writeln!(out, "case {label} {}", place(keyword.as_bytes(), 13))?;
+}
+
+fn events(line: &Line) -> Vec<Event> {
+    let (mut events, mut n) = (Vec::new(), 2);
+    while n < line.count() {
+        let (event, width) = event_at(line, n);
+        events.push(event);
+        n += width;
     }
-    Ok(())
+    events
 }
 
-fn open(line: u8) -> Vec<u8> {
-    event(0, line, 0, b"")
+/// A station that the events of a line were brought to, and what its last call did.
+struct World {
+    state: State,
+    own: OwnPong,
+    output: Vec<u8>,
+    /// Route area of 64 bytes, of which so many are lent.
+    route: [u8; 64],
+    lent: usize,
+    answers: Vec<u8>,
+    last: Handled,
 }
 
-fn arrives(line: u8, message: &[u8]) -> Vec<u8> {
-    event(2, line, 0, message)
-}
+impl World {
+    fn new() -> World {
+        let own = OwnPong { port: 6346, address: [127, 0, 0, 1], files: 0, kilobytes: 0, takes_calls: true };
+        let (_, state) = State::fresh(&[0; 32]);
+        World { state, own, output: vec![0; OUTPUT], route: [0; 64], lent: 32, answers: Vec::new(), last: Handled::default() }
+    }
 
-pub fn sessions(out: &mut impl Write) -> io::Result<()> {
-    let asked = arrives(0, &query(ASKED, 3, 1, "eb ebckl"));
-    let settled = [open(0), open(1), arrives(1, &update(P1)), arrives(1, &update(P2))];
-    let answered = [open(0), open(1), asked.clone()];
-    let back = |ttl| arrives(1, &hit(ASKED, ttl));
-    let ping = |clock| event(2, 0, clock, &message(b"number of a ping", PING, 7, 0, b""));
-    let withheld = arrives(0, &query(ASKED, 3, 1, "ebcklmen"));
-    let another = arrives(0, &query(b"of another query", 3, 1, "ebcklmen"));
-    let rows = [
-        ("six", file(&[&settled[..], &[asked.clone(), asked]].concat())),
-        ("hits", file(&[&answered[..], &[back(2), back(1), arrives(1, &hit(b"no query of ours", 2))]].concat())),
-        ("late", file(&[&answered[..], &[event(1, 0, 0, b""), open(0), back(2)]].concat())),
-        ("clock", file(&[open(0), ping(0xFFFF_FF00), ping(0x2E7), ping(0x2E8)])),
-        ("spoiled", file(&[&settled[..], &[withheld, arrives(1, &update(P4)), another]].concat())),
-        ("kind3", file(&[open(0), event(3, 0, 0, b"")])),
-        ("wraps", bytes("00 00 00 40 08 00 00 00")),
-        ("none", file(&[])),
-    ];
-    for (label, file) in rows {
-        for line in session::text(&file).split(|&byte| byte == b'\n').filter(|line| !line.is_empty()) {
-            writeln!(out, "session {label} {}", String::from_utf8_lossy(line))?;
+    fn after(line: &Line) -> World {
+        let mut world = World::new();
+        for event in events(line) {
+            world.bring(event);
+        }
+        world
+    }
+
+    fn bring(&mut self, event: Event) {
+        let answered = |answer| Handled { answer, ..Handled::default() };
+        self.last = match event {
+            Event::Open(line) => answered(self.state.open(line as usize)),
+            Event::Close(line) => answered(self.state.close(line as usize)),
+            Event::Message { line, clock, bytes } => {
+                let route = &mut self.route[..self.lent];
+                self.state.message(line as usize, clock, &self.own, &bytes, &mut self.output, route)
+            }
+            Event::Ask { number, text } => self.state.own_query(&number, &text, &mut self.output, &self.route[..self.lent]),
+            Event::Terms { output, route, calls } => {
+                self.output.resize(output, 0);
+                self.lent = route;
+                self.own.takes_calls = calls;
+                return;
+            }
+            Event::Set(set) => return self.set(set),
+        };
+        self.answers.push(self.last.answer);
+    }
+
+    fn set(&mut self, set: Set) {
+        let state = &mut self.state;
+        match set {
+            Set::Ring { count, next } => (state.count, state.next) = (count, next),
+            Set::Kept { place, number, asker } => {
+                state.numbers[place] = u128::from(number).to_le_bytes();
+                state.askers[place] = asker;
+            }
+            Set::Line { line, open, pinged, pongs, next } => {
+                let line = &mut state.lines[line];
+                (line.open, line.pinged, line.pong_count, line.pong_next) = (open, pinged, pongs, next);
+            }
+            Set::Hops { line, place, hops } => state.lines[line].pongs[place].hops = hops,
+            Set::Table { line, table } => state.lines[line].table = table,
+            Set::Fill { asker } => {
+                for (number, kept) in state.numbers.iter_mut().enumerate() {
+                    *kept = (number as u128).to_le_bytes();
+                }
+                state.askers.fill(asker);
+                (state.count, state.next) = (512, 0);
+            }
         }
     }
-    Ok(())
+
+    fn to(&self) -> String {
+        joined((0..LINES).filter(|line| self.last.to & (1 << line) != 0))
+    }
+
+    fn written(&self) -> String {
+        hex(&self.output[..self.last.written])
+    }
+}
+
+pub fn case(line: &Line) -> String {
+    let world = World::after(line);
+    let Handled { answer, used, search, .. } = world.last;
+    let (mark, entries) = (world.state.lines[1].table.mark, joined(&world.route[4..8]));
+    let search = u8::from(search);
+    format!("case {} {answer} {used} {} {search} {mark} {entries} {}\n", line.shown(1), world.to(), world.written())
+}
+
+pub fn calls(line: &Line) -> String {
+    let world = World::after(line);
+    let Handled { used, search, delivered, .. } = world.last;
+    let (answers, search, delivered) = (joined(&world.answers), u8::from(search), u8::from(delivered));
+    format!("calls {} {answers} {used} {} {search} {delivered} {}\n", line.shown(1), world.to(), world.written())
+}
+
+pub fn order(line: &Line) -> String {
+    format!("order {} {}\n", line.shown(1), World::after(line).last.answer)
+}
+
+/// The text of a session file, a row for each of its lines.
+pub fn text(label: &str, file: &[u8]) -> String {
+    let text = String::from_utf8_lossy(&session::text(file)).into_owned();
+    text.lines().map(|row| format!("session {label} {row}\n")).collect()
+}
+
+pub fn session(line: &Line) -> String {
+    let byte = |line: u32| u8::try_from(line).expect("a line of one byte");
+    let events: Vec<Vec<u8>> = events(line)
+        .into_iter()
+        .map(|brought| match brought {
+            Event::Open(line) => event(0, byte(line), 0, b""),
+            Event::Close(line) => event(1, byte(line), 0, b""),
+            Event::Message { line, clock, bytes } => event(2, byte(line), clock, &bytes),
+            _ => panic!("no event of a session"),
+        })
+        .collect();
+    text(line.shown(1), &file(&events))
 }

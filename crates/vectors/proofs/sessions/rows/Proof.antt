@@ -1,15 +1,16 @@
--- The place moves on past each line, at most one past the text.
-use Prim.Native.Nat.{_+_, _-_, _≤_}
+use Prim.Native.Nat.{_+_, _-_, _≤_, _<_}
+use mathlib.Core.Path.{_≡_}
+use native.Mathlib.Omega.{arith}
 use lib.ListN.{length}
 use borrow.Author.Needs.{needs}
 use Rattle.vectors.proofs.sessions.rows.Statement.{statement}
 use Rattle.vectors.proofs.sessions.rows.Tie as tie
 
 abbrev Inv-loop : tie.InvT-loop
-Inv-loop label text at₀ t5 at = at ≤ length text + 1
+Inv-loop line text at₀ t5 at = at ≤ length text + 1
 
 abbrev μ-loop : tie.MeasureT-loop
-μ-loop label text at₀ t5 at = length text + 1 - at
+μ-loop line text at₀ t5 at = length text + 1 - at
 
 loop-holds : tie.Need-loop-holds Inv-loop μ-loop
 loop-holds c = search needs
@@ -17,14 +18,11 @@ loop-holds c = search needs
 word-end-requires : tie.Need-word-end-requires Inv-loop μ-loop
 word-end-requires c κs = search needs
 
-slice-aggregate-write-all : tie.Need-slice-aggregate-write-all Inv-loop μ-loop
-slice-aggregate-write-all c = search needs
+slice-aggregate-start : tie.Need-slice-aggregate-start Inv-loop μ-loop
+slice-aggregate-start c = search needs
 
-write-all-requires : tie.Need-write-all-requires Inv-loop μ-loop
-write-all-requires c κs = search needs
-
-word-requires : tie.Need-word-requires Inv-loop μ-loop
-word-requires c κs = search needs
+start-requires : tie.Need-start-requires Inv-loop μ-loop
+start-requires c κs = search needs
 
 sub-word : tie.Need-sub-word Inv-loop μ-loop
 sub-word c = search needs
@@ -35,8 +33,8 @@ part-word-start c = search needs
 part-word-end : tie.Need-part-word-end Inv-loop μ-loop
 part-word-end c = search needs
 
-word-requires-2 : tie.Need-word-requires-2 Inv-loop μ-loop
-word-requires-2 c κs = search needs
+word-requires : tie.Need-word-requires Inv-loop μ-loop
+word-requires c κs = search needs
 
 end-requires : tie.Need-end-requires Inv-loop μ-loop
 end-requires c κs = search needs
@@ -61,13 +59,12 @@ rows-spec =
     μ-loop
     loop-holds
     word-end-requires
-    slice-aggregate-write-all
-    write-all-requires
-    word-requires
+    slice-aggregate-start
+    start-requires
     sub-word
     part-word-start
     part-word-end
-    word-requires-2
+    word-requires
     end-requires
     add-at
     loop-less
