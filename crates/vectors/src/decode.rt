@@ -1,5 +1,5 @@
 // A word that stands for bytes: text in which `_` is a space, `|` CR and LF, `^` a CR, `~` an LF, `>` a tab; hexadecimal between two
-// `\`; and `*N*`, the byte before it N times in all. The word `-` is no byte.
+// `\`; `*N*`, the byte before it N times in all; and `%`, the length in four bytes of what follows it. The word `-` is no byte.
 ghost use lib.ListN.{length};
 ghost use Rattle.io.specs.Counts.{Counts};
 use crate::words;
@@ -13,12 +13,14 @@ const HALF: u8 = 2;
 
 const TIMES: u8 = 3;
 
-// Where reading stands: what the next byte is read as, the number so far, the last byte put, and the place for the next.
+// Where reading stands: what the next byte is read as, the number so far, the last byte put, the place for the next, and the place
+// behind the last length.
 struct Reading {
     mode: u8,
     number: u32,
     last: u8,
     at: usize,
+    body: usize,
 }
 
 fn digit(b: u8) -> u32 {
@@ -37,12 +39,10 @@ pub(crate) fn put(area: &mut [u8], at: usize, b: u8) -> usize {
     at
 }
 
-// A number's four bytes, the lowest first.
-pub(crate) fn put_number(area: &mut [u8], at: usize, n: usize) -> usize {
-    let first = put(&mut *area, at, (n % 256) as u8);
-    let second = put(&mut *area, first, (n / 256 % 256) as u8);
-    let third = put(&mut *area, second, (n / 65536 % 256) as u8);
-    put(&mut *area, third, (n / 16777216 % 256) as u8)
+// A number's two low bytes, the lower first.
+pub(crate) fn put_number(area: &mut [u8], at: usize, n: usize) {
+    let next = put(&mut *area, at, (n % 256) as u8);
+    put(&mut *area, next, (n / 256 % 256) as u8);
 }
 
 fn put_all(area: &mut [u8], at: usize, b: u8, times: u32) -> usize {
@@ -59,7 +59,6 @@ fn put_all(area: &mut [u8], at: usize, b: u8, times: u32) -> usize {
 fn letter(b: u8) -> u8 {
     match b {
         b'_' => 32,
-        b'|' => 13,
         b'^' => 13,
         b'~' => 10,
         b'>' => 9,
@@ -67,99 +66,117 @@ fn letter(b: u8) -> u8 {
     }
 }
 
-fn text(r: Reading, b: u8, area: &mut [u8]) -> Reading {
-    if b == 92 {
-        return Reading {
-            mode: HEX,
-            number: 0,
-            last: r.last,
-            at: r.at,
-        };
+// A mark that puts no byte.
+fn marked(r: Reading, mode: u8) -> Reading {
+    Reading {
+        mode,
+        number: 0,
+        last: r.last,
+        at: r.at,
+        body: r.body,
     }
-    if b == b'*' {
-        return Reading {
-            mode: TIMES,
-            number: 0,
-            last: r.last,
-            at: r.at,
-        };
-    }
-    let last = letter(b);
-    let at = put(&mut *area, r.at, last);
-    if b == b'|' {
-        let next = put(&mut *area, at, 10);
-        return Reading {
-            mode: TEXT,
-            number: 0,
-            last: 10,
-            at: next,
-        };
-    }
+}
+
+fn put_letter(r: Reading, b: u8, area: &mut [u8]) -> Reading {
     Reading {
         mode: TEXT,
         number: 0,
-        last,
+        last: b,
+        at: put(area, r.at, b),
+        body: r.body,
+    }
+}
+
+// Four bytes for a length.
+fn put_length(r: Reading, area: &mut [u8]) -> Reading {
+    let at = put_all(area, r.at, 0, 5);
+    Reading {
+        mode: TEXT,
+        number: 0,
+        last: 0,
         at,
+        body: at,
+    }
+}
+
+fn text(r: Reading, b: u8, area: &mut [u8]) -> Reading {
+    match b {
+        b'\\' => marked(r, HEX),
+        b'*' => marked(r, TIMES),
+        b'%' => put_length(r, area),
+        b'|' => put_letter(put_letter(r, 13, &mut *area), 10, &mut *area),
+        _ => put_letter(r, letter(b), area),
     }
 }
 
 fn first_digit(r: Reading, b: u8) -> Reading {
-    if b == 92 {
-        return Reading {
-            mode: TEXT,
-            number: 0,
-            last: r.last,
-            at: r.at,
-        };
+    if b == b'\\' {
+        return marked(r, TEXT);
     }
     Reading {
         mode: HALF,
         number: digit(b),
         last: r.last,
         at: r.at,
+        body: r.body,
     }
 }
 
 fn second_digit(r: Reading, b: u8, area: &mut [u8]) -> Reading {
-    let last = (((r.number % 16) * 16 + digit(b) % 16) % 256) as u8;
-    let at = put(area, r.at, last);
+    let last = (r.number % 16 * 16 + digit(b) % 16) as u8;
     Reading {
         mode: HEX,
         number: 0,
         last,
-        at,
+        at: put(area, r.at, last),
+        body: r.body,
+    }
+}
+
+fn repeated(r: Reading, area: &mut [u8]) -> Reading {
+    Reading {
+        mode: TEXT,
+        number: 0,
+        last: r.last,
+        at: put_all(area, r.at, r.last, r.number),
+        body: r.body,
     }
 }
 
 fn times(r: Reading, b: u8, area: &mut [u8]) -> Reading {
     if b == b'*' {
-        let at = put_all(area, r.at, r.last, r.number);
-        return Reading {
-            mode: TEXT,
-            number: 0,
-            last: r.last,
-            at,
-        };
+        return repeated(r, area);
     }
     Reading {
         mode: TIMES,
         number: (r.number % 100000) * 10 + digit(b) % 16,
         last: r.last,
         at: r.at,
+        body: r.body,
     }
 }
 
 fn step(r: Reading, b: u8, area: &mut [u8]) -> Reading {
-    if r.mode == TEXT {
-        return text(r, b, area);
+    let mode = r.mode;
+    match mode {
+        0 => text(r, b, area),
+        1 => first_digit(r, b),
+        2 => second_digit(r, b, area),
+        _ => times(r, b, area),
     }
-    if r.mode == HEX {
-        return first_digit(r, b);
+}
+
+// The last length, which is known now, and where the bytes end.
+fn finished(r: Reading, area: &mut [u8]) -> usize {
+    let at = r.at;
+    let body = r.body;
+    if body < 4 {
+        return at;
     }
-    if r.mode == HALF {
-        return second_digit(r, b, area);
+    if body <= at {
+        put_number(area, body - 4, at - body);
     }
-    times(r, b, area)
+    at
 }
 
 // The word's bytes in the area, from place `at` on; where they end.
@@ -169,13 +186,14 @@ fn decoded(word: &[u8], area: &mut [u8], at: usize) -> usize {
         number: 0,
         last: 0,
         at,
+        body: 0,
     };
     let mut i = 0;
     while i < word.len() {
         r = step(r, word[i], &mut *area);
         i += 1;
     }
-    r.at
+    finished(r, area)
 }
 
 fn is_none(word: &[u8]) -> bool {
@@ -206,10 +224,7 @@ pub(crate) fn within(at: usize, area: &[u8]) -> usize
 pub(crate) fn bytes_at(line: &[u8], n: usize, area: &mut [u8], at: usize) -> usize
     ensures { λ r. ⌜ Counts r (now (area .exit)) ⌝ }
 {
-    let w = words::word(line, n);
-    let a = w.start;
-    let b = w.end;
-    let end = word_bytes(&line[a..b], &mut *area, at);
+    let end = word_bytes(words::word(line, n), &mut *area, at);
     within(end, area)
 }
 

@@ -1,7 +1,5 @@
 // `case LABEL EVENT ..`, `calls LABEL EVENT ..` and `order LABEL EVENT ..`: events on a fresh station with a route area of 32 bytes.
 ghost use Prim.Native.Nat.{_≤_};
-ghost use lib.ListN.{length};
-ghost use Rattle.io.specs.Counts.{Counts};
 use crate::decode;
 use crate::print;
 use crate::sets;
@@ -10,17 +8,10 @@ use protocol::Changed;
 use protocol::Handled;
 use protocol::Own;
 
-// What is lent from here on: the lengths of the two areas, and whether the station takes calls.
-struct Terms {
-    out: usize,
-    route: usize,
-    calls: bool,
-}
-
 // Which event a word names.
 pub(crate) fn kind_of(line: &[u8], n: usize) -> usize {
     words::name(
-        b"open close message raw ask terms ring kept line hops table fill",
+        b"open close message ask terms ring kept line hops table fill",
         line,
         n,
     )
@@ -33,38 +24,17 @@ pub(crate) fn width(kind: usize) -> usize
     match kind {
         0 => 2,
         1 => 2,
-        2 => 5,
-        3 => 4,
-        4 => 3,
-        5 => 4,
-        6 => 3,
-        7 => 4,
-        8 => 6,
-        9 => 4,
-        10 => 9,
-        11 => 2,
+        2 => 4,
+        3 => 3,
+        4 => 4,
+        5 => 3,
+        6 => 4,
+        7 => 6,
+        8 => 4,
+        9 => 9,
+        10 => 2,
         _ => 1,
     }
-}
-
-// How far it is from one place to another.
-fn between(from: usize, to: usize) -> usize {
-    if to < from {
-        return 0;
-    }
-    to - from
-}
-
-// A header of 19 bytes and a payload, with the payload's length between them, from place `at` on; where they end.
-pub(crate) fn framed(line: &[u8], n: usize, area: &mut [u8], at: usize) -> usize
-    requires { ⌜ (n ≤ 8192) × (at ≤ 65536) ⌝ }
-    ensures { λ r. ⌜ Counts r (now (area .exit)) ⌝ }
-{
-    decode::bytes_at(line, n, &mut *area, at);
-    let body = at + 23;
-    let end = decode::bytes_at(line, n + 1, &mut *area, body);
-    decode::put_number(&mut *area, at + 19, between(body, end));
-    decode::within(end, area)
 }
 
 fn outcome(c: Changed) -> Handled {
@@ -92,82 +62,50 @@ fn closed(w: Handled, line: u32) -> Handled {
     outcome(station::changes::close_line(s, line))
 }
 
-fn arrived(
-    w: Handled,
-    line: u32,
-    clock: u32,
-    t: Terms,
-    m: &[u8],
-    out: &mut [u8],
-    route: &mut [u8],
-) -> Handled {
-    let s = w.state;
-    let own = Own {
+fn own(calls: bool) -> Own {
+    Own {
         port: 6346,
         address: [127, 0, 0, 1],
         files: 0,
         kilobytes: 0,
-        calls: t.calls,
-    };
-    let a = decode::within(t.out, out);
-    let b = decode::within(t.route, route);
-    station::calls::message(s, line, clock, own, m, &mut out[..a], &mut route[..b])
+        calls,
+    }
 }
 
-fn message(w: Handled, line: &[u8], n: usize, t: Terms, out: &mut [u8], route: &mut [u8]) -> Handled
-    requires { ⌜ n ≤ 4096 ⌝ }
-{
-    let mut area = [0u8; 8192];
-    let size = framed(line, n + 3, &mut area, 0);
-    let from = words::number(line, n + 1);
-    let clock = words::number(line, n + 2);
-    arrived(w, from, clock, t, &area[..size], out, route)
-}
-
-fn raw(w: Handled, line: &[u8], n: usize, t: Terms, out: &mut [u8], route: &mut [u8]) -> Handled
+fn message(w: Handled, line: &[u8], n: usize, own: Own, out: &mut [u8], route: &mut [u8]) -> Handled
     requires { ⌜ n ≤ 4096 ⌝ }
 {
     let mut area = [0u8; 8192];
     let size = decode::bytes(line, n + 3, &mut area);
+    let s = w.state;
     let from = words::number(line, n + 1);
     let clock = words::number(line, n + 2);
-    arrived(w, from, clock, t, &area[..size], out, route)
+    station::calls::message(s, from, clock, own, &area[..size], out, route)
 }
 
-fn asked(w: Handled, line: &[u8], n: usize, t: Terms, out: &mut [u8], route: &[u8]) -> Handled
+fn number(line: &[u8], n: usize) -> [u8; 16] {
+    let mut number = [0u8; 16];
+    decode::bytes(line, n, &mut number);
+    number
+}
+
+fn asked(w: Handled, line: &[u8], n: usize, out: &mut [u8], route: &[u8]) -> Handled
     requires { ⌜ n ≤ 4096 ⌝ }
 {
-    let mut number = [0u8; 16];
-    decode::bytes(line, n + 1, &mut number);
     let mut area = [0u8; 8192];
     let size = decode::bytes(line, n + 2, &mut area);
     let s = w.state;
-    let a = decode::within(t.out, out);
-    let b = decode::within(t.route, route);
-    station::asking::ask(s, number, &area[..size], &mut out[..a], &route[..b])
+    station::asking::ask(s, number(line, n + 1), &area[..size], out, route)
 }
 
-fn terms_at(line: &[u8], n: usize) -> Terms
-    requires { ⌜ n ≤ 4096 ⌝ }
-{
-    Terms {
-        out: words::number(line, n + 1) as usize,
-        route: words::number(line, n + 2) as usize,
-        calls: words::number(line, n + 3) != 0,
-    }
-}
-
-fn set(w: Handled, kind: usize, line: &[u8], n: usize) -> Handled
+// A line opened or closed, or a part of the state set by hand.
+fn changed(w: Handled, kind: usize, line: &[u8], n: usize) -> Handled
     requires { ⌜ n ≤ 4096 ⌝ }
 {
     match kind {
-        6 => sets::ring(w, line, n),
-        7 => sets::kept(w, line, n),
-        8 => sets::fields(w, line, n),
-        9 => sets::hops(w, line, n),
-        10 => sets::table(w, line, n),
-        11 => sets::fill(w, line, n),
-        _ => w,
+        0 => opened(w, words::number(line, n + 1)),
+        1 => closed(w, words::number(line, n + 1)),
+        _ => sets::set(w, kind, sets::numbers(line, n)),
     }
 }
 
@@ -176,19 +114,16 @@ fn event(
     kind: usize,
     line: &[u8],
     n: usize,
-    t: Terms,
+    own: Own,
     out: &mut [u8],
     route: &mut [u8],
 ) -> Handled
     requires { ⌜ n ≤ 4096 ⌝ }
 {
     match kind {
-        0 => opened(w, words::number(line, n + 1)),
-        1 => closed(w, words::number(line, n + 1)),
-        2 => message(w, line, n, t, out, route),
-        3 => raw(w, line, n, t, out, route),
-        4 => asked(w, line, n, t, out, route),
-        _ => set(w, kind, line, n),
+        2 => message(w, line, n, own, out, route),
+        3 => asked(w, line, n, out, route),
+        _ => changed(w, kind, line, n),
     }
 }
 
@@ -197,7 +132,7 @@ fn answer(show: bool, kind: usize, some: bool, n: u8) -> bool {
     if !show {
         return some;
     }
-    if 4 < kind {
+    if 3 < kind {
         return some;
     }
     print::between(some);
@@ -209,34 +144,34 @@ fn begun() -> Handled {
     outcome(station::changes::fresh_over(32))
 }
 
-fn terms_after(t: Terms, kind: usize, line: &[u8], n: usize) -> Terms
-    requires { ⌜ n ≤ 4096 ⌝ }
-{
-    if kind == 5 {
-        return terms_at(line, n);
-    }
-    t
-}
-
 // The line's events, and what the last one did.
-fn run(line: &[u8], show: bool, out: &mut [u8], route: &mut [u8]) -> Handled {
+fn run(line: &[u8], show: bool, own: Own, out: &mut [u8], route: &mut [u8]) -> Handled {
     let count = words::count(line);
     let mut w = begun();
-    let mut t = Terms {
-        out: 4119,
-        route: 32,
-        calls: true,
-    };
     let mut some = false;
     let mut n: usize = 2;
     while n < count {
         let kind = kind_of(line, n);
-        t = terms_after(t, kind, line, n);
-        w = event(w, kind, line, n, t, &mut *out, &mut *route);
+        w = event(w, kind, line, n, own, &mut *out, &mut *route);
         some = answer(show, kind, some, w.answer);
         n += width(kind);
     }
     w
+}
+
+// A number of `terms OUTPUT ROUTE CALLS`, if that comes first: how much of the two areas is lent, and whether the station takes calls.
+fn term(line: &[u8], n: usize, usual: usize) -> usize {
+    if kind_of(line, 2) == 4 {
+        return words::number(line, n) as usize;
+    }
+    usual
+}
+
+fn ran(line: &[u8], show: bool, out: &mut [u8], route: &mut [u8]) -> Handled {
+    let a = decode::within(term(line, 3, 4119), out);
+    let b = decode::within(term(line, 4, 32), route);
+    let calls = term(line, 5, 1) != 0;
+    run(line, show, own(calls), &mut out[..a], &mut route[..b])
 }
 
 // Line 1's mark and its four entries.
@@ -249,12 +184,11 @@ fn table_words(w: Handled, part: &[u8]) {
 }
 
 pub(crate) fn case(line: &[u8]) {
-    let mut out = [0u8; 4119];
+    let mut out = [0u8; 4120];
     let mut route = [0u8; 64];
-    let w = run(line, false, &mut out, &mut route);
+    let w = ran(line, false, &mut out, &mut route);
     print::start(b"case", line);
-    print::number(w.answer as u64);
-    print::number(w.used as u64);
+    print::numbers(&[w.answer as u64, w.used as u64]);
     let to = w.to;
     print::flags(to);
     print::flag(w.search);
@@ -264,10 +198,10 @@ pub(crate) fn case(line: &[u8]) {
 }
 
 pub(crate) fn calls(line: &[u8]) {
-    let mut out = [0u8; 4119];
+    let mut out = [0u8; 4120];
     let mut route = [0u8; 64];
     print::start(b"calls", line);
-    let w = run(line, true, &mut out, &mut route);
+    let w = ran(line, true, &mut out, &mut route);
     print::number(w.used as u64);
     let to = w.to;
     print::flags(to);
@@ -278,9 +212,9 @@ pub(crate) fn calls(line: &[u8]) {
 }
 
 pub(crate) fn order(line: &[u8]) {
-    let mut out = [0u8; 4119];
+    let mut out = [0u8; 4120];
     let mut route = [0u8; 64];
-    let w = run(line, false, &mut out, &mut route);
+    let w = ran(line, false, &mut out, &mut route);
     print::start(b"order", line);
     print::number(w.answer as u64);
     print::end();

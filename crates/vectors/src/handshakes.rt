@@ -11,10 +11,14 @@ pub(crate) fn group(line: &[u8]) {
     let n = decode::bytes(line, 2, &mut area);
     let g = handshake::read_group(&area[..n]);
     print::start(b"group", line);
-    print::number(g.answer as u64);
-    print::number(g.used as u64);
-    print::number(g.kind as u64);
-    print::number(g.major as u64);
+    print::numbers(
+        &[
+            g.answer as u64,
+            g.used as u64,
+            g.kind as u64,
+            g.major as u64,
+        ],
+    );
     io::write_all(1, b".");
     io::print_decimal(1, g.minor as u64);
     print::number(g.code as u64);
@@ -25,8 +29,7 @@ fn field_in(line: &[u8], name: &[u8], bytes: &[u8], area: &mut [u8]) {
     let r = handshake::field(bytes, name, &mut *area);
     print::start(b"field", line);
     print::same(line, 2);
-    print::number(r.answer as u64);
-    print::number(r.used as u64);
+    print::numbers(&[r.answer as u64, r.used as u64]);
     print::hex(area, r.written);
     print::end();
 }
@@ -77,8 +80,7 @@ pub(crate) fn try_hosts(line: &[u8]) {
     let n = decode::bytes(line, 2, &mut area);
     let r = tryhosts::group::try_pairs(&area[..n]);
     print::start(b"try", line);
-    print::number(r.answer as u64);
-    print::number(r.used as u64);
+    print::numbers(&[r.answer as u64, r.used as u64]);
     let found = r.pairs;
     pairs_words(found);
     print::end();

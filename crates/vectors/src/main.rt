@@ -12,7 +12,7 @@ mod words;
 mod writing;
 
 fn main() {
-    let mut input = [0u8; 262144];
+    let mut input = [0u8; 131072];
     let size = io::read_full(0, &mut input);
     rows::all(&input[..size]);
 }

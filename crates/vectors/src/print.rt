@@ -14,6 +14,14 @@ pub(crate) fn number(n: u64) {
     io::print_decimal(1, n);
 }
 
+pub(crate) fn numbers(list: &[u64]) {
+    let mut i = 0;
+    while i < list.len() {
+        number(list[i]);
+        i += 1;
+    }
+}
+
 pub(crate) fn end() {
     io::write_all(1, b"\n");
 }
@@ -85,10 +93,7 @@ pub(crate) fn flags(set: [bool; 8]) {
 
 // The line's word of this number.
 pub(crate) fn same(line: &[u8], n: usize) {
-    let w = words::word(line, n);
-    let a = w.start;
-    let b = w.end;
-    word(&line[a..b]);
+    word(words::word(line, n));
 }
 
 // The row's kind, and its label, which is the line's second word.

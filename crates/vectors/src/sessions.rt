@@ -1,9 +1,6 @@
-// `session LABEL EVENT ..`, events that are put into a file, and `file LABEL BYTES`; the text of either, a row a line.
+// `session LABEL EVENT ..`, each event a word of bytes, put into a file, and `file LABEL BYTES`; the text of either, a row a line.
 ghost use Prim.Native.Nat.{_≤_};
-ghost use lib.ListN.{length};
-ghost use Rattle.io.specs.Counts.{Counts};
 use crate::decode;
-use crate::events;
 use crate::print;
 use crate::words;
 
@@ -32,89 +29,34 @@ pub(crate) fn file(line: &[u8]) {
     show(line, &area[..n]);
 }
 
-// How many events the line has.
-fn how_many(line: &[u8]) -> usize
-    ensures { λ r. ⌜ r ≤ 4096 ⌝ }
-{
-    let count = words::count(line);
-    let mut events: usize = 0;
-    let mut n: usize = 2;
-    while n < count {
-        n += events::width(events::kind_of(line, n));
-        if events < 4096 {
-            events += 1;
-        }
-    }
-    events
-}
-
-// The message of an event, if it has one; where it ends.
-fn body(line: &[u8], n: usize, kind: usize, area: &mut [u8], at: usize) -> usize
-    requires { ⌜ n ≤ 4096 ⌝ }
-    ensures { λ r. ⌜ Counts r (now (area .exit)) ⌝ }
-{
-    if kind == 2 {
-        if at <= 65536 {
-            return events::framed(line, n + 3, area, at);
-        }
-    }
-    if kind == 3 {
-        return decode::bytes_at(line, n + 3, area, at);
-    }
-    decode::within(at, area)
-}
-
-// The clock of an event: 0 for an opening or a closing.
-fn clock(line: &[u8], n: usize, kind: usize) -> usize
-    requires { ⌜ n ≤ 4096 ⌝ }
-{
-    if kind < 2 {
-        return 0;
-    }
-    words::number(line, n + 2) as usize
-}
-
-fn lower(kind: usize) -> u8 {
-    match kind {
-        0 => 0,
-        1 => 1,
-        _ => 2,
-    }
-}
-
-// An event: its kind, line, clock and message.
-fn put_event(line: &[u8], n: usize, area: &mut [u8], at: usize) -> usize
-    requires { ⌜ n ≤ 4096 ⌝ }
-    ensures { λ r. ⌜ Counts r (now (area .exit)) ⌝ }
-{
-    let kind = events::kind_of(line, n);
-    let first = decode::put(&mut *area, at, lower(kind));
-    let second = decode::put(&mut *area, first, words::byte(line, n + 1));
-    let third = decode::put_number(&mut *area, second, clock(line, n, kind));
-    body(line, n, kind, area, third)
-}
-
 // The events and their offsets; where the file ends.
-fn put_events(line: &[u8], area: &mut [u8], head: usize) -> usize {
-    let count = words::count(line);
+fn put_events(line: &[u8], count: usize, area: &mut [u8], head: usize) -> usize
+    requires { ⌜ count ≤ 4096 ⌝ }
+{
     let mut at = head;
-    let mut offset: usize = 8;
     let mut n: usize = 2;
     while n < count {
-        at = put_event(line, n, &mut *area, at);
-        offset = decode::put_number(&mut *area, offset, at);
-        n += events::width(events::kind_of(line, n));
+        at = decode::bytes_at(line, n, &mut *area, at);
+        decode::put_number(&mut *area, 4 * n, at);
+        n += 1;
     }
     at
 }
 
+// A file of the line's words from the third on, each an event.
+fn whole(line: &[u8], area: &mut [u8]) -> usize {
+    let count = words::count(line);
+    if count < 2 {
+        return 0;
+    }
+    decode::put_number(&mut *area, 0, count - 2);
+    decode::put_number(&mut *area, 4, 4 * count);
+    put_events(line, count, area, 4 * count)
+}
+
 pub(crate) fn session(line: &[u8]) {
     let mut area = [0u8; 33000];
-    let events = how_many(line);
-    let head = 8 + 4 * events;
-    decode::put_number(&mut area, 0, events);
-    decode::put_number(&mut area, 4, head);
-    let end = put_events(line, &mut area, head);
+    let end = whole(line, &mut area);
     let n = decode::within(end, &area);
     show(line, &area[..n]);
 }

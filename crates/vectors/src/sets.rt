@@ -2,8 +2,124 @@
 ghost use Prim.Native.Nat.{_≤_};
 use crate::words;
 use protocol::Handled;
+use protocol::Line;
 use protocol::Station;
 use tables::Table;
+
+// The nine words from this one on, as numbers.
+pub(crate) fn numbers(line: &[u8], n: usize) -> [u32; 9]
+    requires { ⌜ n ≤ 4096 ⌝ }
+{
+    let mut v = [0u32; 9];
+    let mut i: usize = 0;
+    while i < 9 {
+        v[i] = words::number(line, n + i);
+        i += 1;
+    }
+    v
+}
+
+fn byte(n: u32) -> u8 {
+    (n % 256) as u8
+}
+
+// `ring COUNT NEXT`
+fn ring(mut s: Station, v: [u32; 9]) -> Station {
+    s.count = v[1] as usize;
+    s.next = v[2] as usize;
+    s
+}
+
+// `kept I NUMBER ASKER`: the number's low half, its high half being 0
+fn kept(mut s: Station, v: [u32; 9]) -> Station {
+    let i = (v[1] % 512) as usize;
+    s.lo[i] = v[2] as u64;
+    s.hi[i] = 0;
+    s.asker[i] = byte(v[3]);
+    s
+}
+
+// `line L OPEN PINGED PONGS NEXT`
+fn fields(mut x: Line, v: [u32; 9]) -> Line {
+    x.live = v[2] != 0;
+    x.pinged = v[3] != 0;
+    x.pongcount = v[4] as usize;
+    x.pongnext = v[5] as usize;
+    x
+}
+
+// `hops L I HOPS`: of the pong at a place
+fn hops(mut x: Line, v: [u32; 9]) -> Line {
+    let i = (v[2] % 10) as usize;
+    let mut p = x.pongs[i];
+    p.hops = byte(v[3]);
+    x.pongs[i] = p;
+    x
+}
+
+// `table L MARK LENGTH INFINITY PLACE SIZE BITS AT`
+fn table(mut x: Line, v: [u32; 9]) -> Line {
+    let t = Table {
+        mark: byte(v[2]),
+        length: v[3],
+        infinity: byte(v[4]),
+        place: byte(v[5]),
+        size: byte(v[6]),
+        bits: byte(v[7]),
+        at: v[8],
+    };
+    x.table = t;
+    x
+}
+
+fn line_set(x: Line, kind: usize, v: [u32; 9]) -> Line {
+    match kind {
+        7 => fields(x, v),
+        8 => hops(x, v),
+        9 => table(x, v),
+        _ => x,
+    }
+}
+
+fn in_line(mut s: Station, kind: usize, v: [u32; 9]) -> Station {
+    let j = (v[1] % 8) as usize;
+    let x = s.lines[j];
+    let y = line_set(x, kind, v);
+    s.lines[j] = y;
+    s
+}
+
+fn numbered() -> [u64; 512] {
+    let mut lo = [0u64; 512];
+    let mut i: usize = 0;
+    while i < 512 {
+        lo[i] = i as u64;
+        i += 1;
+    }
+    lo
+}
+
+// `fill ASKER`: 512 remembered queries of this asker, the oldest with the number 0 and the newest with 511
+fn fill(mut s: Station, who: u8) -> Station {
+    let lo = numbered();
+    let hi = [0u64; 512];
+    let asker = [who; 512];
+    s.lo = lo;
+    s.hi = hi;
+    s.asker = asker;
+    s.count = 512;
+    s.next = 0;
+    s
+}
+
+fn state(s: Station, kind: usize, v: [u32; 9]) -> Station {
+    match kind {
+        5 => ring(s, v),
+        6 => kept(s, v),
+        10 => fill(s, byte(v[1])),
+        _ => in_line(s, kind, v),
+    }
+}
 
 // The same outcome with another state.
 fn with(w: Handled, state: Station) -> Handled {
@@ -21,108 +137,7 @@ fn with(w: Handled, state: Station) -> Handled {
     }
 }
 
-// `ring COUNT NEXT`
-pub(crate) fn ring(w: Handled, line: &[u8], n: usize) -> Handled
-    requires { ⌜ n ≤ 4096 ⌝ }
-{
-    let mut s = w.state;
-    s.count = words::number(line, n + 1) as usize;
-    s.next = words::number(line, n + 2) as usize;
-    with(w, s)
-}
-
-// `kept I NUMBER ASKER`: the number's low half, its high half being 0
-pub(crate) fn kept(w: Handled, line: &[u8], n: usize) -> Handled
-    requires { ⌜ n ≤ 4096 ⌝ }
-{
-    let mut s = w.state;
-    let i = (words::number(line, n + 1) % 512) as usize;
-    s.lo[i] = words::number(line, n + 2) as u64;
-    s.hi[i] = 0;
-    s.asker[i] = words::byte(line, n + 3);
-    with(w, s)
-}
-
-// `line L OPEN PINGED PONGS NEXT`
-pub(crate) fn fields(w: Handled, line: &[u8], n: usize) -> Handled
-    requires { ⌜ n ≤ 4096 ⌝ }
-{
-    let mut s = w.state;
-    let j = (words::number(line, n + 1) % 8) as usize;
-    let mut x = s.lines[j];
-    x.live = words::number(line, n + 2) != 0;
-    x.pinged = words::number(line, n + 3) != 0;
-    x.pongcount = words::number(line, n + 4) as usize;
-    x.pongnext = words::number(line, n + 5) as usize;
-    s.lines[j] = x;
-    with(w, s)
-}
-
-// `hops L I HOPS`: of the pong at a place
-pub(crate) fn hops(w: Handled, line: &[u8], n: usize) -> Handled
-    requires { ⌜ n ≤ 4096 ⌝ }
-{
-    let mut s = w.state;
-    let j = (words::number(line, n + 1) % 8) as usize;
-    let i = (words::number(line, n + 2) % 10) as usize;
-    let mut x = s.lines[j];
-    let mut p = x.pongs[i];
-    p.hops = words::byte(line, n + 3);
-    x.pongs[i] = p;
-    s.lines[j] = x;
-    with(w, s)
-}
-
-fn table_at(line: &[u8], n: usize) -> Table
-    requires { ⌜ n ≤ 4098 ⌝ }
-{
-    Table {
-        mark: words::byte(line, n),
-        length: words::number(line, n + 1),
-        infinity: words::byte(line, n + 2),
-        place: words::byte(line, n + 3),
-        size: words::byte(line, n + 4),
-        bits: words::byte(line, n + 5),
-        at: words::number(line, n + 6),
-    }
-}
-
-// `table L MARK LENGTH INFINITY PLACE SIZE BITS AT`
-pub(crate) fn table(w: Handled, line: &[u8], n: usize) -> Handled
-    requires { ⌜ n ≤ 4096 ⌝ }
-{
-    let mut s = w.state;
-    let j = (words::number(line, n + 1) % 8) as usize;
-    let mut x = s.lines[j];
-    let t = table_at(line, n + 2);
-    x.table = t;
-    s.lines[j] = x;
-    with(w, s)
-}
-
-fn numbered() -> [u64; 512] {
-    let mut lo = [0u64; 512];
-    let mut i: usize = 0;
-    while i < 512 {
-        lo[i] = i as u64;
-        i += 1;
-    }
-    lo
-}
-
-// `fill ASKER`: 512 remembered queries of this asker, the oldest with the number 0 and the newest with 511
-pub(crate) fn fill(w: Handled, line: &[u8], n: usize) -> Handled
-    requires { ⌜ n ≤ 4096 ⌝ }
-{
-    let mut s = w.state;
-    let lo = numbered();
-    let hi = [0u64; 512];
-    let who = words::byte(line, n + 1);
-    let asker = [who; 512];
-    s.lo = lo;
-    s.hi = hi;
-    s.asker = asker;
-    s.count = 512;
-    s.next = 0;
-    with(w, s)
+pub(crate) fn set(w: Handled, kind: usize, v: [u32; 9]) -> Handled {
+    let s = w.state;
+    with(w, state(s, kind, v))
 }

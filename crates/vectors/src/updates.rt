@@ -50,14 +50,19 @@ fn run(line: &[u8], from: usize, ttl: u8, hops: u8, part: &mut [u8]) -> Updated 
     u
 }
 
-fn table_words(t: Table) {
-    print::number(t.mark as u64);
-    print::number(t.length as u64);
-    print::number(t.infinity as u64);
-    print::number(t.place as u64);
-    print::number(t.size as u64);
-    print::number(t.bits as u64);
-    print::number(t.at as u64);
+fn table_words(answer: u8, t: Table) {
+    print::numbers(
+        &[
+            answer as u64,
+            t.mark as u64,
+            t.length as u64,
+            t.infinity as u64,
+            t.place as u64,
+            t.size as u64,
+            t.bits as u64,
+            t.at as u64,
+        ],
+    );
 }
 
 pub(crate) fn update(line: &[u8]) {
@@ -70,23 +75,26 @@ pub(crate) fn update(line: &[u8]) {
         &mut part,
     );
     print::start(b"update", line);
-    print::number(u.answer as u64);
     let table = u.table;
-    table_words(table);
+    table_words(u.answer, table);
     print::list(&part);
     print::end();
+}
+
+fn held_back(line: &[u8], table: Table, part: &[u8]) -> bool {
+    let mut text = [0u8; 256];
+    let n = decode::bytes(line, 3, &mut text);
+    let ttl = words::byte(line, 2);
+    tables::admission::withheld(table, part, ttl, &text[..n])
 }
 
 pub(crate) fn withheld(line: &[u8]) {
     let mut part = [7u8; 8];
     let u = run(line, 4, 1, 0, &mut part);
     let table = u.table;
-    let mut text = [0u8; 256];
-    let n = decode::bytes(line, 3, &mut text);
     print::start(b"withheld", line);
     print::same(line, 2);
     print::same(line, 3);
-    let ttl = words::byte(line, 2);
-    print::flag(tables::admission::withheld(table, &part, ttl, &text[..n]));
+    print::flag(held_back(line, table, &part));
     print::end();
 }

@@ -2,12 +2,6 @@
 ghost use Prim.Native.Nat.{_≤_, _<_};
 ghost use lib.ListN.{length};
 
-// Where a word stands.
-pub(crate) struct Span {
-    pub(crate) start: usize,
-    pub(crate) end: usize,
-}
-
 // Where the word at this place ends: at the next byte that is `mark`, or at the text's end.
 pub(crate) fn word_end(text: &[u8], at: usize, mark: u8) -> usize
     requires { ⌜ at ≤ length (now text) ⌝ }
@@ -24,21 +18,19 @@ pub(crate) fn word_end(text: &[u8], at: usize, mark: u8) -> usize
 }
 
 // The word of this number, the first being 0.
-pub(crate) fn word(line: &[u8], n: usize) -> Span
-    ensures { λ r. ⌜ (r .start ≤ r .end) × (r .end ≤ length (now (line .entry))) ⌝ }
-{
+pub(crate) fn word(line: &[u8], n: usize) -> &[u8] {
     let mut start: usize = 0;
     let mut k: usize = 0;
     while k < n {
         let end = word_end(line, start, b' ');
         if end == line.len() {
-            return Span { start: end, end };
+            return &line[end..end];
         }
         start = end + 1;
         k += 1;
     }
     let end = word_end(line, start, b' ');
-    Span { start, end }
+    &line[start..end]
 }
 
 fn same(a: &[u8], b: &[u8]) -> bool {
@@ -56,10 +48,7 @@ fn same(a: &[u8], b: &[u8]) -> bool {
 }
 
 fn is_name(names: &[u8], i: usize, text: &[u8]) -> bool {
-    let w = word(names, i);
-    let a = w.start;
-    let b = w.end;
-    same(&names[a..b], text)
+    same(word(names, i), text)
 }
 
 // Which of the names this text is; 16 for none of the first sixteen.
@@ -76,10 +65,7 @@ fn index(names: &[u8], text: &[u8]) -> usize {
 
 // Which of the names the line's word is.
 pub(crate) fn name(names: &[u8], line: &[u8], n: usize) -> usize {
-    let w = word(line, n);
-    let a = w.start;
-    let b = w.end;
-    index(names, &line[a..b])
+    index(names, word(line, n))
 }
 
 // One word more at a space, up to 4,096.
@@ -126,10 +112,7 @@ fn decimal(text: &[u8]) -> u32 {
 
 // The line's word as a number in decimal.
 pub(crate) fn number(line: &[u8], n: usize) -> u32 {
-    let w = word(line, n);
-    let a = w.start;
-    let b = w.end;
-    decimal(&line[a..b])
+    decimal(word(line, n))
 }
 
 // The same as a byte.

@@ -1,9 +1,8 @@
-//! The rows of calls on a station, and of whole sessions: both are lists of events.
+//! The rows of calls on a station, and of whole sessions.
 
 use crate::words::Line;
 use crate::{hex, joined};
-use lunozhar_reference::header;
-use lunozhar_reference::session::{self, event, file};
+use lunozhar_reference::session::{self, file};
 use lunozhar_reference::station::{Handled, OwnPong, State, LINES, OUTPUT};
 use lunozhar_reference::table::Table;
 
@@ -43,13 +42,6 @@ fn small(number: u32) -> u16 {
     u16::try_from(number).expect("a number of two bytes")
 }
 
-/// Nineteen bytes of a header, the payload's length, the payload.
-fn framed(head: &[u8], payload: &[u8]) -> Vec<u8> {
-    let number = head[..16].try_into().expect("a message's number");
-    assert_eq!(head.len(), 19, "number, type, TTL and Hops");
-    header::message(number, head[16], head[17], head[18], payload)
-}
-
 /// The event whose name is this word, and how many words it takes.
 fn event_at(line: &Line, n: usize) -> (Event, usize) {
     let (number, byte, size) = (|k| line.number(n + k), |k| line.byte(n + k), |k| line.size(n + k));
@@ -57,11 +49,7 @@ fn event_at(line: &Line, n: usize) -> (Event, usize) {
     match line.word(n) {
         "open" => (Event::Open(number(1)), 2),
         "close" => (Event::Close(number(1)), 2),
-        "message" => {
-            let bytes = framed(&line.bytes(n + 3), &line.bytes(n + 4));
-            (Event::Message { line: number(1), clock: number(2), bytes }, 5)
-        }
-        "raw" => (Event::Message { line: number(1), clock: number(2), bytes: line.bytes(n + 3) }, 4),
+        "message" => (Event::Message { line: number(1), clock: number(2), bytes: line.bytes(n + 3) }, 4),
         "ask" => {
             let number = line.bytes(n + 1).try_into().expect("a message's number");
             (Event::Ask { number, text: line.bytes(n + 2) }, 3)
@@ -197,16 +185,8 @@ pub fn text(label: &str, file: &[u8]) -> String {
     text.lines().map(|row| format!("session {label} {row}\n")).collect()
 }
 
+/// The file of a line's words from the third on, each an event.
 pub fn session(line: &Line) -> String {
-    let byte = |line: u32| u8::try_from(line).expect("a line of one byte");
-    let events: Vec<Vec<u8>> = events(line)
-        .into_iter()
-        .map(|brought| match brought {
-            Event::Open(line) => event(0, byte(line), 0, b""),
-            Event::Close(line) => event(1, byte(line), 0, b""),
-            Event::Message { line, clock, bytes } => event(2, byte(line), clock, &bytes),
-            _ => panic!("no event of a session"),
-        })
-        .collect();
+    let events: Vec<Vec<u8>> = (2..line.count()).map(|n| line.bytes(n)).collect();
     text(line.shown(1), &file(&events))
 }

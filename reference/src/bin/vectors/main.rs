@@ -99,19 +99,23 @@ fn withheld(line: &Line) -> String {
 /// The message number 00 01 02 .. 0F.
 const NUMBER: [u8; 16] = [0, 1, 2, 3, 4, 5, 6, 7, 8, 9, 10, 11, 12, 13, 14, 15];
 
+/// The update that the words from this one on ask for, and its bytes.
+fn written(line: &Line, n: usize) -> (u8, Vec<u8>) {
+    let (old, new) = (line.bytes(n + 1), line.bytes(n + 3));
+    let old = (line.number(n) != 0).then(|| Entries { entries: &old, infinity: line.byte(n + 2) });
+    let new = Entries { entries: &new, infinity: line.byte(n + 4) };
+    let mut area = vec![0; line.size(n + 6)];
+    let done = write_table(old, new, &NUMBER, line.size(n + 5), &mut area);
+    area.truncate(done.written);
+    (done.answer, area)
+}
+
 fn table(line: &Line) -> String {
-    let (old, new) = (line.bytes(3), line.bytes(5));
-    let old = (line.number(2) != 0).then(|| Entries { entries: &old, infinity: line.byte(4) });
-    let new = Entries { entries: &new, infinity: line.byte(6) };
-    let mut area = vec![0; line.size(8)];
-    let done = write_table(old, new, &NUMBER, line.size(7), &mut area);
-    format!("table {} {} {} {}\n", line.shown(1), done.answer, done.written, hex(&area[..done.written]))
+    let (answer, bytes) = written(line, 2);
+    format!("table {} {answer} {} {}\n", line.shown(1), bytes.len(), hex(&bytes))
 }
 
 fn run(line: &Line) -> String {
-    let (length, bits, size) = (line.size(1), line.number(2), line.size(3));
-    let entries = vec![if bits == 4 { 127 } else { 1 }; length];
-    let mut area = vec![0; 131_072];
-    let done = write_table(None, Entries { entries: &entries, infinity: 127 }, &NUMBER, size, &mut area);
-    format!("run {length} {bits} {size} {} {}\n", done.answer, done.written)
+    let (answer, bytes) = written(line, 4);
+    format!("run {} {} {} {answer} {}\n", line.shown(1), line.shown(2), line.shown(3), bytes.len())
 }

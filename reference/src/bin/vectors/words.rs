@@ -48,8 +48,19 @@ impl<'a> Line<'a> {
     }
 }
 
-/// Between two `\` the bytes are hexadecimal; elsewhere `*N*` gives the byte before it N times in all, and some letters stand for others.
+/// Where a `%` stands, the length in four bytes of what follows it.
 fn bytes(word: &str) -> Vec<u8> {
+    match word.split_once('%') {
+        Some((head, body)) => {
+            let body = bytes(body);
+            [plain(head), (body.len() as u32).to_le_bytes().to_vec(), body].concat()
+        }
+        None => plain(word),
+    }
+}
+
+/// Between two `\` the bytes are hexadecimal; elsewhere `*N*` gives the byte before it N times in all, and some letters stand for others.
+fn plain(word: &str) -> Vec<u8> {
     let mut bytes = Vec::new();
     for (i, piece) in word.split('\\').enumerate() {
         if i % 2 == 1 {

@@ -7,10 +7,10 @@ use Rattle.vectors.proofs.events.run.Statement.{statement}
 use Rattle.vectors.proofs.events.run.Tie as tie
 
 abbrev Inv-loop : tie.InvT-loop
-Inv-loop line show out₀ route₀ count w₀ t₀ some₀ n₀ out route w t some n = (length out ≡ length out₀) × (length route ≡ length route₀) × (n ≤ 8192)
+Inv-loop line show own out₀ route₀ count w₀ some₀ n₀ out route w some n = (length out ≡ length out₀) × (length route ≡ length route₀)
 
 abbrev μ-loop : tie.MeasureT-loop
-μ-loop line show out₀ route₀ count w₀ t₀ some₀ n₀ out route w t some n = 8192 - n
+μ-loop line show own out₀ route₀ count w₀ some₀ n₀ out route w some n = 4096 - n
 
 count-requires : tie.Need-count-requires Inv-loop μ-loop
 count-requires c κs = search needs
@@ -23,9 +23,6 @@ loop-holds c = search needs
 
 kind-of-requires : tie.Need-kind-of-requires Inv-loop μ-loop
 kind-of-requires c κs = search needs
-
-terms-after-requires : tie.Need-terms-after-requires Inv-loop μ-loop
-terms-after-requires c κs = search needs
 
 event-requires : tie.Need-event-requires Inv-loop μ-loop
 event-requires c κs = search needs
@@ -64,7 +61,6 @@ run-spec =
     begun-requires
     loop-holds
     kind-of-requires
-    terms-after-requires
     event-requires
     answer-requires
     width-requires

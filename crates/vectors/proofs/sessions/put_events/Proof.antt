@@ -7,28 +7,22 @@ use Rattle.vectors.proofs.sessions.put_events.Statement.{statement}
 use Rattle.vectors.proofs.sessions.put_events.Tie as tie
 
 abbrev Inv-loop : tie.InvT-loop
-Inv-loop line area₀ head count at₀ offset₀ n₀ area at offset n = (length area ≡ length area₀) × (n ≤ 8192)
+Inv-loop line count area₀ head at₀ n₀ area at n = (length area ≡ length area₀) × (n ≤ 4097)
 
 abbrev μ-loop : tie.MeasureT-loop
-μ-loop line area₀ head count at₀ offset₀ n₀ area at offset n = 8192 - n
-
-count-requires : tie.Need-count-requires Inv-loop μ-loop
-count-requires c κs = search needs
+μ-loop line count area₀ head at₀ n₀ area at n = 4097 - n
 
 loop-holds : tie.Need-loop-holds Inv-loop μ-loop
 loop-holds c = search needs
 
-put-event-requires : tie.Need-put-event-requires Inv-loop μ-loop
-put-event-requires c κs = search needs
+bytes-at-requires : tie.Need-bytes-at-requires Inv-loop μ-loop
+bytes-at-requires c κs = search needs
+
+mul-put-number : tie.Need-mul-put-number Inv-loop μ-loop
+mul-put-number c = search needs
 
 put-number-requires : tie.Need-put-number-requires Inv-loop μ-loop
 put-number-requires c κs = search needs
-
-kind-of-requires : tie.Need-kind-of-requires Inv-loop μ-loop
-kind-of-requires c κs = search needs
-
-width-requires : tie.Need-width-requires Inv-loop μ-loop
-width-requires c κs = search needs
 
 add-n : tie.Need-add-n Inv-loop μ-loop
 add-n c = search needs
@@ -51,12 +45,10 @@ put-events-spec =
     (tie.spec
     Inv-loop
     μ-loop
-    count-requires
     loop-holds
-    put-event-requires
+    bytes-at-requires
+    mul-put-number
     put-number-requires
-    kind-of-requires
-    width-requires
     add-n
     loop-less
     loop-again

@@ -18,6 +18,15 @@ loop-holds c = search needs
 word-end-requires : tie.Need-word-end-requires Inv-loop μ-loop
 word-end-requires c κs = search needs
 
+sub-result : tie.Need-sub-result Inv-loop μ-loop
+sub-result c = search needs
+
+part-result-start : tie.Need-part-result-start Inv-loop μ-loop
+part-result-start c = search needs
+
+part-result-end : tie.Need-part-result-end Inv-loop μ-loop
+part-result-end c = search needs
+
 returns : tie.Need-returns Inv-loop μ-loop
 returns c = search needs
 
@@ -36,6 +45,15 @@ loop-again c = search needs
 word-end-requires-2 : tie.Need-word-end-requires-2 Inv-loop μ-loop
 word-end-requires-2 c κs = search needs
 
+sub-result-2 : tie.Need-sub-result-2 Inv-loop μ-loop
+sub-result-2 c = search needs
+
+part-result-start-2 : tie.Need-part-result-start-2 Inv-loop μ-loop
+part-result-start-2 c = search needs
+
+part-result-end-2 : tie.Need-part-result-end-2 Inv-loop μ-loop
+part-result-end-2 c = search needs
+
 returns-2 : tie.Need-returns-2 Inv-loop μ-loop
 returns-2 c = search needs
 
@@ -47,10 +65,16 @@ word-spec =
     μ-loop
     loop-holds
     word-end-requires
+    sub-result
+    part-result-start
+    part-result-end
     returns
     add-start
     add-k
     loop-less
     loop-again
     word-end-requires-2
+    sub-result-2
+    part-result-start-2
+    part-result-end-2
     returns-2)
