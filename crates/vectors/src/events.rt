@@ -7,19 +7,16 @@ use crate::words;
 use protocol::Changed;
 use protocol::Handled;
 use protocol::Own;
+use protocol::Station;
 
 // Which event a word names.
 pub(crate) fn kind_of(line: &[u8], n: usize) -> usize {
-    words::name(
-        b"open close message ask terms ring kept line hops table fill",
-        line,
-        n,
-    )
+    words::name(b"open close message ask terms kept line fill", line, n)
 }
 
 // How many words an event of this kind takes, its own name with them.
 pub(crate) fn width(kind: usize) -> usize
-    ensures { λ r. ⌜ (1 ≤ r) × (r ≤ 9) ⌝ }
+    ensures { λ r. ⌜ (1 ≤ r) × (r ≤ 14) ⌝ }
 {
     match kind {
         0 => 2,
@@ -27,12 +24,9 @@ pub(crate) fn width(kind: usize) -> usize
         2 => 4,
         3 => 3,
         4 => 4,
-        5 => 3,
-        6 => 4,
-        7 => 6,
-        8 => 4,
-        9 => 9,
-        10 => 2,
+        5 => 6,
+        6 => 14,
+        7 => 2,
         _ => 1,
     }
 }
@@ -128,7 +122,7 @@ fn event(
 }
 
 // The answer of an event, where it is a call and shown.
-fn answer(show: bool, kind: usize, some: bool, n: u8) -> bool {
+fn show_answer(show: bool, kind: usize, some: bool, n: u8) -> bool {
     if !show {
         return some;
     }
@@ -153,7 +147,7 @@ fn run(line: &[u8], show: bool, own: Own, out: &mut [u8], route: &mut [u8]) -> H
     while n < count {
         let kind = kind_of(line, n);
         w = event(w, kind, line, n, own, &mut *out, &mut *route);
-        some = answer(show, kind, some, w.answer);
+        some = show_answer(show, kind, some, w.answer);
         n += width(kind);
     }
     w
@@ -174,40 +168,65 @@ fn ran(line: &[u8], show: bool, out: &mut [u8], route: &mut [u8]) -> Handled {
     run(line, show, own(calls), &mut out[..a], &mut route[..b])
 }
 
-// Line 1's mark and its four entries.
-fn table_words(w: Handled, part: &[u8]) {
-    let state = w.state;
-    let neighbour = state.lines[1];
-    let table = neighbour.table;
-    print::number(table.mark as u64);
-    print::list(part);
+// What the last call did but for the state: lines sent to, whether it is searched for, whether it is delivered, where that is said.
+fn sent(to: [bool; 8], search: bool) {
+    print::flags(to);
+    print::flag(search);
 }
 
-pub(crate) fn case(line: &[u8]) {
-    let mut out = [0u8; 4120];
-    let mut route = [0u8; 64];
-    let w = ran(line, false, &mut out, &mut route);
-    print::start(b"case", line);
-    print::numbers(&[w.answer as u64, w.used as u64]);
-    let to = w.to;
-    print::flags(to);
-    print::flag(w.search);
-    table_words(w, &route[4..8]);
-    print::hex(&out, w.written);
+fn calls_words(
+    used: usize,
+    to: [bool; 8],
+    search: bool,
+    delivered: bool,
+    out: &[u8],
+    written: usize,
+) {
+    print::number(used as u64);
+    sent(to, search);
+    print::flag(delivered);
+    print::hex(out, written);
     print::end();
 }
 
 pub(crate) fn calls(line: &[u8]) {
     let mut out = [0u8; 4120];
     let mut route = [0u8; 64];
-    print::start(b"calls", line);
+    print::start(line);
     let w = ran(line, true, &mut out, &mut route);
-    print::number(w.used as u64);
     let to = w.to;
-    print::flags(to);
-    print::flag(w.search);
-    print::flag(w.delivered);
-    print::hex(&out, w.written);
+    calls_words(w.used, to, w.search, w.delivered, &out, w.written);
+}
+
+fn case_words(line: &[u8], answer: u8, used: usize, to: [bool; 8], search: bool) {
+    print::start(line);
+    print::answer(answer, used);
+    sent(to, search);
+}
+
+// The mark of line 1's table, its four entries, and the bytes written.
+fn table_words(state: Station, part: &[u8], out: &[u8], written: usize) {
+    let neighbour = state.lines[1];
+    let table = neighbour.table;
+    print::number(table.mark as u64);
+    print::list(part);
+    print::hex(out, written);
+    print::end();
+}
+
+pub(crate) fn case(line: &[u8]) {
+    let mut out = [0u8; 4120];
+    let mut route = [0u8; 64];
+    let w = ran(line, false, &mut out, &mut route);
+    let to = w.to;
+    case_words(line, w.answer, w.used, to, w.search);
+    let state = w.state;
+    table_words(state, &route[4..8], &out, w.written);
+}
+
+fn order_words(line: &[u8], answer: u8) {
+    print::start(line);
+    print::number(answer as u64);
     print::end();
 }
 
@@ -215,7 +234,5 @@ pub(crate) fn order(line: &[u8]) {
     let mut out = [0u8; 4120];
     let mut route = [0u8; 64];
     let w = ran(line, false, &mut out, &mut route);
-    print::start(b"order", line);
-    print::number(w.answer as u64);
-    print::end();
+    order_words(line, w.answer);
 }

@@ -2,36 +2,41 @@
 use crate::decode;
 use crate::print;
 use crate::words;
+use handshake::Asked;
+use handshake::Group;
 use tryhosts::Pair;
 use tryhosts::Pairs;
+use tryhosts::TriedGroup;
 use tryhosts::Wrote;
 
-pub(crate) fn group(line: &[u8]) {
-    let mut area = [0u8; 8192];
-    let n = decode::bytes(line, 2, &mut area);
-    let g = handshake::read_group(&area[..n]);
-    print::start(b"group", line);
-    print::numbers(
-        &[
-            g.answer as u64,
-            g.used as u64,
-            g.kind as u64,
-            g.major as u64,
-        ],
-    );
+fn group_words(line: &[u8], g: Group) {
+    print::start(line);
+    print::answer(g.answer, g.used);
+    print::number(g.kind as u64);
+    print::number(g.major as u64);
     io::write_all(1, b".");
     io::print_decimal(1, g.minor as u64);
     print::number(g.code as u64);
     print::end();
 }
 
+pub(crate) fn group(line: &[u8]) {
+    let mut area = [0u8; 8192];
+    let n = decode::bytes(line, 2, &mut area);
+    group_words(line, handshake::read_group(&area[..n]));
+}
+
+fn field_words(line: &[u8], r: Asked, value: &[u8]) {
+    print::start(line);
+    print::same(line, 2);
+    print::answer(r.answer, r.used);
+    print::hex(value, r.written);
+    print::end();
+}
+
 fn field_in(line: &[u8], name: &[u8], bytes: &[u8], area: &mut [u8]) {
     let r = handshake::field(bytes, name, &mut *area);
-    print::start(b"field", line);
-    print::same(line, 2);
-    print::numbers(&[r.answer as u64, r.used as u64]);
-    print::hex(area, r.written);
-    print::end();
+    field_words(line, r, area);
 }
 
 pub(crate) fn field(line: &[u8]) {
@@ -75,15 +80,18 @@ fn pairs_words(found: Pairs) {
     }
 }
 
-pub(crate) fn try_hosts(line: &[u8]) {
-    let mut area = [0u8; 8192];
-    let n = decode::bytes(line, 2, &mut area);
-    let r = tryhosts::group::try_pairs(&area[..n]);
-    print::start(b"try", line);
-    print::numbers(&[r.answer as u64, r.used as u64]);
+fn try_words(line: &[u8], r: TriedGroup) {
+    print::start(line);
+    print::answer(r.answer, r.used);
     let found = r.pairs;
     pairs_words(found);
     print::end();
+}
+
+pub(crate) fn try_hosts(line: &[u8]) {
+    let mut area = [0u8; 8192];
+    let n = decode::bytes(line, 2, &mut area);
+    try_words(line, tryhosts::group::try_pairs(&area[..n]));
 }
 
 // The pair whose six bytes stand here: the address, and the port with its low byte first.
@@ -124,12 +132,16 @@ fn wrote(line: &[u8], pairs: Pairs, out: &mut [u8]) -> Wrote {
     }
 }
 
-fn written_in(line: &[u8], pairs: Pairs, out: &mut [u8]) {
-    let r = wrote(line, pairs, &mut *out);
-    print::start(b"written", line);
+fn written_words(line: &[u8], r: Wrote, out: &[u8]) {
+    print::start(line);
     print::number(r.answer as u64);
     print::hex(out, r.written);
     print::end();
+}
+
+fn written_in(line: &[u8], pairs: Pairs, out: &mut [u8]) {
+    let r = wrote(line, pairs, &mut *out);
+    written_words(line, r, out);
 }
 
 pub(crate) fn written(line: &[u8]) {

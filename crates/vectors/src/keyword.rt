@@ -7,8 +7,7 @@ pub(crate) fn place(line: &[u8]) {
     let bits = words::number(line, 1);
     let mut area = [0u8; 256];
     let n = decode::bytes(line, 2, &mut area);
-    io::write_all(1, b"place");
-    print::number(bits as u64);
+    print::start(line);
     print::same(line, 2);
     print::number(keywords::hash::place(&area[..n], bits) as u64);
     print::end();
@@ -18,7 +17,7 @@ pub(crate) fn place(line: &[u8]) {
 pub(crate) fn case(line: &[u8]) {
     let mut area = [0u8; 256];
     let n = decode::bytes(line, 2, &mut area);
-    print::start(b"case", line);
+    print::start_as(b"case", line);
     print::number(keywords::hash::place(&area[..n], 13) as u64);
     print::end();
 }
@@ -62,8 +61,7 @@ fn cuts(text: &[u8]) {
 pub(crate) fn keywords(line: &[u8]) {
     let mut area = [0u8; 256];
     let n = decode::bytes(line, 1, &mut area);
-    io::write_all(1, b"keywords");
-    print::same(line, 1);
+    print::start(line);
     cuts(&area[..n]);
     print::end();
 }

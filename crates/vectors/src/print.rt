@@ -14,12 +14,10 @@ pub(crate) fn number(n: u64) {
     io::print_decimal(1, n);
 }
 
-pub(crate) fn numbers(list: &[u64]) {
-    let mut i = 0;
-    while i < list.len() {
-        number(list[i]);
-        i += 1;
-    }
+// An answer and how many bytes were used, or written.
+pub(crate) fn answer(n: u8, size: usize) {
+    number(n as u64);
+    number(size as u64);
 }
 
 pub(crate) fn end() {
@@ -96,8 +94,14 @@ pub(crate) fn same(line: &[u8], n: usize) {
     word(words::word(line, n));
 }
 
-// The row's kind, and its label, which is the line's second word.
-pub(crate) fn start(kind: &[u8], line: &[u8]) {
+// The row's kind and its label, which are the line's first two words.
+pub(crate) fn start(line: &[u8]) {
+    io::write_all(1, words::word(line, 0));
+    same(line, 1);
+}
+
+// The same with another kind.
+pub(crate) fn start_as(kind: &[u8], line: &[u8]) {
     io::write_all(1, kind);
     same(line, 1);
 }

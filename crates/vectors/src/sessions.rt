@@ -9,7 +9,7 @@ fn rows(line: &[u8], text: &[u8]) {
     let mut at = 0;
     while at < text.len() {
         let end = words::word_end(text, at, b'\n');
-        print::start(b"session", line);
+        print::start_as(b"session", line);
         print::word(&text[at..end]);
         print::end();
         at = end + 1;

@@ -3,16 +3,17 @@ ghost use Prim.Native.Nat.{_≤_};
 use crate::words;
 use protocol::Handled;
 use protocol::Line;
+use protocol::Pong;
 use protocol::Station;
 use tables::Table;
 
-// The nine words from this one on, as numbers.
-pub(crate) fn numbers(line: &[u8], n: usize) -> [u32; 9]
+// The words from this one on, as numbers.
+pub(crate) fn numbers(line: &[u8], n: usize) -> [u32; 14]
     requires { ⌜ n ≤ 4096 ⌝ }
 {
-    let mut v = [0u32; 9];
+    let mut v = [0u32; 14];
     let mut i: usize = 0;
-    while i < 9 {
+    while i < 14 {
         v[i] = words::number(line, n + i);
         i += 1;
     }
@@ -23,69 +24,66 @@ fn byte(n: u32) -> u8 {
     (n % 256) as u8
 }
 
-// `ring COUNT NEXT`
-fn ring(mut s: Station, v: [u32; 9]) -> Station {
-    s.count = v[1] as usize;
-    s.next = v[2] as usize;
-    s
-}
-
-// `kept I NUMBER ASKER`: the number's low half, its high half being 0
-fn kept(mut s: Station, v: [u32; 9]) -> Station {
+// `kept I NUMBER ASKER COUNT NEXT`: the low half of the number at a place, its high half being 0, its asker, and the ring's count and next
+fn kept(mut s: Station, v: [u32; 14]) -> Station {
     let i = (v[1] % 512) as usize;
     s.lo[i] = v[2] as u64;
     s.hi[i] = 0;
     s.asker[i] = byte(v[3]);
+    s.count = v[4] as usize;
+    s.next = v[5] as usize;
     s
 }
 
-// `line L OPEN PINGED PONGS NEXT`
-fn fields(mut x: Line, v: [u32; 9]) -> Line {
-    x.live = v[2] != 0;
-    x.pinged = v[3] != 0;
-    x.pongcount = v[4] as usize;
-    x.pongnext = v[5] as usize;
-    x
-}
-
-// `hops L I HOPS`: of the pong at a place
-fn hops(mut x: Line, v: [u32; 9]) -> Line {
-    let i = (v[2] % 10) as usize;
-    let mut p = x.pongs[i];
-    p.hops = byte(v[3]);
-    x.pongs[i] = p;
-    x
-}
-
-// `table L MARK LENGTH INFINITY PLACE SIZE BITS AT`
-fn table(mut x: Line, v: [u32; 9]) -> Line {
-    let t = Table {
-        mark: byte(v[2]),
-        length: v[3],
-        infinity: byte(v[4]),
-        place: byte(v[5]),
-        size: byte(v[6]),
-        bits: byte(v[7]),
-        at: v[8],
+// Ten pongs with Hops 0, but for the one at this place.
+fn pongs(i: usize, hops: u8) -> [Pong; 10] {
+    let bytes = [0u8; 14];
+    let zero = Pong {
+        bytes,
+        hops: 0,
+        clock: 0,
     };
-    x.table = t;
-    x
+    let one = Pong {
+        bytes,
+        hops,
+        clock: 0,
+    };
+    let mut all = [zero; 10];
+    let j = i % 10;
+    all[j] = one;
+    all
 }
 
-fn line_set(x: Line, kind: usize, v: [u32; 9]) -> Line {
-    match kind {
-        7 => fields(x, v),
-        8 => hops(x, v),
-        9 => table(x, v),
-        _ => x,
+fn table(v: [u32; 14]) -> Table {
+    Table {
+        mark: byte(v[7]),
+        length: v[8],
+        infinity: byte(v[9]),
+        place: byte(v[10]),
+        size: byte(v[11]),
+        bits: byte(v[12]),
+        at: v[13],
     }
 }
 
-fn in_line(mut s: Station, kind: usize, v: [u32; 9]) -> Station {
-    let j = (v[1] % 8) as usize;
-    let x = s.lines[j];
-    let y = line_set(x, kind, v);
-    s.lines[j] = y;
+fn line_of(v: [u32; 14]) -> Line {
+    let pongs = pongs((v[5] % 10) as usize, byte(v[6]));
+    let table = table(v);
+    Line {
+        live: v[1] % 2 != 0,
+        pinged: v[2] % 2 != 0,
+        pingtime: 0,
+        pongcount: v[3] as usize,
+        pongnext: v[4] as usize,
+        pongs,
+        table,
+    }
+}
+
+// `line OPEN PINGED PONGS NEXT PLACE HOPS MARK LENGTH INFINITY PLACE SIZE BITS AT`: line 2, with the Hops of the pong at a place
+fn line_set(mut s: Station, v: [u32; 14]) -> Station {
+    let x = line_of(v);
+    s.lines[2] = x;
     s
 }
 
@@ -112,12 +110,12 @@ fn fill(mut s: Station, who: u8) -> Station {
     s
 }
 
-fn state(s: Station, kind: usize, v: [u32; 9]) -> Station {
+fn state(s: Station, kind: usize, v: [u32; 14]) -> Station {
     match kind {
-        5 => ring(s, v),
-        6 => kept(s, v),
-        10 => fill(s, byte(v[1])),
-        _ => in_line(s, kind, v),
+        5 => kept(s, v),
+        6 => line_set(s, v),
+        7 => fill(s, byte(v[1])),
+        _ => s,
     }
 }
 
@@ -137,7 +135,7 @@ fn with(w: Handled, state: Station) -> Handled {
     }
 }
 
-pub(crate) fn set(w: Handled, kind: usize, v: [u32; 9]) -> Handled {
+pub(crate) fn set(w: Handled, kind: usize, v: [u32; 14]) -> Handled {
     let s = w.state;
     with(w, state(s, kind, v))
 }

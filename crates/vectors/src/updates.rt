@@ -50,19 +50,26 @@ fn run(line: &[u8], from: usize, ttl: u8, hops: u8, part: &mut [u8]) -> Updated 
     u
 }
 
-fn table_words(answer: u8, t: Table) {
-    print::numbers(
-        &[
-            answer as u64,
-            t.mark as u64,
-            t.length as u64,
-            t.infinity as u64,
-            t.place as u64,
-            t.size as u64,
-            t.bits as u64,
-            t.at as u64,
-        ],
-    );
+fn run_position(t: Table) {
+    print::number(t.place as u64);
+    print::number(t.size as u64);
+    print::number(t.bits as u64);
+    print::number(t.at as u64);
+}
+
+fn table_words(t: Table) {
+    print::number(t.mark as u64);
+    print::number(t.length as u64);
+    print::number(t.infinity as u64);
+    run_position(t);
+}
+
+fn update_words(line: &[u8], answer: u8, t: Table, part: &[u8]) {
+    print::start(line);
+    print::number(answer as u64);
+    table_words(t);
+    print::list(part);
+    print::end();
 }
 
 pub(crate) fn update(line: &[u8]) {
@@ -74,11 +81,8 @@ pub(crate) fn update(line: &[u8]) {
         words::byte(line, 3),
         &mut part,
     );
-    print::start(b"update", line);
     let table = u.table;
-    table_words(u.answer, table);
-    print::list(&part);
-    print::end();
+    update_words(line, u.answer, table, &part);
 }
 
 fn held_back(line: &[u8], table: Table, part: &[u8]) -> bool {
@@ -88,13 +92,17 @@ fn held_back(line: &[u8], table: Table, part: &[u8]) -> bool {
     tables::admission::withheld(table, part, ttl, &text[..n])
 }
 
+fn withheld_words(line: &[u8], answer: bool) {
+    print::start(line);
+    print::same(line, 2);
+    print::same(line, 3);
+    print::flag(answer);
+    print::end();
+}
+
 pub(crate) fn withheld(line: &[u8]) {
     let mut part = [7u8; 8];
     let u = run(line, 4, 1, 0, &mut part);
     let table = u.table;
-    print::start(b"withheld", line);
-    print::same(line, 2);
-    print::same(line, 3);
-    print::flag(held_back(line, table, &part));
-    print::end();
+    withheld_words(line, held_back(line, table, &part));
 }

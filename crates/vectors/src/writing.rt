@@ -32,21 +32,29 @@ fn written(line: &[u8], at: usize, out: &mut [u8]) -> Written
     update(line, at, &old[..n], &new[..m], &mut out[..k])
 }
 
+fn table_words(line: &[u8], r: Written, out: &[u8]) {
+    print::start(line);
+    print::answer(r.answer, r.written);
+    print::hex(out, r.written);
+    print::end();
+}
+
 pub(crate) fn table(line: &[u8]) {
     let mut out = [0u8; 512];
     let r = written(line, 2, &mut out);
-    print::start(b"table", line);
-    print::numbers(&[r.answer as u64, r.written as u64]);
-    print::hex(&out, r.written);
+    table_words(line, r, &out);
+}
+
+fn run_words(line: &[u8], r: Written) {
+    print::start(line);
+    print::same(line, 2);
+    print::same(line, 3);
+    print::answer(r.answer, r.written);
     print::end();
 }
 
 pub(crate) fn run(line: &[u8]) {
     let mut out = [0u8; 73728];
     let r = written(line, 4, &mut out);
-    print::start(b"run", line);
-    print::same(line, 2);
-    print::same(line, 3);
-    print::numbers(&[r.answer as u64, r.written as u64]);
-    print::end();
+    run_words(line, r);
 }

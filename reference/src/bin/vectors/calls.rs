@@ -3,7 +3,7 @@
 use crate::words::Line;
 use crate::{hex, joined};
 use lunozhar_reference::session::{self, file};
-use lunozhar_reference::station::{Handled, OwnPong, State, LINES, OUTPUT};
+use lunozhar_reference::station::{Handled, Line as Record, OwnPong, State, LINES, OUTPUT};
 use lunozhar_reference::table::Table;
 
 /// An event of a line.
@@ -29,11 +29,8 @@ enum Event {
 }
 
 enum Set {
-    Ring { count: u16, next: u16 },
-    Kept { place: usize, number: u32, asker: u8 },
-    Line { line: usize, open: bool, pinged: bool, pongs: u8, next: u8 },
-    Hops { line: usize, place: usize, hops: u8 },
-    Table { line: usize, table: Table },
+    Kept { place: usize, number: u32, asker: u8, count: u16, next: u16 },
+    Line(Box<Record>),
     /// A full memory, whose oldest number is 0 and whose newest is 511.
     Fill { asker: u8 },
 }
@@ -55,14 +52,16 @@ fn event_at(line: &Line, n: usize) -> (Event, usize) {
             (Event::Ask { number, text: line.bytes(n + 2) }, 3)
         }
         "terms" => (Event::Terms { output: size(1), route: size(2), calls: flag(3) }, 4),
-        "ring" => (Event::Set(Set::Ring { count: small(number(1)), next: small(number(2)) }), 3),
-        "kept" => (Event::Set(Set::Kept { place: size(1), number: number(2), asker: byte(3) }), 4),
-        "line" => (Event::Set(Set::Line { line: size(1), open: flag(2), pinged: flag(3), pongs: byte(4), next: byte(5) }), 6),
-        "hops" => (Event::Set(Set::Hops { line: size(1), place: size(2), hops: byte(3) }), 4),
-        "table" => {
-            let (mark, length, infinity) = (byte(2), number(3), byte(4));
-            let table = Table { mark, length, infinity, place: byte(5), size: byte(6), bits: byte(7), at: number(8) };
-            (Event::Set(Set::Table { line: size(1), table }), 9)
+        "kept" => {
+            let (count, next) = (small(number(4)), small(number(5)));
+            (Event::Set(Set::Kept { place: size(1), number: number(2), asker: byte(3), count, next }), 6)
+        }
+        "line" => {
+            let mut record = Record { open: flag(1), pinged: flag(2), pong_count: byte(3), pong_next: byte(4), ..Record::CLOSED };
+            record.pongs[size(5)].hops = byte(6);
+            let (mark, length, infinity) = (byte(7), number(8), byte(9));
+            record.table = Table { mark, length, infinity, place: byte(10), size: byte(11), bits: byte(12), at: number(13) };
+            (Event::Set(Set::Line(Box::new(record))), 14)
         }
         "fill" => (Event::Set(Set::Fill { asker: byte(1) }), 2),
         other => panic!("no event: {other:?}"),
@@ -130,17 +129,12 @@ impl World {
     fn set(&mut self, set: Set) {
         let state = &mut self.state;
         match set {
-            Set::Ring { count, next } => (state.count, state.next) = (count, next),
-            Set::Kept { place, number, asker } => {
+            Set::Kept { place, number, asker, count, next } => {
                 state.numbers[place] = u128::from(number).to_le_bytes();
                 state.askers[place] = asker;
+                (state.count, state.next) = (count, next);
             }
-            Set::Line { line, open, pinged, pongs, next } => {
-                let line = &mut state.lines[line];
-                (line.open, line.pinged, line.pong_count, line.pong_next) = (open, pinged, pongs, next);
-            }
-            Set::Hops { line, place, hops } => state.lines[line].pongs[place].hops = hops,
-            Set::Table { line, table } => state.lines[line].table = table,
+            Set::Line(record) => state.lines[2] = *record,
             Set::Fill { asker } => {
                 for (number, kept) in state.numbers.iter_mut().enumerate() {
                     *kept = (number as u128).to_le_bytes();

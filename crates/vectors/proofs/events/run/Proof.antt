@@ -27,8 +27,8 @@ kind-of-requires c κs = search needs
 event-requires : tie.Need-event-requires Inv-loop μ-loop
 event-requires c κs = search needs
 
-answer-requires : tie.Need-answer-requires Inv-loop μ-loop
-answer-requires c κs = search needs
+show-answer-requires : tie.Need-show-answer-requires Inv-loop μ-loop
+show-answer-requires c κs = search needs
 
 width-requires : tie.Need-width-requires Inv-loop μ-loop
 width-requires c κs = search needs
@@ -62,7 +62,7 @@ run-spec =
     loop-holds
     kind-of-requires
     event-requires
-    answer-requires
+    show-answer-requires
     width-requires
     add-n
     loop-less

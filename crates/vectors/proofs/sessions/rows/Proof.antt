@@ -18,11 +18,11 @@ loop-holds c = search needs
 word-end-requires : tie.Need-word-end-requires Inv-loop μ-loop
 word-end-requires c κs = search needs
 
-slice-aggregate-start : tie.Need-slice-aggregate-start Inv-loop μ-loop
-slice-aggregate-start c = search needs
+slice-aggregate-start-as : tie.Need-slice-aggregate-start-as Inv-loop μ-loop
+slice-aggregate-start-as c = search needs
 
-start-requires : tie.Need-start-requires Inv-loop μ-loop
-start-requires c κs = search needs
+start-as-requires : tie.Need-start-as-requires Inv-loop μ-loop
+start-as-requires c κs = search needs
 
 sub-word : tie.Need-sub-word Inv-loop μ-loop
 sub-word c = search needs
@@ -59,8 +59,8 @@ rows-spec =
     μ-loop
     loop-holds
     word-end-requires
-    slice-aggregate-start
-    start-requires
+    slice-aggregate-start-as
+    start-as-requires
     sub-word
     part-word-start
     part-word-end

@@ -7,10 +7,10 @@ use Rattle.vectors.proofs.sets.numbers.Statement.{statement}
 use Rattle.vectors.proofs.sets.numbers.Tie as tie
 
 abbrev Inv-loop : tie.InvT-loop
-Inv-loop line n v₀ i₀ v i = i ≤ 9
+Inv-loop line n v₀ i₀ v i = i ≤ 14
 
 abbrev μ-loop : tie.MeasureT-loop
-μ-loop line n v₀ i₀ v i = 9 - i
+μ-loop line n v₀ i₀ v i = 14 - i
 
 loop-holds : tie.Need-loop-holds Inv-loop μ-loop
 loop-holds c = search needs
