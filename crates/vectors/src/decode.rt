@@ -1,5 +1,6 @@
-// A word that stands for bytes: text in which `_` is a space, `|` CR and LF, `^` a CR, `~` an LF, `>` a tab; hexadecimal between two
-// `\`; `*N*`, the byte before it N times in all; and `%`, the length in four bytes of what follows it. The word `-` is no byte.
+// A word that stands for bytes: text in which `_` is a space, `|` CR and LF, `^` a CR, `~` an LF, `>` a tab;
+// hexadecimal between two `\`; `*N*`, the byte before it N times in all; and `%`, the length in four bytes of what
+// follows it. The word `-` is no byte.
 ghost use lib.ListN.{length};
 ghost use Rattle.io.specs.Counts.{Counts};
 use crate::words;
@@ -13,8 +14,8 @@ const HALF: u8 = 2;
 
 const TIMES: u8 = 3;
 
-// Where reading stands: what the next byte is read as, the number so far, the last byte put, the place for the next, and the place
-// behind the last length.
+// Where reading stands: what the next byte is read as, the number so far, the last byte put, the place for the next,
+// and the place behind the last length.
 struct Reading {
     mode: u8,
     number: u32,

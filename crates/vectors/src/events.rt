@@ -1,4 +1,5 @@
-// `case LABEL EVENT ..`, `calls LABEL EVENT ..` and `order LABEL EVENT ..`: events on a fresh station with a route area of 32 bytes.
+// `case LABEL EVENT ..`, `calls LABEL EVENT ..` and `order LABEL EVENT ..`: events on a fresh station over a route
+// area of 32 bytes.
 ghost use Prim.Native.Nat.{_≤_};
 use crate::decode;
 use crate::print;
@@ -153,7 +154,8 @@ fn run(line: &[u8], show: bool, own: Own, out: &mut [u8], route: &mut [u8]) -> H
     w
 }
 
-// A number of `terms OUTPUT ROUTE CALLS`, if that comes first: how much of the two areas is lent, and whether the station takes calls.
+// A number of `terms OUTPUT ROUTE CALLS`, if that comes first: how much of the two areas is lent, and whether the
+// station takes calls.
 fn term(line: &[u8], n: usize, usual: usize) -> usize {
     if kind_of(line, 2) == 4 {
         return words::number(line, n) as usize;
@@ -168,7 +170,7 @@ fn ran(line: &[u8], show: bool, out: &mut [u8], route: &mut [u8]) -> Handled {
     run(line, show, own(calls), &mut out[..a], &mut route[..b])
 }
 
-// What the last call did but for the state: lines sent to, whether it is searched for, whether it is delivered, where that is said.
+// The lines sent to, and whether the query is offered to the local search.
 fn sent(to: [bool; 8], search: bool) {
     print::flags(to);
     print::flag(search);

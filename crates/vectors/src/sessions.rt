@@ -1,4 +1,5 @@
-// `session LABEL EVENT ..`, each event a word of bytes, put into a file, and `file LABEL BYTES`; the text of either, a row a line.
+// `session LABEL EVENT ..`, each event a word of bytes, put into a file, and `file LABEL BYTES`; the text of either, a
+// row a line.
 ghost use Prim.Native.Nat.{_≤_};
 use crate::decode;
 use crate::print;

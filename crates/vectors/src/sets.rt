@@ -24,7 +24,8 @@ fn byte(n: u32) -> u8 {
     (n % 256) as u8
 }
 
-// `kept I NUMBER ASKER COUNT NEXT`: the low half of the number at a place, its high half being 0, its asker, and the ring's count and next
+// `kept I NUMBER ASKER COUNT NEXT`: the low half of the number at a place, its high half being 0, its asker, and the
+// ring's count and next place
 fn kept(mut s: Station, v: [u32; 14]) -> Station {
     let i = (v[1] % 512) as usize;
     s.lo[i] = v[2] as u64;
@@ -80,7 +81,8 @@ fn line_of(v: [u32; 14]) -> Line {
     }
 }
 
-// `line OPEN PINGED PONGS NEXT PLACE HOPS MARK LENGTH INFINITY PLACE SIZE BITS AT`: line 2, with the Hops of the pong at a place
+// `line OPEN PINGED PONGS NEXT I HOPS MARK LENGTH INFINITY PLACE SIZE BITS AT`: line 2, with the Hops of the pong at
+// place I
 fn line_set(mut s: Station, v: [u32; 14]) -> Station {
     let x = line_of(v);
     s.lines[2] = x;

@@ -1,5 +1,5 @@
-// `update LABEL TTL HOPS PAYLOAD ..` and `withheld LABEL TTL TEXT PAYLOAD ..`: updates on a part of eight bytes that holds 7 everywhere
-// at first. TTL and Hops are the last update's, those before it have TTL 1 and Hops 0.
+// `update LABEL TTL HOPS PAYLOAD ..` and `withheld LABEL TTL TEXT PAYLOAD ..`: updates on a part of eight bytes that
+// holds 7 everywhere at first. TTL and Hops are the last update's, those before it have TTL 1 and Hops 0.
 use crate::decode;
 use crate::print;
 use crate::words;
@@ -22,7 +22,7 @@ fn none() -> Updated {
 fn step(table: Table, ttl: u8, hops: u8, line: &[u8], n: usize, part: &mut [u8]) -> Updated {
     let mut area = [0u8; 512];
     let size = decode::bytes(line, n, &mut area);
-    tables::updates::update(table, ttl, hops, &area[..size], part)
+    tablereader::updates::update(table, ttl, hops, &area[..size], part)
 }
 
 fn pick(first: bool, a: u8, b: u8) -> u8 {
@@ -89,7 +89,7 @@ fn held_back(line: &[u8], table: Table, part: &[u8]) -> bool {
     let mut text = [0u8; 256];
     let n = decode::bytes(line, 3, &mut text);
     let ttl = words::byte(line, 2);
-    tables::admission::withheld(table, part, ttl, &text[..n])
+    tablereader::admission::withheld(table, part, ttl, &text[..n])
 }
 
 fn withheld_words(line: &[u8], answer: bool) {

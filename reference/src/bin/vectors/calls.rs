@@ -29,10 +29,18 @@ enum Event {
 }
 
 enum Set {
-    Kept { place: usize, number: u32, asker: u8, count: u16, next: u16 },
+    Kept {
+        place: usize,
+        number: u32,
+        asker: u8,
+        count: u16,
+        next: u16,
+    },
     Line(Box<Record>),
     /// A full memory, whose oldest number is 0 and whose newest is 511.
-    Fill { asker: u8 },
+    Fill {
+        asker: u8,
+    },
 }
 
 fn small(number: u32) -> u16 {

@@ -74,7 +74,8 @@ fn cuts(line: &Line) -> String {
     format!("keywords {} {} {}\n", line.shown(1), starts.len(), joined(&starts))
 }
 
-/// The last answer, the table and the part after the updates of a line, its words from the fourth on. The last has this TTL and these Hops.
+/// The last answer, the table and the part after the updates of a line, its words from the fifth on. The last has this TTL and these
+/// Hops.
 fn updated(line: &Line, ttl: u8, hops: u8) -> (u8, Table, [u8; 8]) {
     let (mut answer, mut table, mut part) = (0, Table::EMPTY, [7; 8]);
     for n in 4..line.count() {

@@ -1,6 +1,6 @@
-use Prim.Native.Nat.{_+_, _-_, _≤_, _<_}
+-- The area keeps its length, and each byte of the word is read once.
+use Prim.Native.Nat.{_-_, _≤_}
 use mathlib.Core.Path.{_≡_}
-use native.Mathlib.Omega.{arith}
 use lib.ListN.{length}
 use borrow.Author.Needs.{needs}
 use Rattle.vectors.proofs.decode.decoded.Statement.{statement}

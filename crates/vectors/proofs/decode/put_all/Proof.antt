@@ -1,6 +1,6 @@
-use Prim.Native.Nat.{_+_, _-_, _≤_, _<_}
+-- The area keeps its length; the count rises to the number of times.
+use Prim.Native.Nat.{_-_, _≤_}
 use mathlib.Core.Path.{_≡_}
-use native.Mathlib.Omega.{arith}
 use lib.ListN.{length}
 use borrow.Author.Needs.{needs}
 use Rattle.vectors.proofs.decode.put_all.Statement.{statement}

@@ -1,13 +1,14 @@
-use Prim.Native.Nat.{_+_, _-_, _≤_, _<_}
+-- The two areas keep their lengths; the word read next moves on past each event.
+use Prim.Native.Nat.{_-_}
 use mathlib.Core.Path.{_≡_}
-use native.Mathlib.Omega.{arith}
 use lib.ListN.{length}
 use borrow.Author.Needs.{needs}
 use Rattle.vectors.proofs.events.run.Statement.{statement}
 use Rattle.vectors.proofs.events.run.Tie as tie
 
 abbrev Inv-loop : tie.InvT-loop
-Inv-loop line show own out₀ route₀ count w₀ some₀ n₀ out route w some n = (length out ≡ length out₀) × (length route ≡ length route₀)
+Inv-loop line show own out₀ route₀ count w₀ some₀ n₀ out route w some n =
+    (length out ≡ length out₀) × (length route ≡ length route₀)
 
 abbrev μ-loop : tie.MeasureT-loop
 μ-loop line show own out₀ route₀ count w₀ some₀ n₀ out route w some n = 4096 - n

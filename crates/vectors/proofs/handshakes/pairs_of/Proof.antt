@@ -1,7 +1,5 @@
-use Prim.Native.Nat.{_+_, _-_, _≤_, _<_}
-use mathlib.Core.Path.{_≡_}
-use native.Mathlib.Omega.{arith}
-use lib.ListN.{length}
+-- Each of the 32 places is set once.
+use Prim.Native.Nat.{_-_, _≤_}
 use borrow.Author.Needs.{needs}
 use Rattle.vectors.proofs.handshakes.pairs_of.Statement.{statement}
 use Rattle.vectors.proofs.handshakes.pairs_of.Tie as tie

@@ -1,6 +1,6 @@
-use Prim.Native.Nat.{_+_, _-_, _≤_, _<_}
+-- The part keeps its length; the word read next moves on by one.
+use Prim.Native.Nat.{_-_}
 use mathlib.Core.Path.{_≡_}
-use native.Mathlib.Omega.{arith}
 use lib.ListN.{length}
 use borrow.Author.Needs.{needs}
 use Rattle.vectors.proofs.updates.run.Statement.{statement}
