@@ -1,4 +1,4 @@
--- What an update leaves alone: all of the state but its line's table, and all of the route area but that table's entries.
+-- What an update leaves alone: all of the state but its line's table, all of the route area but that table's entries.
 -- Assumes nothing.
 use Prim.Native.Nat.{ℕ, suc, _+_, _*_, _/_, _≤_, _<_}
 use native.Mathlib.Omega.{arith}
@@ -7,7 +7,7 @@ use mathlib.Core.Path.{_≡_, refl, sym, ap, _∙_}
 use mathlib.Core.Bool.{Bool, true, false}
 use mathlib.Core.List.{List}
 use lib.Dec.{eqb}
-use lib.ListN.{length, take, drop, length-take, length-drop, length-replicate}
+use lib.ListN.{length, length-take, length-drop, length-replicate}
 use borrow.Author.Tests.{leb-true, eqb-true, eqb-false}
 use Rattle.laws.specs.Tests.{firstOf}
 use Rattle.laws.specs.Parts.{over}
@@ -22,9 +22,9 @@ use Rattle.tables.proofs.OrderLaws.{limits}
 use Rattle.protocol.specs.declared.Line.{Line}
 use Rattle.protocol.specs.declared.Station.{Station}
 use Rattle.protocol.specs.declared.Own.{Own}
-use Rattle.protocol.specs.Lines.{lineAt, withLine, withTable, withPong, storedPongs, partOf, heldAt}
+use Rattle.protocol.specs.Lines.{lineAt, withLine, withTable, withPong, storedPongs, heldAt}
 use Rattle.protocol.specs.Order.{inOrder}
-use Rattle.protocol.specs.Outcomes.{Outcome, quiet}
+use Rattle.protocol.specs.Outcomes.{Outcome, quiet, refusedOr}
 use Rattle.protocol.specs.Queries.{usualLimit, queryType, queryRules, queryTaken, queryOutcome, ownTaken}
 use Rattle.protocol.specs.Hits.{hitType, hitRules, hitFound, hitTaken, hitOutcome}
 use Rattle.protocol.specs.Pings.{pingType, pongType, pingRules, pingTaken, pingOutcome, pongRules, arrivedPong, pongOutcome}
@@ -134,20 +134,27 @@ module _ (s : Station) (z : Sized s) (o : inOrder s ≡ true) (l : ℕ) (m : Lis
   was-full : ready (before .table .mark) ≡ true → Full before
   was-full r =
       let e = facts-at s l o (below s z l (a .line)) .table in
-      let fits : before .table .length ≤ s .room = leb-true (before .table .length) (s .room) (limits (s .room) (before .table) e r .fits) in
-      let inside : l * s .room + s .room ≤ length route = part-inside l (s .room) (s .room) (length route) (a .line) (omega arith) (a .areas .room) in
+      let fits : before .table .length ≤ s .room
+      = leb-true (before .table .length) (s .room) (limits (s .room) (before .table) e r .fits) in
+      let inside : l * s .room + s .room ≤ length route
+      = part-inside l (s .room) (s .room) (length route) (a .line) (omega arith) (a .areas .room) in
       (simp (length-take, length-drop) (omega arith), fits)
+
+  abbrev p : List ℕ
+  p = payloadOf m
 
   after-full : updateOutcome s l m route .answer ≡ 0 → Full after
   unfolding updateOutcome resetBy patchBy
   after-full =
-      by-update (λ n (h : Held). n ≡ 0 → Full h) (s .room) before (ttlOf m) (hopsOf m) (payloadOf m)
-      (λ p _. let f = was-full (p .turn .0) in
-      (patched-length before (payloadOf m) ∙ f .0 ∙ sym (moved-length (before .table) (payloadOf m)), rw (moved-length (before .table) (payloadOf m)) (f .1)))
-      (λ r _. (length-replicate (lengthIn (payloadOf m)) (infinityIn (payloadOf m)), leb-true (lengthIn (payloadOf m)) (s .room) (r .tests .1 .1 .1 .0)))
+      by-update (λ n (h : Held). n ≡ 0 → Full h) (s .room) before (ttlOf m) (hopsOf m) p
+      (λ q _. let f = was-full (q .turn .0) in
+      let same = moved-length (before .table) p in
+      (patched-length before p ∙ f .0 ∙ sym same, rw same (f .1)))
+      (λ q _. (length-replicate (lengthIn p) (infinityIn p), leb-true (lengthIn p) (s .room) (q .tests .1 .1 .1 .0)))
       (λ n ne e. absurd (ne e))
 
-  pub update-part : outcome .answer ≡ 0 → PartOnly (s .room) l (lineAt (outcome .state) l .table .length) route (outcome .route)
+  pub update-part : outcome .answer ≡ 0
+      → PartOnly (s .room) l (lineAt (outcome .state) l .table .length) route (outcome .route)
   unfolding updateOutcome
   update-part e =
       let f = after-full (ap (λ (r : Outcome). r .answer) (sym as-update) ∙ e) in
@@ -157,7 +164,16 @@ module _ (s : Station) (z : Sized s) (o : inOrder s ≡ true) (l : ℕ) (m : Lis
       rw as-update (rw n (part-only (s .room) l (after .entries) route (a .line) within (a .areas .room)))
 
 -- any other message, and an own query, leave the route area
+area-kept : (n : ℕ) (s : Station) (route : List ℕ) (o : Outcome) → o .route ≡ route → refusedOr n s route o .route ≡ route
+area-kept n s route o e = of-refused (λ (r : Outcome). r .route ≡ route) n s route o (λ _. e) (λ _. refl)
+
 module _ (s : Station) (l clock : ℕ) (own : Own) (m : List ℕ) (out : ℕ) (route : List ℕ) where
+  abbrev handled : Outcome
+  handled = messageOutcome s l clock own m out route
+
+  abbrev Unsearched : Outcome → Type 0
+  Unsearched r = r .search ≡ false
+
   abbrev SameArea : Outcome → Type 0
   SameArea r = r .route ≡ route
 
@@ -165,42 +181,44 @@ module _ (s : Station) (l clock : ℕ) (own : Own) (m : List ℕ) (out : ℕ) (r
   unfolding byType pingOutcome pongOutcome queryOutcome hitOutcome
   types-area ne =
       of-pick SameArea (eqb (kindOf m) pingType) _ _
-      (λ _. of-refused SameArea (firstOf (pingRules (lineAt s l) clock m)) s route (pingTaken s l clock own m route) (λ _. refl) (λ _. refl))
+      (λ _. area-kept (firstOf (pingRules (lineAt s l) clock m)) s route (pingTaken s l clock own m route) refl)
       (λ _. of-pick SameArea (eqb (kindOf m) pongType) _ _
-      (λ _. of-refused SameArea (firstOf (pongRules m)) s route (quiet 0 (withLine s l (withPong (lineAt s l) (arrivedPong clock m))) route) (λ _. refl) (λ _. refl))
+      (λ _. area-kept (firstOf (pongRules m)) s route
+      (quiet 0 (withLine s l (withPong (lineAt s l) (arrivedPong clock m))) route) refl)
       (λ _. of-pick SameArea (eqb (kindOf m) routeUpdate) _ _
       (λ k. absurd (ne (eqb-true (kindOf m) routeUpdate k)))
       (λ _. of-pick SameArea (eqb (kindOf m) queryType) _ _
-      (λ _. of-refused SameArea (firstOf (queryRules usualLimit s m)) s route (queryTaken usualLimit s l m route) (λ _. refl) (λ _. refl))
+      (λ _. area-kept (firstOf (queryRules usualLimit s m)) s route (queryTaken usualLimit s l m route) refl)
       (λ _. of-pick SameArea (eqb (kindOf m) hitType) _ _
-      (λ _. of-refused SameArea (firstOf (hitRules (hitFound s m) m)) s route (hitTaken s (hitFound s m) m route) (λ _. refl) (λ _. refl))
+      (λ _. area-kept (firstOf (hitRules (hitFound s m) m)) s route (hitTaken s (hitFound s m) m route) refl)
       (λ _. refl)))))
 
-  pub message-area : ((kindOf m ≡ 0x30) × (messageOutcome s l clock own m out route .answer ≡ 0) → ⊥) → SameArea (messageOutcome s l clock own m out route)
+  pub message-area : ((kindOf m ≡ 0x30) × (handled .answer ≡ 0) → ⊥) → SameArea handled
   unfolding arriving
-  message-area ne = go (eqb (messageOutcome s l clock own m out route .answer) 0) refl
+  message-area ne = go (eqb (handled .answer) 0) refl
     where
-      go : (b : Bool) → eqb (messageOutcome s l clock own m out route .answer) 0 ≡ b → SameArea (messageOutcome s l clock own m out route)
+      go : (b : Bool) → eqb (handled .answer) 0 ≡ b → SameArea handled
       go true e =
           of-refused SameArea (early s l m out (length route)) s route (byType usualLimit s l clock own m route)
-          (λ _. types-area (λ k. ne (k, eqb-true (messageOutcome s l clock own m out route .answer) 0 e)))
+          (λ _. types-area (λ k. ne (k, eqb-true (handled .answer) 0 e)))
           (λ _. refl)
       go false e =
           ap (λ (r : Outcome). r .route)
-          (refusal-frame .calls s .message l clock own m out route (eqb-false (messageOutcome s l clock own m out route .answer) 0 e))
+          (refusal-frame .calls s .message l clock own m out route (eqb-false (handled .answer) 0 e))
 
   -- and no ping is searched for
-  pub ping-search : inOrder s ≡ true → kindOf m ≡ 0x00 → messageOutcome s l clock own m out route .search ≡ false
+  pub ping-search : inOrder s ≡ true → kindOf m ≡ 0x00 → Unsearched handled
   unfolding arriving pingOutcome
   ping-search o k =
-      of-refused (λ (r : Outcome). r .search ≡ false) (early s l m out (length route)) s route (byType usualLimit s l clock own m route)
+      of-refused Unsearched (early s l m out (length route)) s route (byType usualLimit s l clock own m route)
       (λ _. rw (by-ping s o l m out route clock own k)
-      (of-refused (λ (r : Outcome). r .search ≡ false) (firstOf (pingRules (lineAt s l) clock m)) s route (pingTaken s l clock own m route) (λ _. refl) (λ _. refl)))
+      (of-refused Unsearched (firstOf (pingRules (lineAt s l) clock m)) s route (pingTaken s l clock own m route)
+      (λ _. refl)
+      (λ _. refl)))
       (λ _. refl)
 
-pub own-area : (s : Station) (number text : List ℕ) (out : ℕ) (route : List ℕ) → ownOutcome s number text out route .route ≡ route
+pub own-area : (s : Station) (number text : List ℕ) (out : ℕ) (route : List ℕ)
+    → ownOutcome s number text out route .route ≡ route
 unfolding asking
 own-area s number text out route =
-    of-refused (λ (r : Outcome). r .route ≡ route) (firstOf (ownRules s number text out (length route))) s route (ownTaken usualLimit s number text route)
-    (λ _. refl)
-    (λ _. refl)
+    area-kept (firstOf (ownRules s number text out (length route))) s route (ownTaken usualLimit s number text route) refl
