@@ -4,7 +4,7 @@ use Prim.Native.Nat.{ℕ, _+_, _-_, _≤_}
 use native.Mathlib.Omega.{arith}
 use mathlib.Core.Path.{_≡_, refl, sym, ap, _∙_}
 use mathlib.Core.Bool.{Bool, true, false, cond, not, _&&_, _||_}
-use mathlib.Core.Logic.{_↔_}
+use mathlib.Core.Logic.{_↔_, inl}
 use mathlib.Core.List.{List, [], _∷_}
 use lib.Dec.{eqb, leb, ltb}
 use lib.ListN.{length, getD, length-take, length-append}
@@ -42,6 +42,7 @@ use Rattle.protocol.proofs.Written.{written-for, writes-none, writes-on
 use Rattle.protocol.proofs.Opened.{silent-of, open-routed, close-routed}
 use Rattle.protocol.proofs.Pinged.{ping-routed, pong-routed}
 use Rattle.protocol.proofs.PongBytes.{ping-noHit}
+use Rattle.protocol.proofs.TableFrames.{update-only, update-broken, update-part, message-area, ping-search, own-area}
 
 -- Answers of refusals: one before the last of a list
 skip : (b : Bool) (n r k : ℕ) → (n ≡ k → ⊥) → cond b n r ≡ k → (b ≡ false) × (r ≡ k)
@@ -99,7 +100,7 @@ quiet-noHit : (kind n : ℕ) (s : Station) (route : List ℕ) → NoHit kind (qu
 quiet-noHit kind n s route = record { sent = writes-none kind; delivered = refl }
 
 quiet-silent : (n : ℕ) (s : Station) (route : List ℕ) → Silent (quiet n s route)
-quiet-silent n s route = record { to = refl; sent = refl; delivered = refl }
+quiet-silent n s route = silent-of (quiet n s route) n s route refl
 
 module _ (s : Station) (l clock : ℕ) (own : Own) (m : List ℕ) (out : ℕ) (route : List ℕ) where
   abbrev refusal : ℕ
@@ -343,6 +344,7 @@ module _ (w : World) (m route : List ℕ) (f : Found) where
   hit-routed from h since =
       record {
         leaves = of-refused (λ (r : Outcome). r .state ≡ w .state) (firstOf (hitRules f m)) (w .state) route (hitTaken (w .state) f m route) (λ _. refl) (λ _. refl);
+        search = of-refused (λ (r : Outcome). r .search ≡ false) (firstOf (hitRules f m)) (w .state) route (hitTaken (w .state) f m route) (λ _. refl) (λ _. refl);
         short = λ a. rw (lt-ltb (sizeOf m) 27 a);
         spent = λ a b. rw (le-ltb (sizeOf m) 27 a, eq-eqb (ttlOf m) 0 b);
         by = λ a b. hit-by from h since a b;
@@ -375,6 +377,13 @@ module _ (base : List Query) (w : World) (v : Invariant base w) where
           goes = goes-to (w .state) (v .order) l m out route clock own;
           hit = message-hit;
           noHit = queries-noHit (w .state) l clock own m out route (v .order);
+          pings = ping-search (w .state) l clock own m out route (v .order);
+          update = λ k a. update-only (w .state) (v .sized) (v .order) l m out route a k clock own;
+          broken = λ k a. update-broken (w .state) (v .sized) (v .order) l m out route a k clock own;
+          area = message-area (w .state) l clock own m out route;
+          part = λ k e.
+              let a = sent-if-arrived (w .state) (v .order) l m out route clock own .0 (inl e) in
+              update-part (w .state) (v .sized) (v .order) l m out route a k clock own e;
           others = message-silent (w .state) l clock own m out route;
           refused = λ ne. silent-of _ _ _ _ (refusal-frame .calls (w .state) .message l clock own m out route ne);
         }
@@ -397,6 +406,7 @@ module _ (base : List Query) (w : World) (v : Invariant base w) where
         query = own-answered (w .state) (v .order) number text out route (origin (w .log) base (numberIn number)) (looked-up base w v (numberIn number) .found);
         goes = own-goes (w .state) (v .order) number text out route;
         noHit = own-noHit (w .state) number text out route;
+        area = own-area (w .state) number text out route;
         refused = λ ne. silent-of _ _ _ _ (refusal-frame .calls (w .state) .asks number text out route ne);
       }
 

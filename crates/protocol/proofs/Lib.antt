@@ -18,6 +18,7 @@ pub mod Written
 pub mod Opened
 pub mod Pinged
 pub mod PongBytes
+pub mod TableFrames
 pub mod Demand2
 pub mod Gone
 pub mod Back

@@ -33,6 +33,9 @@ silent-of o n s route e =
       to = ap (λ (x : Outcome). x .to) e;
       sent = ap (λ (x : Outcome). x .sent) e;
       delivered = ap (λ (x : Outcome). x .delivered) e;
+      search = ap (λ (x : Outcome). x .search) e;
+      textat = ap (λ (x : Outcome). x .textat) e;
+      textlen = ap (λ (x : Outcome). x .textlen) e;
     }
 
 -- a line that begins anew

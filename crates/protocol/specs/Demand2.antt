@@ -25,7 +25,7 @@ use Rattle.protocol.specs.Runs.{Area, Call, Open, Close, Message, Ask, M
 use Rattle.protocol.specs.Periods.{lifeLeft}
 use Rattle.protocol.specs.Kept.{Sized}
 use Rattle.protocol.specs.Arrived.{Areas, Arrived, SentIfArrived}
-use Rattle.protocol.specs.Frames.{Silent}
+use Rattle.protocol.specs.Frames.{TableOnly, MarkedBroken, PartOnly, Silent}
 use Rattle.protocol.specs.Written.{NoHit, WrittenFor}
 use Rattle.protocol.specs.Opened.{OpenRouted, CloseRouted}
 use Rattle.protocol.specs.Pinged.{PingsRouted}
@@ -200,6 +200,7 @@ HitBy (From l n) w m o =
 
 pub record HitRouted (from : Origin) (w : World) (m : List ℕ) (o : Outcome) : Type 0 where
   pub leaves : o .state ≡ w .state
+  pub search : o .search ≡ false
   pub short : sizeOf m < 27 → o .answer ≡ 6
   pub spent : 27 ≤ sizeOf m → ttlOf m ≡ 0 → o .answer ≡ 8
   pub by : 27 ≤ sizeOf m → 1 ≤ ttlOf m → HitBy from w m o
@@ -212,6 +213,13 @@ pub record MessageRouted (base : List Query) (w : World) (l : ℕ) (m : List ℕ
   pub goes : kindOf m ≡ 0x80 → o .answer ≡ 0 → QueryTo (w .state) route l m o
   pub hit : kindOf m ≡ 0x81 → Arrived (w .state) l m out route → HitRouted (origin (w .log) base (numberIn m)) w m o
   pub noHit : kindOf m ≡ 0x80 → NoHit 0x80 o
+  pub pings : kindOf m ≡ 0x00 → o .search ≡ false
+  -- an update changes its line's table and nothing else, and a refused one only that table's mark
+  pub update : kindOf m ≡ 0x30 → Arrived (w .state) l m out route → TableOnly l (w .state) (o .state)
+  pub broken : kindOf m ≡ 0x30 → Arrived (w .state) l m out route → (o .answer ≡ 0 → ⊥) → MarkedBroken l (w .state) (o .state)
+  -- the route area is written by accepted updates alone, and by them within the entries of the line's table as it is then
+  pub area : ((kindOf m ≡ 0x30) × (o .answer ≡ 0) → ⊥) → o .route ≡ route
+  pub part : kindOf m ≡ 0x30 → o .answer ≡ 0 → PartOnly (w .state .room) l (lineAt (o .state) l .table .length) route (o .route)
   -- neither a ping, a query nor a hit
   pub others : (kindOf m ≡ 0x00 → ⊥) → (kindOf m ≡ 0x80 → ⊥) → (kindOf m ≡ 0x81 → ⊥) → Silent o
   pub refused : (o .answer ≡ 0 → ⊥) → Silent o
@@ -221,6 +229,7 @@ pub record AskRouted (base : List Query) (w : World) (number text : List ℕ) (o
   pub query : Answered (OwnAcceptable (w .state) text out route) (origin (w .log) base (numberIn number)) o
   pub goes : o .answer ≡ 0 → OwnTo (w .state) route number text o
   pub noHit : length number ≡ 16 → NoHit 0x80 o
+  pub area : o .route ≡ route
   pub refused : (o .answer ≡ 0 → ⊥) → Silent o
 
 abbrev pub Routed : List Query → World → Call → Outcome → Type 0

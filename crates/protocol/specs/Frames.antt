@@ -1,11 +1,13 @@
 -- What calls leave alone, and a line that begins anew: parts that several statements share.
-use Prim.Native.Nat.{ℕ}
+use Prim.Native.Nat.{ℕ, _+_, _*_}
 use mathlib.Core.Path.{_≡_}
 use mathlib.Core.Bool.{Bool, false}
-use mathlib.Core.List.{[]}
+use mathlib.Core.List.{List, []}
+use lib.ListN.{length, take, drop}
 use Rattle.tables.specs.Tables.{none}
 use Rattle.protocol.specs.declared.Line.{Line}
 use Rattle.protocol.specs.declared.Station.{Station}
+use Rattle.protocol.specs.Memory.{remembered}
 use Rattle.protocol.specs.Lines.{lineAt, storedPongs}
 use Rattle.protocol.specs.Outcomes.{Outcome, nobody}
 
@@ -21,8 +23,37 @@ pub record Beside (l : ℕ) (s s′ : Station) : Type 0 where
   pub others : (k : ℕ) → (k ≡ l → ⊥) → lineAt s′ k ≡ lineAt s k
   pub room : s′ .room ≡ s .room
 
--- nothing is sent or delivered
+-- of line l nothing but its table may change, and of all else nothing
+pub record TableOnly (l : ℕ) (s s′ : Station) : Type 0 where
+  pub live : lineAt s′ l .live ≡ lineAt s l .live
+  pub pinged : lineAt s′ l .pinged ≡ lineAt s l .pinged
+  pub time : lineAt s′ l .pingtime ≡ lineAt s l .pingtime
+  pub pongs : storedPongs (lineAt s′ l) ≡ storedPongs (lineAt s l)
+  pub beside : Beside l s s′
+  pub memory : remembered s′ ≡ remembered s
+
+-- and of the table nothing but its mark: 4, broken; its length, its Infinity and the run position are as they were
+pub record MarkedBroken (l : ℕ) (s s′ : Station) : Type 0 where
+  pub tableOnly : TableOnly l s s′
+  pub mark : lineAt s′ l .table .mark ≡ 4
+  pub long : lineAt s′ l .table .length ≡ lineAt s l .table .length
+  pub infinity : lineAt s′ l .table .infinity ≡ lineAt s l .table .infinity
+  pub place : lineAt s′ l .table .place ≡ lineAt s l .table .place
+  pub size : lineAt s′ l .table .size ≡ lineAt s l .table .size
+  pub bits : lineAt s′ l .table .bits ≡ lineAt s l .table .bits
+  pub at : lineAt s′ l .table .at ≡ lineAt s l .table .at
+
+-- of the route area only the first n bytes of line l's part may change, each part being `room` bytes long
+pub record PartOnly (room l n : ℕ) (route route′ : List ℕ) : Type 0 where
+  pub before : take (l * room) route′ ≡ take (l * room) route
+  pub behind : drop (l * room + n) route′ ≡ drop (l * room + n) route
+  pub long : length route′ ≡ length route
+
+-- nothing is sent, searched or delivered
 pub record Silent (o : Outcome) : Type 0 where
   pub to : o .to ≡ nobody
   pub sent : o .sent ≡ []
   pub delivered : o .delivered ≡ false
+  pub search : o .search ≡ false
+  pub textat : o .textat ≡ 0
+  pub textlen : o .textlen ≡ 0

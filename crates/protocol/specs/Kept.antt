@@ -19,7 +19,7 @@ use Rattle.protocol.specs.Order.{inOrder}
 use Rattle.protocol.specs.Outcomes.{Outcome, quiet}
 use Rattle.protocol.specs.Calls.{fresh, opening, closedState, closing, messageOutcome, ownOutcome}
 use Rattle.protocol.specs.Runs.{Call, World, run}
-use Rattle.protocol.specs.Frames.{Bare}
+use Rattle.protocol.specs.Frames.{Bare, MarkedBroken}
 
 -- the arrays of a state are as long as their types have them
 abbrev pub sizedLine : Line → Bool
@@ -79,6 +79,10 @@ marksBroken n m = eqb (kindOf m) routeUpdate && (leb 14 n && leb n 16)
 
 abbrev pub brokenAt : Station → ℕ → Station
 brokenAt s l = withLine s l (withTable (lineAt s l) (marked broken (lineAt s l .table)))
+
+-- in words: of the state only that mark changes
+abbrev pub BrokenInWords : Type 0
+BrokenInWords = (s : Station) (l : ℕ) → Sized s → l ≤ 7 → MarkedBroken l s (brokenAt s l)
 
 abbrev pub afterRefusal : ℕ → Station → ℕ → List ℕ → Station
 afterRefusal n s l m = cond (marksBroken n m) (brokenAt s l) s
