@@ -75,10 +75,12 @@ module _ {A : Type 0} (c : ℕ) (f : ℕ → A) (d : A) (p n : ℕ) (hp : p < c)
       ∙ map-getD f (placesBefore c p n) i 0 d (omega (arith, places-length c p n))
       ∙ ap f (place-at c p n i hp hn h)
 
-  each-kept : (t : A → Bool) → all t (map f (keptPlaces c p n)) ≡ true → (i : ℕ) → i < n → t (f ((p + (c - 1) - i) % c)) ≡ true
+  each-kept : (t : A → Bool) → all t (map f (keptPlaces c p n)) ≡ true
+      → (i : ℕ) → i < n → t (f ((p + (c - 1) - i) % c)) ≡ true
   each-kept t h i l = rw (kept-at i l) at (all-getD t (map f (keptPlaces c p n)) i d h (omega (arith, kept-length)))
 
-  all-kept : (t : A → Bool) → ((i : ℕ) → i < n → t (f ((p + (c - 1) - i) % c)) ≡ true) → all t (map f (keptPlaces c p n)) ≡ true
+  all-kept : (t : A → Bool) → ((i : ℕ) → i < n → t (f ((p + (c - 1) - i) % c)) ≡ true)
+      → all t (map f (keptPlaces c p n)) ≡ true
   all-kept t h =
       all-each t d (map f (keptPlaces c p n))
       (λ i l. let k : i < n = omega (arith, kept-length) in ap t (kept-at i k) ∙ h i k)
@@ -213,7 +215,9 @@ module _ (room : ℕ) (t : Table) where
   table-is : TableWords room t → tableInOrder room t ≡ true
   unfolding tableInOrder
   table-is w =
-      and-intro (leb (t .mark) broken) (not (ready (t .mark)) || withinLimits room t) (le-leb (t .mark) 4 (w .mark)) (by (ready (t .mark)) refl)
+      and-intro (leb (t .mark) broken) (not (ready (t .mark)) || withinLimits room t)
+      (le-leb (t .mark) 4 (w .mark))
+      (by (ready (t .mark)) refl)
     where
       by : (b : Bool) → ready (t .mark) ≡ b → (not (ready (t .mark)) || withinLimits room t) ≡ true
       by false e = rw e
@@ -239,7 +243,8 @@ module _ (x : Line) (hp : x .pongnext < 10) (hn : x .pongcount ≤ 10) where
   hops-words e i l =
       let q : ℕ = pongPlace (x .pongnext) i in
       rw (hops-at (x .pongs) q) at
-      (leb-true (at q .hops) 7 (each-kept 10 at noPong (x .pongnext) (x .pongcount) hp hn (λ (p : Pong). leb (p .hops) 7) e i l))
+      (leb-true (at q .hops) 7
+      (each-kept 10 at noPong (x .pongnext) (x .pongcount) hp hn (λ (p : Pong). leb (p .hops) 7) e i l))
 
   hops-are : ((i : ℕ) → i < x .pongcount → getD (x .pongs) (pongPlace (x .pongnext) i) noPong .hops ≤ 7)
       → all (λ p. leb (p .hops) 7) (storedPongs x) ≡ true
@@ -298,6 +303,9 @@ line-is room x w =
 -- ---- remembered queries
 
 -- no number twice: any two of a list have different ones
+abbrev like : Query → Query → Bool
+like q p = sameNumber (p .number) (q .number)
+
 module _ (d : Query) where
   apart-at : (qs : List Query) → noTwice qs ≡ true
       → (i j : ℕ) → i < j → j < length qs → sameNumber (getD qs j d .number) (getD qs i d .number) ≡ false
@@ -305,10 +313,9 @@ module _ (d : Query) where
   apart-at [] h i j l m = absurd (omega arith)
   apart-at (q ∷ qs) h i zero l m = absurd (omega arith)
   apart-at (q ∷ qs) h zero (suc j) l m =
-      let a = not-true (any (λ p. sameNumber (p .number) (q .number)) qs) (and-fst (not (any (λ p. sameNumber (p .number) (q .number)) qs)) (noTwice qs) h) in
-      none-at (λ (p : Query). sameNumber (p .number) (q .number)) d qs j a (omega arith)
+      none-at (like q) d qs j (not-true (any (like q) qs) (and-fst (not (any (like q) qs)) (noTwice qs) h)) (omega arith)
   apart-at (q ∷ qs) h (suc i) (suc j) l m =
-      apart-at qs (and-snd (not (any (λ p. sameNumber (p .number) (q .number)) qs)) (noTwice qs) h) i j (omega arith) (omega arith)
+      apart-at qs (and-snd (not (any (like q) qs)) (noTwice qs) h) i j (omega arith) (omega arith)
 
   apart-all : (qs : List Query)
       → ((i j : ℕ) → i < j → j < length qs → sameNumber (getD qs j d .number) (getD qs i d .number) ≡ false)
@@ -316,7 +323,7 @@ module _ (d : Query) where
   unfolding noTwice
   apart-all [] h = refl
   apart-all (q ∷ qs) h =
-      rw (none-of (λ (p : Query). sameNumber (p .number) (q .number)) d qs (λ j l. h 0 (suc j) (omega arith) (omega arith)))
+      rw (none-of (like q) d qs (λ j l. h 0 (suc j) (omega arith) (omega arith)))
       (apart-all qs (λ i j l m. h (suc i) (suc j) (omega arith) (omega arith)))
 
 asker-words : (s : Station) (a : ℕ) → askerFits (s .lines) a ≡ true → AskerWords s a
@@ -353,9 +360,9 @@ module _ (s : Station) (hp : s .next < 512) (hn : s .count ≤ 512) where
 
   -- the numbers of the i-th and the j-th
   abbrev same : ℕ → ℕ → Bool
-  same i j = sameNumber (getD (remembered s) j past .number) (getD (remembered s) i past .number)
+  same i j = like (getD (remembered s) i past) (getD (remembered s) j past)
 
-  same-places : (i j : ℕ) → i < s .count → j < s .count → same i j ≡ sameNumber (queryAt s (place j) .number) (queryAt s (place i) .number)
+  same-places : (i j : ℕ) → i < s .count → j < s .count → same i j ≡ like (queryAt s (place i)) (queryAt s (place j))
   same-places i j l m = rw (query-at i l, query-at j m)
 
   once-words : noTwice (remembered s) ≡ true → (i j : ℕ) → i < j → j < s .count → OneNumber s (place i) (place j) → ⊥
@@ -406,7 +413,9 @@ words-of s z e =
       next = n;
       once = once-words s n c (f .twice);
       askers = askers-words s n c (f .askers);
-      lines = λ l h. line-words (s .room) (lineAt s l) (all-getD (lineInOrder (s .room)) (s .lines) l nowhere (f .lines) (omega (arith, z .eight)));
+      lines = λ l h.
+          line-words (s .room) (lineAt s l)
+          (all-getD (lineInOrder (s .room)) (s .lines) l nowhere (f .lines) (omega (arith, z .eight)));
     }
 
 order-of : (s : Station) → Sized s → InOrderWords s → inOrder s ≡ true

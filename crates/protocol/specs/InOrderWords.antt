@@ -1,5 +1,5 @@
--- When a state is in order, in words of numbers and places alone: document 01's paragraph, clause by clause, with none of the tests
--- that the contracts cite. "In order" is exactly this.
+-- When a state is in order, in words of numbers and places alone: document 01's "in order", clause by clause, with none
+-- of the tests that the contracts cite. It is exactly this.
 use Prim.Native.Nat.{ℕ, _+_, _-_, _%_, _^_, _≤_, _<_}
 use mathlib.Core.Path.{_≡_}
 use mathlib.Core.Bool.{true, false}
@@ -12,8 +12,8 @@ use Rattle.protocol.specs.Lines.{noPong, lineAt}
 use Rattle.protocol.specs.Order.{inOrder}
 use Rattle.protocol.specs.Kept.{Sized}
 
--- the kept places of a ring are those just before its next, going round: the newest is number 0, and number i is i places before it.
--- Of the 512 places for queries, and of the 10 for pongs
+-- the kept places of a ring are those just before its next, going round: the newest is number 0, and number i stands
+-- i places before it. Of the 512 places for queries, and of the 10 for pongs
 abbrev pub queryPlace : ℕ → ℕ → ℕ
 queryPlace next i = (next + 511 - i) % 512
 
@@ -25,7 +25,8 @@ pub record RestWords (t : Table) : Type 0 where
   pub place : t .place ≡ 1
   pub entry : t .at ≡ 0
 
--- and of a table that is running (2): the next place is 2 to the run's size, its bits are 4 or 8, the next entry is at most the length
+-- and of a table that is running (2): the next place is 2 to the run's size, its bits are 4 or 8, and the next entry is
+-- at most the length
 pub record RunWords (t : Table) : Type 0 where
   pub second : 2 ≤ t .place
   pub last : t .place ≤ t .size
