@@ -126,6 +126,11 @@ ringClauses =
     ∷ good (withAsker 1 9)
     ∷ good (withAsker 1 1)
     ∷ bad (withRing (full .lo) (set (full .asker) 511 10) 3 1 full)
+    -- one is kept: the place just before the next, going round, and no other place is asked
+    ∷ good (withRing (full .lo) (set (set (full .asker) 511 9) 0 10) 1 0 full)
+    ∷ bad (withRing (full .lo) (set (set (full .asker) 511 10) 0 9) 1 0 full)
+    ∷ good (withRing (full .lo) (set (full .asker) 0 10) 1 2 full)
+    ∷ bad (withRing (full .lo) (set (full .asker) 1 10) 1 2 full)
     ∷ []
 
 -- line records
@@ -142,6 +147,14 @@ lineClauses =
     ∷ bad (withPongs 2 2 0 8)
     ∷ good (withPongs 2 2 2 8)
     ∷ bad (withPongs 2 1 9 8)
+    -- one is kept, going round; all ten, of which the oldest is the one at the next place
+    ∷ good (withPongs 1 0 9 7)
+    ∷ bad (withPongs 1 0 9 8)
+    ∷ good (withPongs 10 2 2 7)
+    ∷ bad (withPongs 10 2 2 8)
+    -- a closed line's next place may be any under 10, and what stands at its places
+    ∷ good (withLine full 2 (pongsOf 0 9 8 8 (emptyLine false)))
+    ∷ bad (withLine full 2 (pongsOf 0 10 8 8 (emptyLine false)))
     ∷ []
 
 -- tables: mark, length, Infinity, next place, run size, bits, next entry; the room is 4
@@ -150,7 +163,10 @@ tableClauses =
     -- marks: none and broken say nothing of the rest; there is no mark 5
     good (openTable (table 0 5 200 9 9 9 9))
     ∷ good (openTable (table 4 5 200 9 9 9 9))
+    ∷ good (openTable (table 0 4294967295 0 0 0 0 4294967295))
+    ∷ good (openTable (table 4 4294967295 0 0 0 0 4294967295))
     ∷ bad (openTable (table 5 4 8 1 0 0 0))
+    ∷ bad (openTable (table 255 4 8 1 0 0 0))
     -- waiting and settled: length, Infinity, next place and next entry
     ∷ good (openTable (table 1 4 2 1 9 9 0))
     ∷ good (openTable (table 3 4 127 1 9 9 0))
@@ -162,6 +178,8 @@ tableClauses =
     ∷ bad (openTable (table 1 4 8 2 0 0 0))
     ∷ bad (openTable (table 3 4 8 0 0 0 0))
     ∷ bad (openTable (table 3 4 8 1 0 0 1))
+    ∷ bad (openTable (table 1 4 255 1 0 0 0))
+    ∷ good (openTable (table 3 4 8 1 200 200 0))
     -- running: next place 2 to the run's size, bits 4 or 8, next entry at most the length
     ∷ good (openTable (table 2 4 8 2 2 4 0))
     ∷ good (openTable (table 2 4 8 255 255 8 4))
@@ -171,6 +189,8 @@ tableClauses =
     ∷ bad (openTable (table 2 4 8 2 2 4 5))
     ∷ bad (openTable (table 2 3 8 2 2 4 0))
     ∷ bad (openTable (table 2 4 1 2 2 4 0))
+    ∷ bad (openTable (table 2 4 8 2 2 0 0))
+    ∷ bad (openTable (table 2 8 8 2 2 4 0))
     ∷ []
 
 -- each is judged so, by the definition that the contracts cite

@@ -5,6 +5,7 @@ pub mod Account
 pub mod Forwarding
 pub mod Outcomes
 pub mod InOrder
+pub mod InOrderWords
 pub mod Memory
 pub mod Kept
 pub mod Refused

@@ -19,6 +19,7 @@ pub mod Pinged
 pub mod Demand2
 pub mod Periods
 pub mod Kept
+pub mod InOrderWords
 pub mod Blind
 pub mod Extent
 pub mod QueryText

@@ -26,20 +26,20 @@ use Rattle.tables.proofs.HistoryLaws.{FourOrEight, length-bytes, signed
 -- ---- powers of two
 
 -- 2 ^ b, 2 ^ (b + 1), .., k of them
-abbrev powers : ℕ → ℕ → List ℕ
+abbrev pub powers : ℕ → ℕ → List ℕ
 powers b zero = []
 powers b (suc k) = 2 ^ b ∷ powers (suc b) k
 
 the-lengths : lengths ≡ powers 2 15
 the-lengths = refl
 
-record Power (n b k : ℕ) : Type 0 where
-  bits : ℕ
-  least : b ≤ bits
-  most : bits < b + k
-  power : n ≡ 2 ^ bits
+pub record Power (n b k : ℕ) : Type 0 where
+  pub bits : ℕ
+  pub least : b ≤ bits
+  pub most : bits < b + k
+  pub power : n ≡ 2 ^ bits
 
-power-of : (n b k : ℕ) → any (eqb n) (powers b k) ≡ true → Power n b k
+pub power-of : (n b k : ℕ) → any (eqb n) (powers b k) ≡ true → Power n b k
 power-of n b zero e = absurd (clash e refl)
 power-of n b (suc k) e = by (eqb n (2 ^ b)) refl (power-of n (suc b) k) e
   where
@@ -50,7 +50,7 @@ power-of n b (suc k) e = by (eqb n (2 ^ b)) refl (power-of n (suc b) k) e
         let w = on f in
         record { bits = w .bits; least = omega (arith, w .least); most = omega (arith, w .most); power = w .power }
 
-is-power : (n b k c : ℕ) → b ≤ c → c < b + k → n ≡ 2 ^ c → any (eqb n) (powers b k) ≡ true
+pub is-power : (n b k c : ℕ) → b ≤ c → c < b + k → n ≡ 2 ^ c → any (eqb n) (powers b k) ≡ true
 is-power n b zero c l m e = absurd (omega arith)
 is-power n b (suc k) c l m e = by (eqb c b) refl (λ l′ m′. is-power n (suc b) k c l′ m′ e)
   where
