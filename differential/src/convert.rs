@@ -75,10 +75,7 @@ pub fn station_from_raw(station: &raw::Station) -> Option<State> {
     }
     let numbers: [[u8; 16]; MEMORY] = array::from_fn(|place| number_of(station.lo[place], station.hi[place]));
     let (count, next) = (station.count.try_into().ok()?, station.next.try_into().ok()?);
-    let (_, mut state) = State::fresh(&[]);
-    (state.room, state.count, state.next) = (station.room, count, next);
-    (state.numbers, state.askers, state.lines) = (numbers, station.asker, lines);
-    Some(state)
+    Some(State { room: station.room, count, next, numbers, askers: station.asker, lines })
 }
 
 pub fn own_from_raw(own: &raw::Own) -> OwnPong {

@@ -8,8 +8,9 @@
 //! It shares neither code nor definitions nor tests with those crates, so that a fault in one of the two shows. Where there is more than one way
 //! it goes another than they do:
 //!
-//! - A number that is remembered twice: the kept numbers have a ranking that must rise, and a number is looked up in it by halving. There a
-//!   filter of words is filled in passing, and the ring is gone through where it does not decide.
+//! - A number that is remembered twice: every call files the kept places in an index, a table of chains on the stack, and holds a number against
+//!   those of its own chain only; a message's number is looked up in its chain too. There a filter of words is filled in passing, and the ring is
+//!   gone through where it does not decide.
 //! - Askers: those that are known are counted. There each is held against every closed line.
 //! - PATCH: added at once, with a note of the least and the greatest sum, and undone if one is outside. There every number is tried, in blocks at
 //!   4 bits, before any is added.

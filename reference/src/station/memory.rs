@@ -1,40 +1,37 @@
 //! The remembered queries, and the test that a state is in order.
 //!
-//! A state carries a ranking: the kept places in the order of their numbers. It is a help and no part of the state's value, and every call tests
-//! it in one pass before it is used. If it has as many places as are kept, each of them kept and each with a greater number than the one before,
-//! then these are all the kept places, and no number is among them twice. A ranking that fails, as it may after the fields of a state were
-//! written from outside, is made anew by sorting, and then decides. A number is looked up in it by halving.
+//! Every call files the kept places in an index, by the numbers that are kept at them: a table of chains, made anew on the stack from the state's
+//! fields alone. A number is then held against those of its own chain only, both to see that none is kept twice and to look one up.
 
 use super::{kept, Line, State, GONE, LINES, MEMORY};
 use std::ops::Range;
 
-/// The kept places by rising numbers, in the first places of the array.
-#[derive(Clone, Debug)]
-pub(super) struct Ranking([u16; MEMORY]);
+/// Chains of an index: eight for each place, so that of random numbers nearly all are alone in theirs.
+const CHAINS: usize = 8 * MEMORY;
+/// A link with this bit leads to the place that its lower bits say; the last link of a chain is 0.
+const LINK: u16 = 0x8000;
 
-/// States with unlike rankings are alike.
-impl PartialEq for Ranking {
-    fn eq(&self, _: &Ranking) -> bool {
-        true
+/// The kept places in chains, each from its newest place to its oldest.
+pub(super) struct Index {
+    /// For each chain the link to its newest place.
+    newest: [u16; CHAINS],
+    /// For each place the link to the next older one of its chain.
+    older: [u16; MEMORY],
+}
+
+impl Index {
+    #[inline]
+    pub(super) fn new() -> Index {
+        Index { newest: [0; CHAINS], older: [0; MEMORY] }
     }
 }
 
-impl Eq for Ranking {}
-
-impl Ranking {
-    pub(super) const EMPTY: Ranking = Ranking([0; MEMORY]);
-}
-
-/// What numbers are ranked by first.
+/// The chain of a number: the upper bits of a product in which all sixteen bytes have a part.
 #[inline]
-fn first_half(number: &[u8; 16]) -> u64 {
-    u128::from_le_bytes(*number) as u64
-}
-
-/// What numbers are ranked by: the first half, then the second.
-#[inline]
-fn value(number: &[u8; 16]) -> u128 {
-    u128::from_le_bytes(*number).rotate_left(64)
+pub(super) fn chain(number: &[u8; 16]) -> usize {
+    let number = u128::from_le_bytes(*number);
+    let halves = number as u64 ^ (number >> 64) as u64;
+    (halves.wrapping_mul(0x9E37_79B9_7F4A_7C15) >> (64 - CHAINS.trailing_zeros())) as usize
 }
 
 /// How many askers are marks of this range. They are summed up in bytes, few enough at a time for a byte.
@@ -59,123 +56,81 @@ fn all_known(askers: &[u8], lines: &[Line; LINES]) -> bool {
 impl State {
     /// Whether the state is in order.
     pub fn in_order(&self) -> bool {
-        self.in_order_but_numbers() && (self.stands(&self.ranking) || self.stands(&self.ranked()))
+        self.in_order_filed(&mut Index::new())
     }
 
-    /// Whether the state is in order; if so, its ranking stands.
-    pub(super) fn ready(&mut self) -> bool {
-        if !self.in_order_but_numbers() {
+    /// Whether the state is in order; if so, the kept places are filed in the index, which is handed in empty.
+    pub(super) fn in_order_filed(&self, index: &mut Index) -> bool {
+        let (count, next) = (usize::from(self.count), usize::from(self.next));
+        let ring = count <= MEMORY && next < MEMORY;
+        if !ring || !self.lines.iter().all(|line| line.in_order(self.room)) {
             return false;
         }
-        if !self.stands(&self.ranking) {
-            self.ranking = self.ranked();
-            return self.stands(&self.ranking);
-        }
-        true
+        let places = kept(count, next, MEMORY);
+        places.iter().all(|places| all_known(&self.askers[places.clone()], &self.lines)) && self.file(places, index)
     }
 
-    /// Whether the state is in order but for numbers that are kept twice.
-    fn in_order_but_numbers(&self) -> bool {
-        let (count, next) = (usize::from(self.count), usize::from(self.next));
-        count <= MEMORY
-            && next < MEMORY
-            && self.lines.iter().all(|line| line.in_order(self.room))
-            && kept(count, next, MEMORY).into_iter().all(|places| all_known(&self.askers[places], &self.lines))
-    }
-
-    /// The kept number at a place.
-    #[inline]
-    fn number(&self, place: u16) -> &[u8; 16] {
-        &self.numbers[usize::from(place) % MEMORY]
-    }
-
-    #[inline]
-    fn places<'a>(&self, ranking: &'a Ranking) -> &'a [u16] {
-        &ranking.0[..usize::from(self.count)]
-    }
-
-    /// Whether a ranking has every kept place, and no number twice. The ring is in order.
-    pub(super) fn stands(&self, ranking: &Ranking) -> bool {
-        let (places, newest) = (self.places(ranking), self.next.wrapping_sub(1));
-        let all_kept = places.iter().fold(true, |all, &place| all & (self.count > newest.wrapping_sub(place) % MEMORY as u16));
-        all_kept && (self.halves_rise(places) || places.windows(2).all(|two| value(self.number(two[0])) < value(self.number(two[1]))))
-    }
-
-    /// Whether the first halves of the numbers rise, as those of random numbers do.
-    fn halves_rise(&self, places: &[u16]) -> bool {
-        let (mut rising, mut before) = (true, 0);
-        for &place in places {
-            let half = first_half(self.number(place));
-            rising &= before < half;
-            before = half;
-        }
-        rising
-    }
-
-    /// A new ranking: the kept places as runs of one, then runs merged by twos until there is one.
-    #[cold]
-    #[inline(never)]
-    fn ranked(&self) -> Ranking {
-        let (mut ranking, mut merged) = (Ranking::EMPTY, Ranking::EMPTY);
-        let count = usize::from(self.count);
-        for (entry, place) in ranking.0.iter_mut().zip(kept(count, usize::from(self.next), MEMORY).into_iter().flatten()) {
-            *entry = place as u16;
-        }
-        let mut run = 1;
-        while run < count {
-            for start in (0..count).step_by(2 * run) {
-                let (middle, end) = (count.min(start + run), count.min(start + 2 * run));
-                let (first, second) = (&ranking.0[start..middle], &ranking.0[middle..end]);
-                self.merge(first, second, &mut merged.0[start..end]);
+    /// Files the kept places, the oldest first, and says whether no number is kept twice.
+    ///
+    /// A place is put at the head of its chain whatever is there. Only then are those that found a place there, 30 of 512 if the numbers are
+    /// random, held against the rest of their chains. If numbers were chosen to have the same chain it takes longer, but there are fewer
+    /// comparisons than half the square of the kept places.
+    fn file(&self, places: [Range<usize>; 2], index: &mut Index) -> bool {
+        let (mut behind, mut count) = ([0u16; MEMORY], 0);
+        for places in places {
+            for from in places.clone().step_by(64) {
+                let end = places.end.min(from + 64);
+                let mut found = self.file_some(from..end, index);
+                while found != 0 {
+                    behind[count] = end as u16 - 1 - found.trailing_zeros() as u16;
+                    count += 1;
+                    found &= found - 1;
+                }
             }
-            std::mem::swap(&mut ranking, &mut merged);
-            run *= 2;
         }
-        ranking
+        behind[..count]
+            .iter()
+            .map(|&place| usize::from(place) % MEMORY)
+            .all(|place| self.in_chain(index, index.older[place], &self.numbers[place]).is_none())
     }
 
-    /// Merges two runs of places with rising numbers.
-    fn merge<'a>(&self, mut first: &'a [u16], mut second: &'a [u16], merged: &mut [u16]) {
-        for entry in merged {
-            let from_second = match (first.first(), second.first()) {
-                (Some(&one), Some(&two)) => value(self.number(two)) < value(self.number(one)),
-                (one, _) => one.is_none(),
-            };
-            let run = if from_second { &mut second } else { &mut first };
-            *entry = run[0];
-            *run = &run[1..];
+    /// Files at most 64 places. The bits of the outcome, the lowest for the last place, say which of them found a place in their chain.
+    #[inline]
+    fn file_some(&self, places: Range<usize>, index: &mut Index) -> u64 {
+        let (mut found, mut link) = (0, LINK + places.start as u16);
+        for (number, older) in self.numbers[places.clone()].iter().zip(&mut index.older[places]) {
+            let newest = &mut index.newest[chain(number)];
+            *older = *newest;
+            found = found << 1 | u64::from(*newest / LINK);
+            *newest = link;
+            link += 1;
         }
+        found
     }
 
-    /// The rank of a number, or the one that it would have.
+    /// The place of a number in a chain, from a link on.
     #[inline]
-    fn rank(&self, number: &[u8; 16]) -> Result<usize, usize> {
-        self.places(&self.ranking).binary_search_by_key(&value(number), |&place| value(self.number(place)))
+    fn in_chain(&self, index: &Index, link: u16, number: &[u8; 16]) -> Option<usize> {
+        let mut link = link;
+        while link != 0 {
+            let place = usize::from(link) % MEMORY;
+            if self.numbers[place] == *number {
+                return Some(place);
+            }
+            link = index.older[place];
+        }
+        None
     }
 
-    /// The kept place of a number, or the rank that it would have. The ranking stands.
+    /// The kept place of a number. The kept places are filed.
     #[inline]
-    pub(super) fn find(&self, number: &[u8; 16]) -> Result<usize, usize> {
-        self.rank(number).map(|rank| usize::from(self.ranking.0[rank]))
+    pub(super) fn find(&self, index: &Index, number: &[u8; 16]) -> Option<usize> {
+        self.in_chain(index, index.newest[chain(number)], number)
     }
 
-    /// Remembers a query whose number is not kept and would have this rank; the oldest of 512 makes way. The ranking stands, also after it.
-    pub(super) fn remember(&mut self, rank: usize, number: &[u8; 16], asker: u8) {
+    /// Remembers a query; the oldest of 512 makes way.
+    pub(super) fn remember(&mut self, number: &[u8; 16], asker: u8) {
         let place = usize::from(self.next);
-        let (mut rank, mut end) = (rank, usize::from(self.count));
-        if end == MEMORY {
-            // The ranks between the oldest's and the new one move by one; the new one's is one less if the oldest was before it.
-            let oldest = self.rank(&self.numbers[place]).unwrap_or_else(|rank| rank);
-            if oldest < rank {
-                rank -= 1;
-                self.ranking.0.copy_within(oldest + 1..rank + 1, oldest);
-                end = rank;
-            } else {
-                end = oldest;
-            }
-        }
-        self.ranking.0.copy_within(rank..end, rank + 1);
-        self.ranking.0[rank] = self.next;
         self.numbers[place] = *number;
         self.askers[place] = asker;
         self.next = (self.next + 1) % MEMORY as u16;

@@ -1,7 +1,6 @@
 //! The station: its state, opening and closing a line, an arriving message, an own query.
 //!
-//! A line is the connection to one neighbour. Every call tests first that the state is in order, in one pass over what the state keeps; only after
-//! its fields were written from outside are the kept numbers sorted once.
+//! A line is the connection to one neighbour. Every call tests first that the state is in order, in one pass over what the state keeps.
 
 mod memory;
 #[cfg(test)]
@@ -11,7 +10,7 @@ use crate::hash;
 use crate::header::{self, Header, HIT, PING, PONG, QUERY, UPDATE};
 use crate::keywords::keywords;
 use crate::table::{self, Table};
-use memory::Ranking;
+use memory::Index;
 use std::ops::Range;
 
 /// Lines of a station.
@@ -77,8 +76,6 @@ pub struct State {
     /// A line, [`HERE`] or [`GONE`].
     pub askers: [u8; MEMORY],
     pub lines: [Line; LINES],
-    /// A help that is tested before it is used, and no part of the state's value.
-    ranking: Ranking,
 }
 
 /// What the station's own pong says, and whether it takes calls.
@@ -214,12 +211,12 @@ impl State {
     pub fn fresh(route: &[u8]) -> (u8, State) {
         let (answer, room) = if route.len() < ROUTE { (2, 0) } else { (0, route.len() / LINES) };
         let (numbers, askers, lines) = ([[0; 16]; MEMORY], [0; MEMORY], [Line::CLOSED; LINES]);
-        (answer, State { room, count: 0, next: 0, numbers, askers, lines, ranking: Ranking::EMPTY })
+        (answer, State { room, count: 0, next: 0, numbers, askers, lines })
     }
 
     /// Opens a line: 0, 1 or 3.
     pub fn open(&mut self, line: usize) -> u8 {
-        if !self.ready() {
+        if !self.in_order() {
             return 1;
         }
         match self.lines.get_mut(line) {
@@ -231,7 +228,7 @@ impl State {
 
     /// Closes a line: 0, 1 or 3. The queries that came by it are gone from now on.
     pub fn close(&mut self, line: usize) -> u8 {
-        if !self.ready() {
+        if !self.in_order() {
             return 1;
         }
         match self.lines.get_mut(line) {
@@ -249,7 +246,8 @@ impl State {
     /// Handles a message that arrived on a line.
     pub fn message(&mut self, line: usize, clock: u32, own: &OwnPong, bytes: &[u8], out: &mut [u8], route: &mut [u8]) -> Handled {
         let refused = |answer| Handled { answer, ..QUIET };
-        if !self.ready() {
+        let mut index = Index::new();
+        if !self.in_order_filed(&mut index) {
             return refused(1);
         }
         if !self.areas_fit(out, route) {
@@ -273,8 +271,8 @@ impl State {
         let done = match header.kind {
             PING => self.ping(line, clock, own, &header, out),
             PONG => self.pong(line, clock, &header, payload),
-            QUERY => self.query(line, &header, payload, out, route),
-            HIT => self.hit(&header, payload, out),
+            QUERY => self.query(&index, line, &header, payload, out, route),
+            HIT => self.hit(&index, &header, payload, out),
             UPDATE => self.update(line, &header, payload, route),
             _ => Err(7),
         };
@@ -287,7 +285,8 @@ impl State {
     /// Sends a query of the station's own.
     pub fn own_query(&mut self, number: &[u8; 16], text: &[u8], out: &mut [u8], route: &[u8]) -> Handled {
         let refused = |answer| Handled { answer, ..QUIET };
-        if !self.ready() {
+        let mut index = Index::new();
+        if !self.in_order_filed(&mut index) {
             return refused(1);
         }
         if !self.areas_fit(out, route) {
@@ -299,10 +298,10 @@ impl State {
         if text.contains(&0) {
             return refused(6);
         }
-        match self.find(number) {
-            Ok(_) => return refused(9),
-            Err(rank) => self.remember(rank, number, HERE),
+        if self.find(&index, number).is_some() {
+            return refused(9);
         }
+        self.remember(number, HERE);
         let to = self.let_through(0xFF, REACH, text, route);
         if to == 0 {
             return QUIET;
@@ -358,20 +357,19 @@ impl State {
         Ok(QUIET)
     }
 
-    fn query(&mut self, line: usize, header: &Header, payload: &[u8], out: &mut [u8], route: &[u8]) -> Result<Handled, u8> {
+    fn query(&mut self, index: &Index, line: usize, header: &Header, payload: &[u8], out: &mut [u8], route: &[u8]) -> Result<Handled, u8> {
         let Header { ref number, ttl, hops, .. } = *header;
         let text = query_text(payload).ok_or(6)?;
         if ttl == 0 || ttl > QUERY_TTL || hops >= REACH {
             return Err(8);
         }
-        let rank = match self.find(number) {
-            Ok(_) => return Err(9),
-            Err(rank) => rank,
-        };
+        if self.find(index, number).is_some() {
+            return Err(9);
+        }
         if hops == 255 {
             return Err(12);
         }
-        self.remember(rank, number, line as u8);
+        self.remember(number, line as u8);
         let taken = Handled { search: true, text_start: header::BYTES + 2, text_length: text.len(), ..QUIET };
         let life = ttl.min(REACH - hops);
         if life < 2 {
@@ -385,14 +383,14 @@ impl State {
         Ok(Handled { to, written, ..taken })
     }
 
-    fn hit(&mut self, header: &Header, payload: &[u8], out: &mut [u8]) -> Result<Handled, u8> {
+    fn hit(&mut self, index: &Index, header: &Header, payload: &[u8], out: &mut [u8]) -> Result<Handled, u8> {
         if payload.len() < HIT_BYTES {
             return Err(6);
         }
         if header.ttl == 0 {
             return Err(8);
         }
-        let place = self.find(&header.number).map_err(|_| 10)?;
+        let place = self.find(index, &header.number).ok_or(10)?;
         let asker = match self.askers[place] {
             GONE => return Err(11),
             HERE => return Ok(Handled { delivered: true, ..QUIET }),
