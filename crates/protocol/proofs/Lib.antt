@@ -17,6 +17,7 @@ pub mod Origins
 pub mod Arrived
 pub mod Written
 pub mod Opened
+pub mod Pongs
 pub mod Pinged
 pub mod PongBytes
 pub mod TableFrames
