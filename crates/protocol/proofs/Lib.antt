@@ -21,6 +21,7 @@ pub mod Pongs
 pub mod Pinged
 pub mod PongBytes
 pub mod TableFrames
+pub mod PongPoints
 pub mod Demand2
 pub mod Gone
 pub mod Back

@@ -80,7 +80,7 @@ rising-keep f (p ∷ ps) h =
     let rest = rising-keep f ps (and-snd (all (before p) ps) (rising ps) h) in
     of-choice (λ (qs : List Place). rising qs ≡ true) (f p) (p ∷ keepIf f ps) (keepIf f ps)
     (λ _. and-intro (all (before p) (keepIf f ps)) (rising (keepIf f ps))
-        (all-keep f (before p) ps (and-fst (all (before p) ps) (rising ps) h)) rest)
+    (all-keep f (before p) ps (and-fst (all (before p) ps) (rising ps) h)) rest)
     (λ _. rest)
 
 rows-rising : rising (rows ranks) ≡ true
