@@ -15,7 +15,7 @@ use Rattle.laws.proofs.Refusals.{and-fst, and-snd, and-intro, or-split, of-choi
 use Rattle.laws.proofs.Rings.{map-take}
 use Rattle.protocol.specs.declared.Pong.{Pong}
 use Rattle.protocol.specs.declared.Station.{Station}
-use Rattle.protocol.specs.Lines.{lineNumbers, isOther, lineAt, noPong, storedPongs}
+use Rattle.protocol.specs.Lines.{lineNumbers, isOther, lineAt, noPong, storedPongs, elapsed}
 use Rattle.protocol.specs.Pings.{ranked, keepIf, flat, walk, isFresh, storedSent, pongBytes}
 use Rattle.protocol.specs.Pongs.{Place, firstPlace, pongAt, Before, MayAnswer, Among, FirstTen, storedWritten}
 
@@ -185,8 +185,8 @@ module _ (s : Station) (l clock : ℕ) where
 
   -- one line's turn
   module _ (r k : ℕ) (others : List ℕ) (rest : List Pong) (left : List Place) where
-    abbrev p : Place
-    p = record { rank = r; line = k }
+    abbrev here : Place
+    here = record { rank = r; line = k }
 
     abbrev more : List Pong
     more = flat (map (at r) others) ++ rest
@@ -195,21 +195,21 @@ module _ (s : Station) (l clock : ℕ) where
     kept = storedPongs (lineAt s k)
 
     turn : young more ≡ pongs left
-        → young (flat (map (at r) (cond (isOther l k) (k ∷ others) others)) ++ rest) ≡ pongs (cond (may p) (p ∷ left) left)
+        → young (flat (map (at r) (cond (isOther l k) (k ∷ others) others)) ++ rest) ≡ pongs (cond (may here) (here ∷ left) left)
     turn on = another (isOther l k)
       where
-        new : (b : Bool) → cond b (pongAt s p ∷ young more) (young more) ≡ pongs (cond b (p ∷ left) left)
-        new true = ap (λ qs. pongAt s p ∷ qs) on
+        new : (b : Bool) → cond b (pongAt s here ∷ young more) (young more) ≡ pongs (cond b (here ∷ left) left)
+        new true = ap (λ qs. pongAt s here ∷ qs) on
         new false = on
 
-        has : (b : Bool) → within p ≡ b
-            → young ((at r k ++ flat (map (at r) others)) ++ rest) ≡ pongs (cond (b && isFresh clock (pongAt s p)) (p ∷ left) left)
-        has true h = rw (ranked-in r kept (ltb-true r (length kept) h)) (new (isFresh clock (pongAt s p)))
+        has : (b : Bool) → within here ≡ b
+            → young ((at r k ++ flat (map (at r) others)) ++ rest) ≡ pongs (cond (b && isFresh clock (pongAt s here)) (here ∷ left) left)
+        has true h = rw (ranked-in r kept (ltb-true r (length kept) h)) (new (isFresh clock (pongAt s here)))
         has false h = rw (ranked-out r kept (ltb-false r (length kept) h)) on
 
         another : (b : Bool) → young (flat (map (at r) (cond b (k ∷ others) others)) ++ rest)
-            ≡ pongs (cond (b && (within p && isFresh clock (pongAt s p))) (p ∷ left) left)
-        another true = has (within p) refl
+            ≡ pongs (cond (b && (within here && isFresh clock (pongAt s here))) (here ∷ left) left)
+        another true = has (within here) refl
         another false = on
 
   -- line after line of one rank
@@ -250,7 +250,7 @@ module _ (s : Station) (l clock : ℕ) where
         other = eqb-false (p .line) l (unnot (eqb (p .line) l) (and-fst (isOther l (p .line)) (within p && isFresh clock (pongAt s p)) e));
         ten = ltb-true (p .rank) 10 (and-fst (ltb (p .rank) 10) (ltb (p .line) 8) b);
         stored = ltb-true (p .rank) (length (storedPongs (lineAt s (p .line)))) (and-fst (within p) (isFresh clock (pongAt s p)) x);
-        young = ltb-true _ 15000 (and-snd (within p) (isFresh clock (pongAt s p)) x);
+        young = ltb-true (elapsed clock (pongAt s p .clock)) 15000 (and-snd (within p) (isFresh clock (pongAt s p)) x);
       }
     where
       unnot : (b : Bool) → not b ≡ true → b ≡ false
@@ -260,7 +260,7 @@ module _ (s : Station) (l clock : ℕ) where
   is-may : (p : Place) → MayAnswer s l clock p → may p ≡ true
   is-may p h =
       and-intro (isOther l (p .line)) (within p && isFresh clock (pongAt s p)) (ap not (ne-eqb (p .line) l (h .other)))
-      (and-intro (within p) (isFresh clock (pongAt s p)) (lt-ltb _ _ (h .stored)) (lt-ltb _ 15000 (h .young)))
+      (and-intro (within p) (isFresh clock (pongAt s p)) (lt-ltb _ _ (h .stored)) (lt-ltb (elapsed clock (pongAt s p .clock)) 15000 (h .young)))
 
   up : rising eligible ≡ true
   up = rising-keep may (rows ranks) rows-rising
