@@ -17,9 +17,11 @@ pub mod Origins
 pub mod Arrived
 pub mod Written
 pub mod Opened
+pub mod Pongs
 pub mod Pinged
 pub mod PongBytes
 pub mod TableFrames
+pub mod PongPoints
 pub mod Demand2
 pub mod Gone
 pub mod Back

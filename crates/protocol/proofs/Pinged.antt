@@ -1,11 +1,11 @@
 -- Elapsed time; pings and pongs that have arrived; and the bytes of the pongs that answer a ping.
 -- Assumes nothing.
-use Prim.Native.Nat.{ℕ, _≤_, _<_, max}
+use Prim.Native.Nat.{ℕ, _+_, _≤_, _<_, max}
 use native.Mathlib.Omega.{arith}
 use mathlib.Core.Path.{_≡_, refl, sym, ap, ap₂, _∙_}
 use mathlib.Core.Bool.{Bool, true, false, cond, not, _&&_, _||_}
 use mathlib.Core.Logic.{_↔_, _⊎_, inl, inr, ⊎-elim}
-use mathlib.Core.List.{List, [], _∷_, _++_, append-nil}
+use mathlib.Core.List.{List, [], _∷_, _++_, map, append-nil}
 use lib.Dec.{eqb, leb, ltb}
 use lib.ListN.{length, getD}
 use lib.Seq.{set-getD}
@@ -19,16 +19,18 @@ use Rattle.protocol.specs.declared.Own.{Own}
 use Rattle.protocol.specs.Lines.{nowhere, lineAt, withLine, pingedAt, withPong, pongCapacity, storedPongs, elapsed, ElapsedRight, ElapsedPoints}
 use Rattle.protocol.specs.Order.{inOrder}
 use Rattle.protocol.specs.Outcomes.{Outcome, quiet, nobody, onlyTo}
-use Rattle.protocol.specs.Pings.{isProbe, tooSoon, pongBytes, ownPong, pongsSent, pingRules, pingTaken, pingOutcome, pongRules, arrivedPong, pongOutcome}
+use Rattle.protocol.specs.Pings.{isProbe, tooSoon, flat, storedSent, pongBytes, ownPong, pongsSent, pingRules, pingTaken, pingOutcome, pongRules, arrivedPong, pongOutcome}
 use Rattle.protocol.specs.Kept.{Sized, sizedLine}
 use Rattle.protocol.specs.Frames.{Silent}
 use Rattle.protocol.specs.Pinged.{ProbeTaken, Soon, TimeKept, OtherPing, PingRouted, PongStored, PongRouted}
+use Rattle.protocol.specs.Pongs.{OwnThenStored, storedWritten}
 use Rattle.protocol.proofs.Outcomes.{of-refused, eachLine-at}
 use Rattle.protocol.proofs.InOrder.{LineFacts, facts-at}
 use Rattle.protocol.proofs.Memory.{stored-newest}
 use Rattle.protocol.proofs.Matching.{line-set}
 use Rattle.protocol.proofs.Arrived.{answer-taken}
 use Rattle.protocol.proofs.Opened.{silent-of, beside-set, same-memory}
+use Rattle.protocol.proofs.Pongs.{places, stored-written, first-ten}
 
 -- elapsed time
 pub elapsed-right : ElapsedRight
@@ -135,7 +137,21 @@ module _ (s : Station) (z : Sized s) (l : ℕ) (l≤7 : l ≤ 7) (clock : ℕ) (
   thirteen true e = refl
   thirteen false e = absurd (omega arith)
 
-  other-ping : 1 ≤ ttlOf m → ((ttlOf m ≡ 1) × (hopsOf m ≤ 1) → ⊥) → OtherPing s l clock ping
+  abbrev ownPart : Bool → List ℕ
+  ownPart b = cond b (pongBytes m 0 (ownPong own)) []
+
+  sent-ping : isProbe m ≡ false → first (eqb (ttlOf m) 0) (isProbe m) ≡ 0
+      → ping .sent ≡ ownPart (own .calls) ++ storedWritten s m (places s l clock)
+  sent-ping p e =
+      let stored : List ℕ = flat (map (λ p. pongBytes m (p .hops + 1) (p .bytes)) (storedSent s l clock)) in
+      ap (λ (o : Outcome). o .sent) (taken-ping e)
+      ∙ ap (λ b. ownPart (b || own .calls) ++ cond b [] stored) p
+      ∙ ap (λ bs. ownPart (own .calls) ++ bs) (stored-written s l clock m)
+
+  answered : (own : List ℕ) → OwnThenStored s l clock m own (own ++ storedWritten s m (places s l clock))
+  answered own = record { places = places s l clock; first = first-ten s l clock; written = refl }
+
+  other-ping : 1 ≤ ttlOf m → ((ttlOf m ≡ 1) × (hopsOf m ≤ 1) → ⊥) → OtherPing s l clock own m ping
   other-ping t n =
       let p : isProbe m ≡ false = not-probe n in
       let f : first (eqb (ttlOf m) 0) (isProbe m) ≡ cond soon 13 0
@@ -152,6 +168,12 @@ module _ (s : Station) (z : Sized s) (l : ℕ) (l≤7 : l ≤ 7) (clock : ℕ) (
             = ap (λ (o : Outcome). o .state) (taken-ping (f ∙ ap (λ b. cond b 13 0) (not-soon v)))
             ∙ ap (λ b. withLine s l (cond b (lineAt s l) (pingedAt (lineAt s l) clock))) p in
             rw q time-kept;
+        called = λ v c.
+            rw (sent-ping p (f ∙ ap (λ b. cond b 13 0) (not-soon v)) ∙ ap (λ b. ownPart b ++ storedWritten s m (places s l clock)) c)
+            (answered (ownPart true));
+        uncalled = λ v c.
+            rw (sent-ping p (f ∙ ap (λ b. cond b 13 0) (not-soon v)) ∙ ap (λ b. ownPart b ++ storedWritten s m (places s l clock)) c)
+            (answered []);
       }
 
   -- to whom

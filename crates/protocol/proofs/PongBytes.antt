@@ -10,7 +10,7 @@ use lib.ListN.{length, getD, length-append}
 use borrow.Author.Tests.{leb-true, le-leb, eqb-true}
 use Rattle.laws.specs.Tests.{firstOf, all}
 use Rattle.laws.specs.Ring.{keptPlaces}
-use Rattle.laws.proofs.Refusals.{and-fst, and-snd, and-intro, of-choice, all-take, all-weaken, all-map}
+use Rattle.laws.proofs.Refusals.{and-fst, and-snd, and-intro, all-take, all-weaken, all-map}
 use Rattle.wire.specs.Header.{hopsOf, numberOf}
 use Rattle.protocol.specs.declared.Pong.{Pong}
 use Rattle.protocol.specs.declared.Line.{Line}
@@ -22,6 +22,7 @@ use Rattle.protocol.specs.Kept.{Sized, sizedLine}
 use Rattle.protocol.specs.Written.{Writes, NoHit}
 use Rattle.protocol.proofs.Outcomes.{of-refused}
 use Rattle.protocol.proofs.Written.{all-append, writes-none, writes-one, writes-append, writes-choice}
+use Rattle.protocol.proofs.Pongs.{all-keep}
 
 -- a stored pong has 14 bytes at most
 abbrev fits : Pong → Bool
@@ -55,14 +56,6 @@ fits-flat : {A : Type 0} (g : A → List Pong) → ((x : A) → all fits (g x) �
 fits-flat g h [] = refl
 fits-flat g h (x ∷ xs) = all-append fits (g x) (flat (map g xs)) (h x) (fits-flat g h xs)
 
-fits-kept : (f : Pong → Bool) (ps : List Pong) → all fits ps ≡ true → all fits (keepIf f ps) ≡ true
-fits-kept f [] h = refl
-fits-kept f (p ∷ ps) h =
-    let rest = fits-kept f ps (and-snd (fits p) (all fits ps) h) in
-    of-choice (λ (qs : List Pong). all fits qs ≡ true) (f p) (p ∷ keepIf f ps) (keepIf f ps)
-    (λ _. and-intro (fits p) (all fits (keepIf f ps)) (and-fst (fits p) (all fits ps) h) rest)
-    (λ _. rest)
-
 fourteen : (p : Pong) → eqb (length (p .bytes)) 14 ≡ true → fits p ≡ true
 fourteen p q = let n : length (p .bytes) ≡ 14 = eqb-true (length (p .bytes)) 14 q in le-leb (length (p .bytes)) 14 (omega arith)
 
@@ -84,7 +77,7 @@ module _ (s : Station) (z : Sized s) where
   fits-sent l clock =
       let others : List ℕ = keepIf (isOther l) lineNumbers in
       all-take fits 10 (keepIf (isFresh clock) (walk s l))
-      (fits-kept (isFresh clock) (walk s l)
+      (all-keep (isFresh clock) fits (walk s l)
       (fits-flat (λ r. flat (map (at r) others))
       (λ r. fits-flat (at r) (λ k. fits-ranked r (storedPongs (lineAt s k)) (fits-line k)) others)
       (0 ∷ 1 ∷ 2 ∷ 3 ∷ 4 ∷ 5 ∷ 6 ∷ 7 ∷ 8 ∷ 9 ∷ [])))

@@ -15,6 +15,7 @@ pub mod Arrived
 pub mod Frames
 pub mod Written
 pub mod Opened
+pub mod Pongs
 pub mod Pinged
 pub mod Demand2
 pub mod Periods

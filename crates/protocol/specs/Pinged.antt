@@ -1,5 +1,5 @@
 -- Pings and pongs that have arrived, from outside: their answers, what they leave, and to whom pongs go.
-use Prim.Native.Nat.{ℕ, _≤_, _<_}
+use Prim.Native.Nat.{ℕ, _≤_, _<_, max}
 use mathlib.Core.Path.{_≡_}
 use mathlib.Core.Bool.{true, false}
 use mathlib.Core.Logic.{_↔_, _⊎_}
@@ -15,6 +15,7 @@ use Rattle.protocol.specs.Outcomes.{Outcome}
 use Rattle.protocol.specs.Arrived.{Arrived}
 use Rattle.protocol.specs.Frames.{Beside, Silent}
 use Rattle.protocol.specs.Written.{NoHit}
+use Rattle.protocol.specs.Pongs.{OwnThenStored}
 
 -- port, address, files and kilobytes: the 14 bytes of a pong
 abbrev pub ownBytesOf : Own → List ℕ
@@ -40,16 +41,20 @@ pub record TimeKept (l clock : ℕ) (s s′ : Station) : Type 0 where
   pub beside : Beside l s s′
   pub memory : remembered s′ ≡ remembered s
 
--- any other ping: 13 exactly if it comes too soon, else 0 and the time is kept
-pub record OtherPing (s : Station) (l clock : ℕ) (o : Outcome) : Type 0 where
+-- any other ping: 13 exactly if it comes too soon, else 0 and the time is kept; then the own pong goes out if the station takes calls, with the
+-- ping's number, TTL the larger of 1 and the ping's Hops, and Hops 0; and after it up to ten stored pongs
+pub record OtherPing (s : Station) (l clock : ℕ) (own : Own) (m : List ℕ) (o : Outcome) : Type 0 where
   pub soon : (o .answer ≡ 13) ↔ Soon s l clock
   pub taken : (o .answer ≡ 0) ↔ (Soon s l clock → ⊥)
   pub kept : (Soon s l clock → ⊥) → TimeKept l clock s (o .state)
+  pub called : (Soon s l clock → ⊥) → own .calls ≡ true
+      → OwnThenStored s l clock m (message (numberOf m) 0x01 (max 1 (hopsOf m)) 0 (ownBytesOf own)) (o .sent)
+  pub uncalled : (Soon s l clock → ⊥) → own .calls ≡ false → OwnThenStored s l clock m [] (o .sent)
 
 pub record PingRouted (s : Station) (l clock : ℕ) (own : Own) (m : List ℕ) (o : Outcome) : Type 0 where
   pub spent : ttlOf m ≡ 0 → o .answer ≡ 8
   pub probe : ttlOf m ≡ 1 → hopsOf m ≤ 1 → ProbeTaken s own m o
-  pub other : 1 ≤ ttlOf m → ((ttlOf m ≡ 1) × (hopsOf m ≤ 1) → ⊥) → OtherPing s l clock o
+  pub other : 1 ≤ ttlOf m → ((ttlOf m ≡ 1) × (hopsOf m ≤ 1) → ⊥) → OtherPing s l clock own m o
   -- what is written goes to the ping's own line and to no other
   pub eight : length (o .to) ≡ 8
   pub to : (k : ℕ) → k < 8 → (getD (o .to) k false ≡ true) ↔ ((k ≡ l) × (o .sent ≡ [] → ⊥))
