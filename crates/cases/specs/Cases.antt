@@ -6,14 +6,13 @@ use mathlib.Core.Bool.{Bool, true, false, cond}
 use mathlib.Core.List.{List, [], _∷_, _++_}
 use lib.ListN.{replicate}
 use Rattle.laws.specs.Text.{codes}
-use Rattle.wire.specs.Header.{message, routeUpdate}
+use Rattle.wire.specs.Header.{message}
 use Rattle.keywords.specs.Hash.{placeOf}
 use Rattle.tables.specs.Tables.{waiting, settled, broken}
 use Rattle.protocol.specs.declared.Own.{Own}
 use Rattle.protocol.specs.Memory.{numberIn, seen}
 use Rattle.protocol.specs.Lines.{lineAt, heldAt}
 use Rattle.protocol.specs.Outcomes.{Outcome}
-use Rattle.protocol.specs.Queries.{queryType}
 use Rattle.protocol.specs.Calls.{fresh, messageOutcome}
 use Rattle.protocol.specs.Runs.{Call, Open, Message, Same, World, run, start}
 
@@ -74,7 +73,7 @@ AllHold (c ∷ cs) = Holds c × AllHold cs
 
 -- messages: updates, and queries with a number of sixteen different bytes, speed 0
 unfoldable pub update : List ℕ → List ℕ
-update payload = message (replicate 16 1) routeUpdate 1 0 payload
+update payload = message (replicate 16 1) 0x30 1 0 payload
 
 unfoldable pub number : List ℕ
 number = 0xA0 ∷ 0xA1 ∷ 0xA2 ∷ 0xA3 ∷ 0xA4 ∷ 0xA5 ∷ 0xA6 ∷ 0xA7 ∷ 0xA8 ∷ 0xA9 ∷ 0xAA ∷ 0xAB ∷ 0xAC ∷ 0xAD ∷ 0xAE ∷ 0xAF ∷ []
@@ -83,7 +82,7 @@ abbrev pub queryPayload : List ℕ → List ℕ
 queryPayload text = 0 ∷ 0 ∷ (text ++ (0 ∷ []))
 
 unfoldable pub query : ℕ → ℕ → List ℕ → List ℕ
-query ttl hops text = message number queryType ttl hops (queryPayload text)
+query ttl hops text = message number 0x80 ttl hops (queryPayload text)
 
 -- the payloads of the four updates, and the keywords of the queries
 unfoldable pub p1 : List ℕ

@@ -65,10 +65,16 @@ precedence =
     ∷ row opened (by 0 0 (bare 0x05 0 0 1)) 4
     ∷ row opened (by 0 0 (bare 0x05 0 0 4097)) 5
     ∷ row opened (by 0 0 (bare 0x05 0 255 0)) 7
+    -- types that are not named, near to those that are
+    ∷ row opened (by 0 0 (bare 0x02 1 0 0)) 7
+    ∷ row opened (by 0 0 (message number 0x20 1 0 p1)) 7
+    ∷ row opened (by 0 0 (bare 0x40 1 0 0)) 7
     -- queries: text, then TTL and Hops, then the number
     ∷ row came (by 0 0 (message number 0x80 0 9 (0 ∷ 0 ∷ 0x65 ∷ []))) 6
     ∷ row came (by 0 0 (query 16 0 eb)) 8
     ∷ row came (by 0 0 (query 3 255 eb)) 8
+    ∷ row came (by 0 0 (query 0 0 eb)) 8
+    ∷ row came (by 0 0 (query 3 7 eb)) 8
     ∷ row came (by 0 0 (query 3 1 eb)) 9
     -- hits: size, TTL 0, not remembered, gone, delivered, TTL 1, Hops 255
     ∷ row opened (by 0 0 (hit 26 0 0)) 6
@@ -87,6 +93,8 @@ precedence =
     ∷ row waits (by 1 0 (update p4)) 16
     -- own queries: areas, length, a zero byte, the number
     ∷ row came (Ask number (replicate 4094 0) 4118 Same) 2
+    ∷ row came (Ask number (replicate 4094 0) output (Other (replicate 31 0))) 2
+    ∷ row came (Ask number (replicate 4094 0) output (Other (replicate 40 0))) 2
     ∷ row came (Ask number (replicate 4094 0) output Same) 5
     ∷ row came (Ask number (replicate 4093 0) output Same) 6
     ∷ row came (Ask number eb output Same) 9

@@ -10,7 +10,6 @@ use lib.Dec.{eqb, ltb}
 use lib.ListN.{getD, take}
 use borrow.Author.Tests.{eqb-true, eqb-false, ltb-true, ltb-false}
 use Rattle.laws.specs.Tests.{any}
-use Rattle.laws.specs.Ring.{keptPlaces}
 use Rattle.laws.proofs.Refusals.{clash, or-fst, or-snd}
 use Rattle.wire.specs.Header.{kindOf, ttlOf, hopsOf, sizeOf}
 use Rattle.protocol.specs.Memory.{capacity, here, gone, Number, numberIn, sameNumber, remembered}
@@ -23,6 +22,7 @@ use Rattle.protocol.proofs.Outcomes.{eachLine-at}
 use Rattle.protocol.proofs.Kept.{fresh-in-order}
 use Rattle.protocol.proofs.Origins.{from-line, no-from, same-number, taken-took, taken-passed, Since, Invariant, begins, holds-after}
 use Rattle.protocol.proofs.Demand2.{message-routed}
+use Rattle.protocol.proofs.HandedBack.{fresh-remembers}
 
 -- the call that took a query, within the n newest, where `shut` says which lines have closed since the log
 abbrev Taking : ℕ → (ℕ → Bool) → List Made → Number → ℕ → ℕ → Type 0
@@ -157,10 +157,6 @@ module _ (w : World) (v : Invariant [] w) where
       back-from (numberIn m) k (q .0) (q .1)
 
 -- from a fresh state
-fresh-remembers : (n : ℕ) → remembered (fresh n .state) ≡ []
-unfolding remembered keptPlaces fresh
-fresh-remembers n = refl
-
 pub answers-back : AnswersBack
 answers-back n area cs =
     let f = fresh-in-order n in

@@ -24,6 +24,7 @@ pub mod TableFrames
 pub mod PongPoints
 pub mod Demand2
 pub mod Gone
+pub mod HandedBack
 pub mod Back
 pub mod LateHits
 pub mod Numbers

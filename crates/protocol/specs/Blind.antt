@@ -6,15 +6,15 @@ use mathlib.Core.List.{List, [], _∷_, _++_}
 use lib.Dec.{eqb, leb}
 use lib.ListN.{length, take}
 use Rattle.laws.specs.Tests.{firstOf, any}
-use Rattle.wire.specs.Header.{kindOf, ttlOf, hopsOf, sizeOf, payloadOf, routeUpdate}
+use Rattle.wire.specs.Header.{kindOf, ttlOf, hopsOf, sizeOf, payloadOf}
 use Rattle.tables.specs.Tables.{Held}
 use Rattle.tables.specs.Updates.{isPatch, goodReset, goodPatch, inTurn, inRange}
 use Rattle.protocol.specs.declared.Station.{Station}
 use Rattle.protocol.specs.declared.Own.{Own}
 use Rattle.protocol.specs.Lines.{lineAt, heldAt}
-use Rattle.protocol.specs.Queries.{usualLimit, queryType, queryRules}
-use Rattle.protocol.specs.Hits.{hitType, hitRules, hitFound}
-use Rattle.protocol.specs.Pings.{pingType, pongType, pingRules, pongRules}
+use Rattle.protocol.specs.Queries.{usualLimit, queryRules}
+use Rattle.protocol.specs.Hits.{hitRules, hitFound}
+use Rattle.protocol.specs.Pings.{pingRules, pongRules}
 use Rattle.protocol.specs.Calls.{earlyRules, messageOutcome, messageResult}
 
 -- a whole message stands at the front: its header and as much payload as the header says
@@ -54,18 +54,18 @@ updateRules room h ttl hops p =
     ∷ (isPatch p && not (inRange h p), 16)
     ∷ []
 
--- the refusals of a message of each type
+-- the refusals of a message of each type: Ping 0x00, Pong 0x01, route update 0x30, Query 0x80, Query Hit 0x81
 abbrev pub typeRules : Station → ℕ → ℕ → List ℕ → List ℕ → List (Bool × ℕ)
 typeRules s l clock m route =
-    cond (eqb (kindOf m) pingType) (pingRules (lineAt s l) clock m)
-    (cond (eqb (kindOf m) pongType) (pongRules m)
-    (cond (eqb (kindOf m) routeUpdate) (updateRules (s .room) (heldAt s l route) (ttlOf m) (hopsOf m) (payloadOf m))
-    (cond (eqb (kindOf m) queryType) (queryRules usualLimit s m)
-    (cond (eqb (kindOf m) hitType) (hitRules (hitFound s m) m) []))))
+    cond (eqb (kindOf m) 0x00) (pingRules (lineAt s l) clock m)
+    (cond (eqb (kindOf m) 0x01) (pongRules m)
+    (cond (eqb (kindOf m) 0x30) (updateRules (s .room) (heldAt s l route) (ttlOf m) (hopsOf m) (payloadOf m))
+    (cond (eqb (kindOf m) 0x80) (queryRules usualLimit s m)
+    (cond (eqb (kindOf m) 0x81) (hitRules (hitFound s m) m) []))))
 
 -- a type that has no rules
 abbrev pub unnamed : List ℕ → Bool
-unnamed m = not (any (eqb (kindOf m)) (pingType ∷ pongType ∷ routeUpdate ∷ queryType ∷ hitType ∷ []))
+unnamed m = not (any (eqb (kindOf m)) (0x00 ∷ 0x01 ∷ 0x30 ∷ 0x80 ∷ 0x81 ∷ []))
 
 -- all refusals of a message call in one ordered list: the answer is the first that holds, and 0 where none does
 abbrev pub Numbers : Type 0

@@ -4,7 +4,7 @@ use Prim.Native.Nat.{ℕ}
 use mathlib.Core.Bool.{Bool, true, false, cond, _&&_}
 use mathlib.Core.List.{List, [], _∷_, map}
 use lib.Dec.{eqb}
-use Rattle.wire.specs.Header.{kindOf, ttlOf, hopsOf, payloadOf, routeUpdate}
+use Rattle.wire.specs.Header.{kindOf, ttlOf, hopsOf, payloadOf}
 use Rattle.tables.specs.Tables.{Held, noTable}
 use Rattle.tables.specs.Updates.{updateAnswer, updated}
 use Rattle.protocol.specs.Outcomes.{unsent}
@@ -31,8 +31,9 @@ brought (Close l) = closes l
 brought (Message l clock own m out a) = brings l m
 brought (Ask n text out a) = asks
 
+-- an update is a message of type 0x30
 abbrev pub isUpdateOf : ℕ → ℕ → List ℕ → Bool
-isUpdateOf L l m = eqb l L && eqb (kindOf m) routeUpdate
+isUpdateOf L l m = eqb l L && eqb (kindOf m) 0x30
 
 -- it answers an update itself, by the table's rules, and what it holds is then as they say
 abbrev pub expectedAnswer : ℕ → Expected → List ℕ → ℕ

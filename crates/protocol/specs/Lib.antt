@@ -22,5 +22,6 @@ pub mod Periods
 pub mod Kept
 pub mod InOrderWords
 pub mod Blind
+pub mod HandedBack
 pub mod Extent
 pub mod QueryText
