@@ -12,7 +12,7 @@ use borrow.Author.Tests.{eqb-true, eqb-false, ltb-true, ltb-false}
 use Rattle.laws.specs.Tests.{any}
 use Rattle.laws.proofs.Refusals.{clash, or-fst, or-snd}
 use Rattle.wire.specs.Header.{kindOf, ttlOf, hopsOf, sizeOf}
-use Rattle.protocol.specs.Memory.{capacity, here, gone, Number, numberIn, sameNumber, remembered}
+use Rattle.protocol.specs.Memory.{capacity, here, gone, Number, numberIn, sameNumber}
 use Rattle.protocol.specs.Lines.{lineAt}
 use Rattle.protocol.specs.Outcomes.{Outcome, nobody, onlyTo}
 use Rattle.protocol.specs.Calls.{fresh}

@@ -178,7 +178,7 @@ module _ (s : Station) (l clock : ℕ) (own : Own) (m route : List ℕ) where
   unfolding hitOutcome
   hit-number = refused-taken (firstOf (hitRules (hitFound s m) m)) s route (hitTaken s (hitFound s m) m route) refl
 
-  type-number : byType usualLimit s l clock own m route .answer ≡ firstOf ((unnamed m, 7) ∷ typeRules s l clock m route)
+  pub type-number : byType usualLimit s l clock own m route .answer ≡ firstOf ((unnamed m, 7) ∷ typeRules s l clock m route)
   unfolding byType
   type-number =
       one-type (eqb (kindOf m) pingType) _ _ _ _ _ ping-number

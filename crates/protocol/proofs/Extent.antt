@@ -27,21 +27,28 @@ use Rattle.protocol.specs.Extent.{ByExtent, ExtentExactly}
 use Rattle.protocol.proofs.Outcomes.{none-unsent}
 use Rattle.protocol.proofs.Blind.{numbers}
 
--- the refusals by type are none of 1 to 5
-abbrev sent : Bool × ℕ → Bool
-sent c = not (unsent (c .1))
+-- what holds of the refusals of each type holds of a message's
+either : (P : Bool × ℕ → Bool) (b : Bool) (cs ds : List (Bool × ℕ)) → all P cs ≡ true → all P ds ≡ true → all P (cond b cs ds) ≡ true
+either P true cs ds p q = p
+either P false cs ds p q = q
 
-either : (b : Bool) (cs ds : List (Bool × ℕ)) → all sent cs ≡ true → all sent ds ≡ true → all sent (cond b cs ds) ≡ true
-either true cs ds p q = p
-either false cs ds p q = q
+module _ (s : Station) (l clock : ℕ) (m route : List ℕ) where
+  abbrev ofUpdate : List (Bool × ℕ)
+  ofUpdate = updateRules (s .room) (heldAt s l route) (ttlOf m) (hopsOf m) (payloadOf m)
 
-types-sent : (s : Station) (l clock : ℕ) (m route : List ℕ) → all sent ((unnamed m, 7) ∷ typeRules s l clock m route) ≡ true
-types-sent s l clock m route =
-    either (eqb (kindOf m) pingType) (pingRules (lineAt s l) clock m) _ refl
-    (either (eqb (kindOf m) pongType) (pongRules m) _ refl
-    (either (eqb (kindOf m) routeUpdate) (updateRules (s .room) (heldAt s l route) (ttlOf m) (hopsOf m) (payloadOf m)) _ refl
-    (either (eqb (kindOf m) queryType) (queryRules usualLimit s m) _ refl
-    (either (eqb (kindOf m) hitType) (hitRules (hitFound s m) m) [] refl refl))))
+  pub types-all : (P : Bool × ℕ → Bool) → all P (pingRules (lineAt s l) clock m) ≡ true → all P (pongRules m) ≡ true
+      → all P ofUpdate ≡ true → all P (queryRules usualLimit s m) ≡ true → all P (hitRules (hitFound s m) m) ≡ true
+      → all P (typeRules s l clock m route) ≡ true
+  types-all P a b c d e =
+      either P (eqb (kindOf m) pingType) (pingRules (lineAt s l) clock m) _ a
+      (either P (eqb (kindOf m) pongType) (pongRules m) _ b
+      (either P (eqb (kindOf m) routeUpdate) ofUpdate _ c
+      (either P (eqb (kindOf m) queryType) (queryRules usualLimit s m) _ d
+      (either P (eqb (kindOf m) hitType) (hitRules (hitFound s m) m) [] e refl))))
+
+  -- they are none of 1 to 5
+  pub types-sent : all (λ c. not (unsent (c .1))) ((unnamed m, 7) ∷ typeRules s l clock m route) ≡ true
+  types-sent = types-all (λ c. not (unsent (c .1))) refl refl refl refl refl
 
 -- what three tests in order come to, over the length n, the payload's size k, and a number r behind them that is neither 4 nor 5
 record Three (n k a : ℕ) : Type 0 where

@@ -1,8 +1,7 @@
 -- What a caller is handed back, proved.
 -- Assumes nothing.
 use Prim.Native.Nat.{ℕ}
-use mathlib.Core.Path.{_≡_, refl}
-use mathlib.Core.List.{List, []}
+use mathlib.Core.Path.{refl}
 use Rattle.laws.specs.Ring.{keptPlaces}
 use Rattle.protocol.specs.Memory.{remembered}
 use Rattle.protocol.specs.Outcomes.{Outcome, handled}

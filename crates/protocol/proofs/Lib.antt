@@ -30,4 +30,5 @@ pub mod LateHits
 pub mod Numbers
 pub mod Blind
 pub mod Extent
+pub mod Exactly
 pub mod QueryText

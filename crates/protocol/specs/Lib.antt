@@ -24,4 +24,5 @@ pub mod InOrderWords
 pub mod Blind
 pub mod HandedBack
 pub mod Extent
+pub mod Exactly
 pub mod QueryText
