@@ -1,4 +1,4 @@
--- Document 01's eleven cases hold: one theorem over the list, by computation.
+-- The eleven worked cases (RULES 18) hold: one theorem over the list, by computation.
 use mathlib.Core.Path.{_≡_, refl, _∙_, ap}
 use mathlib.Core.List.{List, [], _∷_}
 use Prim.Native.Nat.{ℕ, _/_, _^_}

@@ -1,4 +1,4 @@
--- Document 01, "Cases to prove": eleven cases in one list. A case is a whole message that arrives after some calls, or a keyword and
+-- The worked cases of RULES 18: eleven in one list. A case is a whole message that arrives after some calls, or a keyword and
 -- its place; each with what it must come to, by the definitions that the contracts cite.
 use Prim.Native.Nat.{ℕ, suc}
 use mathlib.Core.Path.{_≡_}

@@ -1,5 +1,6 @@
--- When a state is in order, clause by clause: a state in order that has something of everything, states that break one clause of it, and
--- states that differ from it in what no clause speaks of. One list; a clause that is lost or added in definition and code alike makes a row wrong.
+-- When a state is in order (RULES 4), clause by clause: a state in order that has something of everything, states that
+-- break one clause of it, and states that differ from it in what no clause speaks of. One list; a clause that is lost
+-- or added in definition and code alike makes a row wrong.
 use Prim.Native.Nat.{ℕ}
 use mathlib.Core.Path.{_≡_}
 use mathlib.Core.Bool.{Bool, true, false, cond, not}

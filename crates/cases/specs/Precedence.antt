@@ -1,5 +1,6 @@
--- The order of refusals, by calls that deserve two numbers: each is answered by the one that comes first. One list, over the definitions that
--- the contracts cite; a rule that takes another's place in definition and code alike makes a row of it wrong.
+-- The order of refusals (RULES 2), by calls that deserve two numbers: each is answered by the one that comes first. One
+-- list, over the definitions that the contracts cite; a rule that takes another's place in definition and code alike
+-- makes a row of it wrong.
 use Prim.Native.Nat.{ℕ}
 use mathlib.Core.Path.{_≡_}
 use mathlib.Core.Bool.{Bool, true, false}

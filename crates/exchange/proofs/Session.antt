@@ -1,4 +1,4 @@
--- Document 01's table of four entries through the station, by computation: written from none and taken, then written from it and taken;
+-- The table of four entries (RULES 18) through the station, by computation: written from none and taken, then written from it and taken;
 -- and the premises of the round trip, met.
 use Prim.Native.Nat.{ℕ}
 use native.Mathlib.Omega.{arith}

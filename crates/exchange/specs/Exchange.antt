@@ -1,4 +1,4 @@
--- Document 01, "Updates": the writer's bytes, taken by the message call of a station whose line has the old table, settled, or where there was
+-- RULES 13.5: the writer's bytes, taken by the message call of a station whose line has the old table, settled, or where there was
 -- no old table anything at all, are each answered 0, and leave the new table, settled, and nothing else changed.
 use Prim.Native.Nat.{ℕ, _+_, _*_, _/_, _≤_, _<_}
 use mathlib.Core.Path.{_≡_}

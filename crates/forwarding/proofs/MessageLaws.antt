@@ -1,4 +1,4 @@
--- What the stores of a message leave, and that a whole message passed on is the message that document 01 has.
+-- What the stores of a message leave, and that a whole message passed on is the message of RULES 7.6 and 9.3.
 use Prim.Native.Nat.{ℕ, _+_, _-_, _≤_, _<_}
 use mathlib.Core.Path.{_≡_, sym, ap, ap₂, _∙_}
 use mathlib.Core.List.{List, [], _∷_, _++_, append-assoc}

@@ -14,7 +14,7 @@ continues line = isBlank (getD line 0 0)
 abbrev pub nameLength : List ℕ → ℕ
 nameLength line = leading isName line
 
--- a name of one byte or more without a blank, and a colon right behind it
+-- RULES 15.6: a name, not empty and without a blank, and a colon right behind it
 abbrev pub isField : List ℕ → Bool
 isField line = ltb 0 (nameLength line) && eqb (getD line (nameLength line) 0) 58
 

@@ -36,7 +36,7 @@ understood m n = understoodAs (firstLine (linesIn m n)) (startIn m n .kind) (fie
 
 -- ---- reading a group
 
--- no end in the first 4,096 bytes: 18 where so many are there, else 4; not understood: 17
+-- RULES 15.2: where no end is found, 18 if 4,096 bytes were there to look at, else 4; then 17
 abbrev pub groupRules : ℕ → ℕ → Bool → List (Bool × ℕ)
 groupRules n size ok = (eqb n 0 && leb 4096 size, 18) ∷ (eqb n 0, 4) ∷ (not ok, 17) ∷ []
 

@@ -19,7 +19,7 @@ replyText = codes "GNUTELLA/"
 abbrev pub oneToThree : ℕ → Bool
 oneToThree n = leb 1 n && leb n 3
 
--- at least 0.6, compared as two numbers
+-- 0.6 or above, major and minor as numbers (RULES 15.5)
 abbrev pub atLeast06 : ℕ → ℕ → Bool
 atLeast06 major minor = leb 1 major || leb 6 minor
 

@@ -1,4 +1,4 @@
--- The rules of a handshake once more, in words over the values of bytes: what is proved of the definitions that
+-- The rules of a handshake (RULES 15) once more, in words over the values of bytes: what is proved of the definitions that
 -- the contracts cite. A definition that took another byte for a blank, a letter or a digit, or a version or a status
 -- of another shape, would not have these.
 use Prim.Native.Nat.{ℕ, _+_, _-_, _*_, _≤_, _<_}

@@ -111,7 +111,7 @@ module _ (a b c d : ℕ) (ha : a < 256) (hb : b < 256) (hc : c < 256) (hd : d < 
   chunk4 : xor32 (xor32 (xor32 (xor32 0 (a * 256 ^ 0)) (b * 256 ^ 1)) (c * 256 ^ 2)) (d * 256 ^ 3) ≡ a + b * 256 + c * 65536 + d * 16777216
   chunk4 = ap (λ (x : ℕ). xor32 x (d * 16777216)) chunk3 ∙ xor32-above 24 (a + b * 256 + c * 65536) d (omega arith) (omega arith) (omega arith)
 
--- document 01's chunks are what document 001's code joins byte by byte
+-- the chunks of RULES 11.3 are what 001's code joins byte by byte
 pub word-rolling : (k : List ℕ) → ((i : ℕ) → getD k i 0 < 256) → word k ≡ rolling 0 0 k
 unfolding word rolling
 word-rolling [] h = refl

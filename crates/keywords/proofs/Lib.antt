@@ -1,4 +1,4 @@
--- Laws of keywords, hash and places, and places of document 01.
+-- Laws of keywords, hash and places, and the places of RULES 11.6.
 pub mod CutLaws
 pub mod HashLaws
 pub mod PlaceLaws

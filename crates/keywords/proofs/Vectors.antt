@@ -1,4 +1,4 @@
--- Places of document 01, by computation.
+-- The places of RULES 11.6, by computation.
 use Prim.Native.Nat.{ℕ}
 use mathlib.Core.Path.{_≡_, refl}
 use mathlib.Core.List.{List, [], _∷_, map}

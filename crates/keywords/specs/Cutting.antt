@@ -1,5 +1,6 @@
--- What the keywords of a text are, from outside. Three laws fix them for every text: none for an empty one, one for a text without byte 0x20,
--- and those of both parts where a byte 0x20 stands between. And what folding does to each byte.
+-- What the keywords of a text are (RULES 11.1, 11.2), from outside. Three laws fix them for every text: none for an empty
+-- one, one for a text without byte 0x20, and those of both parts where a byte 0x20 stands between. And what folding does
+-- to each byte.
 use Prim.Native.Nat.{ℕ, _+_, _≤_, _<_}
 use mathlib.Core.Path.{_≡_}
 use mathlib.Core.Bool.{Bool, true, false}

@@ -1,4 +1,4 @@
--- The hash of a keyword and its place in a table, as document 01 has them in "Keywords and hash".
+-- The hash of a keyword and its place in a table (RULES 11.3 to 11.5).
 use Prim.Native.Nat.{ℕ, _+_, _-_, _*_, _/_, _%_, _^_}
 use mathlib.Core.List.{List, [], _∷_, map}
 use Rattle.laws.specs.Bytes.{little, xor}
@@ -16,7 +16,7 @@ word (a ∷ b ∷ []) = little (a ∷ b ∷ [])
 word (a ∷ b ∷ c ∷ []) = little (a ∷ b ∷ c ∷ [])
 word (a ∷ b ∷ c ∷ d ∷ rest) = xor32 (little (a ∷ b ∷ c ∷ d ∷ [])) (word rest)
 
--- the factor of document 001's appendix
+-- the factor of 001's appendix (RULES 11.4)
 abbrev pub factor : ℕ
 factor = 0x4F1BBCDC
 
@@ -24,7 +24,7 @@ factor = 0x4F1BBCDC
 unfoldable pub hashOf : List ℕ → ℕ
 hashOf k = word (map lower k) * factor % 2 ^ 32
 
--- where a keyword stands in a table of 2 to the power b entries (document 01: its place): the top b bits of its hash; from 32 on b means 32
+-- where a keyword stands in a table of 2 to the power b entries (RULES 11.5: its place): the top b bits of its hash; from 32 on b means 32
 abbrev pub placeOf : ℕ → List ℕ → ℕ
 placeOf b k = hashOf k / 2 ^ (32 - b)
 
@@ -35,7 +35,7 @@ scaled n h = h * n / 2 ^ 32
 abbrev pub placeIn : ℕ → List ℕ → ℕ
 placeIn n k = scaled n (hashOf k)
 
--- document 001's appendix: the byte at index i is shifted by i modulo 4 bytes and joined by exclusive or
+-- 001's appendix (RULES 11.3): the byte at index i is shifted by i modulo 4 bytes and joined by exclusive or
 unfoldable pub rolling : ℕ → ℕ → List ℕ → ℕ
 rolling acc j [] = acc
 rolling acc j (b ∷ bs) = rolling (xor32 acc (b * 256 ^ j)) ((j + 1) % 4) bs

@@ -1,4 +1,4 @@
--- Keywords of a text, as document 01 has them in "Keywords and hash".
+-- Keywords of a text (RULES 11.1, 11.2).
 use Prim.Native.Nat.{ℕ, suc, _+_, _-_}
 use mathlib.Core.Bool.{Bool, true, false, cond, not, _&&_}
 use mathlib.Core.List.{List, [], _∷_, map}
@@ -10,7 +10,7 @@ use Rattle.keywords.specs.declared.cut.Cut.{Cut}
 unfoldable pub isSeparator : ℕ → Bool
 isSeparator b = eqb b 0x20
 
--- A to Z become a to z, other bytes stay
+-- letters A to Z in lower case, every other byte as it is (RULES 11.2)
 unfoldable pub lower : ℕ → ℕ
 lower b = cond (leb 0x41 b && leb b 0x5A) (b + 32) b
 

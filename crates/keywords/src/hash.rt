@@ -5,7 +5,7 @@ ghost use mathlib.Core.List.{map};
 ghost use Rattle.keywords.specs.Keywords.{lower};
 ghost use Rattle.keywords.specs.Hash.{word, hashOf, placeOf, scaled};
 
-// A to Z become a to z.
+// Letters A to Z in lower case.
 pub fn lower_case(b: u8) -> u8
     ensures { λ r. ⌜ r ≡ lower b ⌝ }
 {

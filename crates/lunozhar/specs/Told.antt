@@ -1,4 +1,4 @@
--- What a caller is told of a call: all that it hands back but the state.
+-- What a caller is told of a call (RULES 2.9): all that it hands back but the state.
 use Prim.Native.Nat.{ℕ}
 use mathlib.Core.Path.{_≡_}
 use mathlib.Core.List.{List}

@@ -36,7 +36,7 @@ looked (At n k) = record { found = true; after = n; asker = k }
 abbrev pub askerFitsIn : List Bool → ℕ → Bool
 askerFitsIn live a = (ltb a lineCount && getD live a false) || (eqb a here || eqb a gone)
 
--- the remembered queries are in order, clause by clause as document 01 lists it
+-- the remembered queries are in order, clause by clause (RULES 4.1 to 4.4)
 unfoldable pub memoryInOrder : List ℕ → List ℕ → List ℕ → ℕ → ℕ → List Bool → Bool
 memoryInOrder lo hi asker next count live =
     every

@@ -29,7 +29,7 @@ placeOf next count rank =
     (cond (ltb rank next) (next - 1 - rank) (next + 9 - rank))
     pongCapacity
 
--- the newest from each other line in line order, then the second newest from each, and so on
+-- RULES 10.5: by rank, the newest first, and in each rank by line, the ping's own left out
 unfoldable pub walkIn : List Line → ℕ → List Pong
 walkIn lines l =
     flat
@@ -77,7 +77,7 @@ mostOf ns =
 abbrev pub ownBytes : Own → List ℕ → ℕ → Bool → List ℕ
 ownBytes own number ttl probe = cond (probe || own .calls) (pongMessage number ttl 0 (ownPong own)) []
 
--- the own pong, and then, but for a probe, the stored ones; all with the larger of 1 and the ping's Hops as TTL
+-- the own pong, and then, but for a probe, the stored ones; TTL is the ping's Hops, or 1 where those are 0
 unfoldable pub pongsFor : List Line → ℕ → ℕ → Own → List ℕ → ℕ → Bool → List ℕ
 pongsFor lines l clock own number hops probe =
     ownBytes own number (max 1 hops) probe

@@ -1,4 +1,4 @@
-// The ordered refusals of an arriving ping and of an arriving pong: document 01's number, 0 where nothing is refused.
+// The ordered refusals of an arriving ping and of an arriving pong: a number of RULES 2.1, 0 where nothing is refused.
 ghost use mathlib.Core.Path.{_≡_};
 ghost use Rattle.pinging.specs.Numbers.{probing, pingNumber, pongNumber};
 use crate::clock::elapsed_ms;
@@ -29,7 +29,7 @@ pub fn ping_answer(pinged: bool, pingtime: u32, clock: u32, ttl: u8, hops: u8) -
     0
 }
 
-// A pong: a payload of less than 14 bytes is 6; TTL 0 or Hops over 7 is 8.
+// A pong: 6 for a payload of less than 14 bytes; 8 where TTL is 0 or Hops are above 7.
 pub fn pong_answer(size: u32, ttl: u8, hops: u8) -> u8
     ensures { λ r. ⌜ r ≡ pongNumber size ttl hops ⌝ }
 {

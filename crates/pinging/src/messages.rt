@@ -6,7 +6,7 @@ ghost use Rattle.laws.specs.Bytes.{littleBytes};
 ghost use Rattle.protocol.specs.Pings.{ownPong};
 use protocol::Own;
 
-// The TTL that pongs bear: the larger of 1 and the ping's Hops.
+// The TTL that pongs bear: the ping's Hops, or 1 where those are 0.
 pub fn pong_ttl(hops: u8) -> u8
     ensures { λ r. ⌜ r ≡ max 1 hops ⌝ }
 {

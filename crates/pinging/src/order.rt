@@ -1,4 +1,4 @@
-// Whether a line is in order, as document 01 has it in "In order".
+// Whether a line is in order (RULES 4.5 to 4.8).
 ghost use mathlib.Core.Path.{_≡_};
 ghost use Prim.Native.Nat.{_≤_, _<_};
 ghost use Rattle.laws.specs.Ring.{back};
@@ -7,7 +7,7 @@ ghost use Rattle.pinging.specs.Sending.{hopsIn, lowHops};
 use protocol::Line;
 use protocol::Pong;
 
-// A closed line has no table, pongs or ping time.
+// Of a closed line nothing is kept (RULES 4.5).
 fn empty_when_closed(x: Line) -> bool
     ensures { λ r. ⌜ r ≡ emptyWhenClosed x ⌝ }
 {

@@ -1,4 +1,4 @@
--- A hit goes back only over the same opening: the call that took its query, found in the log.
+-- A hit goes back in its query's own opening of the line alone: the call that took its query, found in the log.
 -- Assumes nothing.
 use Prim.Native.Nat.{ℕ, zero, suc, _≤_, _<_}
 use native.Mathlib.Omega.{arith}

@@ -1,4 +1,4 @@
--- Document 01's session of six events, over a route area of 32 bytes, by computation.
+-- The six events of RULES 17.7, over a route area of 32 bytes, by computation.
 use Prim.Native.Nat.{ℕ}
 use native.Mathlib.Omega.{arith}
 use mathlib.Core.Path.{_≡_, refl}

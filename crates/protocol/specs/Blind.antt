@@ -28,7 +28,7 @@ pub record TakenAlike (m′ m : List ℕ) : Type 0 where
   pub result : (s : Station) (l clock : ℕ) (own : Own) (out : ℕ) (route : List ℕ)
       → messageResult s l clock own m′ out route ≡ messageResult s l clock own m out route
 
--- document 01, "Numbers": bytes past the message are not read, whatever they are, and can as well be left away
+-- RULES 2.8: what stands behind the message has no influence, whatever it is, and can as well be left away
 pub record ReadNoFurther (m : List ℕ) : Type 0 where
   pub more : (x : List ℕ) → TakenAlike (m ++ x) m
   pub less : TakenAlike (take (23 + sizeOf m) m) m

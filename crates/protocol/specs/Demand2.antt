@@ -1,5 +1,6 @@
--- Demand 2, over lists of calls: an unseen query goes to exactly the neighbours that the rules name, and a hit goes back only over the same
--- opening of the line its query came by, while that query is among the last 512. Where a query came from is read off the log alone.
+-- Demand 2, over lists of calls: a query not seen before goes to exactly the lines of RULES 7.5 and 8.3, and a hit goes back
+-- by the line its query came by if that has not closed since and the query is among the last 512. Where a query came from
+-- is read off the log alone.
 -- What is demanded of a call is demanded of what it brings to a state (Arrived), so that refusing it is no way out; the statements on openings
 -- and closings, pings and pongs, and the bytes of messages are in Opened, Pinged and Written.
 use Prim.Native.Nat.{ℕ, suc, _+_, _-_, _≤_, _<_}

@@ -1,22 +1,21 @@
--- Demand 3, one claim about a list of calls: a spoiled keyword update never hides a neighbour.
--- `Demand3` takes every list of openings, closings, arriving messages and own queries, refused ones included, from any
--- state in order with line L closed, over any route area. `Claimed` speaks of each place of that list, its end among them.
--- What is expected of a line, document 01's slate, is specs/Expected; the updates of its opening are specs/History.
--- The sentences of the demand, in our words, and what carries each:
---   a call gets the state that the last one left, and the area so, or one of another room: Runs `run`, `Fair`
---   the updates of L are answered as expected, which is: exactly as their bytes and the updates before them in the
---     opening say (tables, specs/Answers): `Agrees`, the first part for a message
---   those refused by 1 to 5 count as unsent: Expected `fed`, History `noted`
---   its table stands as expected, mark, and length, Infinity and entries while there are any: `Stands`, live to closed
---   each entry is Infinity plus the sum of its numbers accepted since the last accepted RESET: `Stands`, sums
---   a query answered 0 goes on to L exactly if the rules of queries, read with this, say so: `Forwarded`, exactly
---   no query that goes on is withheld before any accepted RESET of the opening: `Forwarded`, noReset
---   nor before a first finished run since the last accepted RESET: `Forwarded`, noRun
---   nor inside a later run: `Forwarded`, midRun
---   nor from an update refused by 14, 15 or 16 to the next accepted RESET: `Forwarded`, afterRefusal
---   otherwise one is withheld exactly if some keyword's entry is Infinity or exceeds the TTL to be sent:
---     `Forwarded`, otherwise
---   and the mark is settled exactly outside those four periods: `Stands`, speaking
+-- Demand 3, one claim about a whole list of calls: a spoiled update never hides a neighbour.
+-- `Demand3` takes the four kinds of calls in any order and number, whatever they are answered, from a state in order in
+-- which line L is closed, over any route area. `Claimed` speaks of each place of the list, its end among them. What is
+-- expected of a line (RULES 14) is specs/Expected; the updates of its opening are specs/History.
+-- What the demand says, in our words (RULES has it phrase by phrase), and what carries each:
+--   state and area go from call to call as they were left, but for an area of another room: Runs `run`, `Fair`
+--   the line's updates are answered as the expected table answers them, which is exactly as their bytes and the updates
+--     before them in the opening say (tables, specs/Answers): `Agrees`, the first part for a message
+--   an update answered 1 to 5 has not been sent: Expected `fed`, History `noted`
+--   the table is the expected one, mark, and length, Infinity and entries while there are any: `Stands`, live to closed
+--   an entry is Infinity and all that accepted PATCHes have brought to it after the newest RESET: `Stands`, sums
+--   a query answered 0 goes to L exactly where RULES 7 and 8, read with what is expected, have it go: `Forwarded`, exactly
+--   nothing is withheld while the opening has no accepted RESET: `Forwarded`, noReset
+--   nor while no run has ended after the newest one: `Forwarded`, noRun
+--   nor while a run is under way: `Forwarded`, midRun
+--   nor after a refusal by 14, 15 or 16 until a RESET is accepted: `Forwarded`, afterRefusal
+--   at all other times a query is withheld exactly where a keyword stops it (RULES 7.7): `Forwarded`, otherwise
+--   and the mark is settled exactly at those times: `Stands`, speaking
 use Prim.Native.Nat.{ℕ, zero, suc, _-_, _*_, _/_, _≤_, _<_, min}
 use mathlib.Core.Path.{_≡_}
 use mathlib.Core.Bool.{Bool, true, false, cond}
@@ -51,7 +50,7 @@ bitsOf n = halvings 32 n
 abbrev pub entryIn : List ℕ → (n : ℕ) → List ℕ → ℕ
 entryIn es n k = getD es (placeOf (bitsOf n) k) 0
 
--- some keyword's entry is Infinity or exceeds the TTL to be sent
+-- RULES 7.7: a keyword stops the text, its entry being Infinity or above the TTL that the text would be sent with
 abbrev pub Stops : List ℕ → (n infinity : ℕ) → List ℕ → ℕ → Type 0
 Stops es n infinity text ttl =
     (k : List ℕ) × List·Memᴰ k (keywordsOf text) × ((entryIn es n k ≡ infinity) ⊎ (ttl < entryIn es n k))
@@ -67,7 +66,7 @@ Stopped e = Stops (e .held .entries) (length (e .held .entries)) (e .held .table
 abbrev pub Withheld : Expected → List ℕ → ℕ → Type 0
 Withheld e text ttl = (e .held .table .mark ≡ settled) × Stopped e text ttl
 
--- document 01's life of a query
+-- the life of a query (RULES 7.2)
 abbrev pub lifeLeft : List ℕ → ℕ
 lifeLeft m = min (ttlOf m) (7 - hopsOf m)
 

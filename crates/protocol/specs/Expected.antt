@@ -1,5 +1,6 @@
--- What a line's table is expected to be, from the calls alone: document 01's slate, a definition only. It is fed what the calls bring besides
--- state and route area, the room, and whether an answer is 1 to 5. Nothing else reaches it.
+-- What a line's table is expected to be, from the calls alone (RULES 14; document 01: slate): a definition without code.
+-- Of a call it gets what the call brings, but no state and no area, and of an answer only whether that is 1 to 5; and the
+-- room. Nothing else reaches it.
 use Prim.Native.Nat.{ℕ}
 use mathlib.Core.Bool.{Bool, true, false, cond, _&&_}
 use mathlib.Core.List.{List, [], _∷_, map}
@@ -42,7 +43,7 @@ expectedAnswer room e m = updateAnswer room (e .held) (ttlOf m) (hopsOf m) (payl
 abbrev pub hears : ℕ → List ℕ → Expected → Expected
 hears room m e = record { live = e .live; held = updated room (e .held) (ttlOf m) (hopsOf m) (payloadOf m) }
 
--- an unsent call, and any but its line's openings, closings and updates, leaves it
+-- RULES 14.2: it stays, but for an opening, a closing or an update of its line that is not answered 1 to 5
 unfoldable pub feed : (L room : ℕ) → Brought → (refused : Bool) → Expected → Expected
 feed L room b true e = e
 feed L room (opens l) false e = cond (eqb l L) (wiped true) e

@@ -1,4 +1,5 @@
--- What a caller is handed back of an outcome, value by value. All else that is stated speaks of outcomes; the contracts promise these values.
+-- What a caller is handed back of an outcome (RULES 2.9), value by value. All else that is stated speaks of outcomes; the
+-- contracts promise these values.
 use Prim.Native.Nat.{ℕ}
 use mathlib.Core.Path.{_≡_}
 use mathlib.Core.List.{List, []}

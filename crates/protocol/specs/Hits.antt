@@ -1,4 +1,4 @@
--- Query hits (document 01, "Answers coming back").
+-- Query hits (RULES 9).
 use Prim.Native.Nat.{ℕ, _+_, _-_}
 use mathlib.Core.Bool.{Bool, true, false, cond, not, _&&_, _||_}
 use mathlib.Core.List.{List, [], _∷_}
@@ -31,7 +31,7 @@ hitOn m = message (numberOf m) hitType (ttlOf m - 1) (hopsOf m + 1) (payloadOf m
 abbrev pub afterHit : Station → Found → Station
 afterHit s f = s
 
--- delivered here, or passed back to the asker's line, even if it came by it
+-- delivered here, or passed back to the asker's line, which may be the one it came by
 abbrev pub hitTaken : Station → Found → List ℕ → List ℕ → Outcome
 hitTaken s f m route =
     record {

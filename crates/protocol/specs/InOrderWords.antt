@@ -1,5 +1,5 @@
--- When a state is in order, in words of numbers and places alone: document 01's "in order", clause by clause, with none
--- of the tests that the contracts cite. It is exactly this.
+-- When a state is in order (RULES 4), in words of numbers and places alone, clause by clause, with none of the tests that
+-- the contracts cite. It is exactly this.
 use Prim.Native.Nat.{ℕ, _+_, _-_, _%_, _^_, _≤_, _<_}
 use mathlib.Core.Path.{_≡_}
 use mathlib.Core.Bool.{true, false}
@@ -51,7 +51,7 @@ pub record TableWords (room : ℕ) (t : Table) : Type 0 where
   pub mark : t .mark ≤ 4
   pub limits : 1 ≤ t .mark → t .mark ≤ 3 → LimitWords room t
 
--- a closed line has no table, pongs or ping time
+-- RULES 4.5: of a closed line nothing is kept
 pub record ClosedWords (x : Line) : Type 0 where
   pub table : x .table .mark ≡ 0
   pub pongs : x .pongcount ≡ 0

@@ -72,8 +72,8 @@ pub record AnsweredOne (s : Station) : Type 0 where
 abbrev pub OutOfOrder : Type 0
 OutOfOrder = (s : Station) → inOrder s ≡ false → AnsweredOne s
 
--- a refusal sends to nobody, writes nothing, searches and delivers nothing, and leaves state and area, but that 14, 15 or 16 for an
--- arriving update marks its line's table broken
+-- RULES 2.5, 2.6: a refusal sends, writes, searches and delivers nothing, and leaves state and area; only the mark of a
+-- line is set to broken, where its update is refused by 14, 15 or 16
 abbrev pub marksBroken : ℕ → List ℕ → Bool
 marksBroken n m = eqb (kindOf m) routeUpdate && (leb 14 n && leb n 16)
 
@@ -98,8 +98,9 @@ pub record RefusalsLeave (s : Station) : Type 0 where
       → RefusedQuietly (messageOutcome s l clock own m out route) (λ n. afterRefusal n s l m) route
   pub asks : (number text : List ℕ) (out : ℕ) (route : List ℕ) → RefusedQuietly (ownOutcome s number text out route) (λ n. s) route
 
--- a fresh state over less than 32 bytes is refused by 2, and is handed back all the same, with room 0: nothing stands before it, and at the
--- boundary it is written over the station that was lent. All its lines are closed and bare, and nothing is remembered
+-- RULES 3.6, 3.7: a fresh state over less than 32 bytes is refused by 2, and is handed back all the same, with room 0:
+-- nothing stands before it, and at the boundary it is written over the station that was lent. All its lines are closed
+-- and bare, and nothing is remembered
 pub record FreshRefused (n : ℕ) : Type 0 where
   pub answer : fresh n .answer ≡ 2
   pub room : fresh n .state .room ≡ 0

@@ -25,7 +25,7 @@ isOther l k = not (eqb k l)
 abbrev pub noPong : Pong
 noPong = record { bytes = replicate 14 0; hops = 0; clock = 0 }
 
--- an empty line: no table, no pongs, no accepted ping
+-- a line just opened or closed (RULES 5.1, 5.2): all zero but whether it is open
 abbrev pub emptyLine : Bool → Line
 emptyLine live = record {
   live = live;
@@ -116,12 +116,13 @@ partOf room l route = take room (drop (l * room) route)
 abbrev pub heldAt : Station → ℕ → List ℕ → Held
 heldAt s l route = heldIn (lineAt s l .table) (partOf (s .room) l route)
 
--- document 01's elapsed time: the difference modulo 2 to the power 32
+-- elapsed time (RULES 10.1): the difference modulo 2 to the power 32
 abbrev pub elapsed : ℕ → ℕ → ℕ
 elapsed now then = (now + (2 ^ 32 - then)) % 2 ^ 32
 
--- from outside, for any two 32-bit clocks: below 2 to the power 32, and added to the one clock it comes to the other, going round; so it is the
--- plain difference where the clock has not gone round, and 2 to the power 32 more where it has
+-- from outside (RULES 10.1), for any two 32-bit clocks: below 2 to the power 32, and added to the one clock it comes to
+-- the other, going round; so it is the plain difference where the clock has not gone round, and 2 to the power 32 more
+-- where it has
 pub record ElapsedIs (now then e : ℕ) : Type 0 where
   pub below : e < 4294967296
   pub comes : (then + e) % 4294967296 ≡ now

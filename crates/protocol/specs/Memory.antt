@@ -1,4 +1,4 @@
--- The remembered queries: document 01's last 512 questions, as a newest-first list over a ring.
+-- The remembered queries: the last 512 (RULES 7.3), as a newest-first list over a ring.
 use Prim.Native.Nat.{ℕ, zero, suc, _+_, min}
 use mathlib.Core.Bool.{Bool, true, false, cond, not, _&&_, _||_}
 use mathlib.Core.List.{List, [], _∷_, map}
@@ -13,7 +13,7 @@ use Rattle.protocol.specs.declared.Station.{Station}
 abbrev pub capacity : ℕ
 capacity = 512
 
--- askers that are no line: document 01's here and gone
+-- askers that are no line: here and gone (RULES 4.4)
 abbrev pub here : ℕ
 here = 8
 

@@ -1,5 +1,6 @@
--- Openings and closings of a line, from outside: when one is accepted, and what it leaves (document 01: opening starts with no table, no pongs
--- and no accepted ping; closing clears those and marks every remembered query from that line as gone).
+-- Openings and closings of a line, from outside (RULES 2.4, 5.1 to 5.3): exactly when one is accepted, and what it
+-- leaves: a bare line, open or closed, the other lines as they were, and of a closing the queries that the line brought
+-- as gone.
 use Prim.Native.Nat.{ℕ, _≤_, _<_}
 use mathlib.Core.Path.{_≡_}
 use mathlib.Core.Bool.{Bool, true, false, cond, not}

@@ -1,4 +1,4 @@
--- When a state is in order, clause by clause as document 01 lists it.
+-- When a state is in order, clause by clause (RULES 4).
 use Prim.Native.Nat.{ℕ, _/_}
 use mathlib.Core.Bool.{Bool, true, false, cond, not, _&&_, _||_}
 use mathlib.Core.List.{List, [], _∷_}
@@ -16,7 +16,7 @@ use Rattle.protocol.specs.Lines.{lineCount, nowhere, pongCapacity, store
 abbrev pub askerFits : List Line → ℕ → Bool
 askerFits lines a = (ltb a lineCount && getD lines a nowhere .live) || (eqb a here || eqb a gone)
 
--- a closed line has no table, pongs or ping time
+-- of a closed line nothing is kept (RULES 4.5)
 abbrev pub emptyWhenClosed : Line → Bool
 emptyWhenClosed x = x .live || (eqb (x .table .mark) none && (eqb (x .pongcount) 0 && not (x .pinged)))
 

@@ -48,7 +48,7 @@ quiet n s route =
       delivered = false;
     }
 
--- a message for several lines is written once, for none not at all
+-- RULES 7.6: written once for however many lines, and not where there is none
 abbrev pub writtenFor : List Bool → List ℕ → List ℕ
 writtenFor to bytes = cond (any (λ b. b) to) bytes []
 

@@ -18,13 +18,13 @@ use Rattle.protocol.specs.History.{updatesOf, speaks}
 use Rattle.protocol.specs.Demand3.{Stops, entriesAt}
 pub use Rattle.protocol.specs.Demand3.{lifeLeft}
 
--- some keyword's entry of line L that stands in the route area is Infinity or exceeds the TTL to be sent
+-- RULES 7.7, by the entries of line L that stand in the route area
 abbrev pub StoppedNow : World → ℕ → List ℕ → ℕ → Type 0
 StoppedNow w L =
     Stops (entriesAt (w .state) L (w .area)) (lineAt (w .state) L .table .length) (lineAt (w .state) L .table .infinity)
 
--- line L withholds a text to be sent with this TTL: not in a quiet period (before an accepted RESET of the opening, before
--- a first finished run since the last, inside a later run, from a refused update to the next accepted RESET), and stopped
+-- line L withholds a text to be sent with this TTL: a keyword stops it, and none of the four quiet periods is (no RESET
+-- accepted in the opening, no run ended after the newest, a run under way, an update refused and no RESET since)
 abbrev pub WithheldNow : World → ℕ → List ℕ → ℕ → Type 0
 WithheldNow w L text ttl = (speaks (updatesOf L (w .log)) ≡ true) × StoppedNow w L text ttl
 

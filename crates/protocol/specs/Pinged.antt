@@ -1,4 +1,4 @@
--- Pings and pongs that have arrived, from outside: their answers, what they leave, and to whom pongs go.
+-- Pings and pongs that have arrived (RULES 10), from outside: their answers, what they leave, and to whom pongs go.
 use Prim.Native.Nat.{ℕ, _≤_, _<_, max}
 use mathlib.Core.Path.{_≡_}
 use mathlib.Core.Bool.{true, false}
@@ -42,7 +42,7 @@ pub record TimeKept (l clock : ℕ) (s s′ : Station) : Type 0 where
   pub memory : remembered s′ ≡ remembered s
 
 -- any other ping: 13 exactly if it comes too soon, else 0 and the time is kept; then the own pong goes out if the station takes calls, with the
--- ping's number, TTL the larger of 1 and the ping's Hops, and Hops 0; and after it up to ten stored pongs
+-- ping's number, TTL the ping's Hops, or 1 where those are 0, and Hops 0; and after it up to ten stored pongs (RULES 10.4)
 pub record OtherPing (s : Station) (l clock : ℕ) (own : Own) (m : List ℕ) (o : Outcome) : Type 0 where
   pub soon : (o .answer ≡ 13) ↔ Soon s l clock
   pub taken : (o .answer ≡ 0) ↔ (Soon s l clock → ⊥)

@@ -1,4 +1,4 @@
--- Pings and pongs (document 01, "Pings and pongs").
+-- Pings and pongs (RULES 10).
 use Prim.Native.Nat.{ℕ, zero, suc, _+_, _-_, max}
 use mathlib.Core.Bool.{Bool, true, false, cond, not, _&&_, _||_}
 use mathlib.Core.List.{List, [], _∷_, _++_, map}
@@ -46,11 +46,11 @@ module _ {A : Type 0} where
   flat [] = []
   flat (x ∷ xs) = x ++ flat xs
 
--- the newest from each other line in line order, then the second newest from each, and so on
+-- RULES 10.5: by rank, the newest first, and in each rank by line, the ping's own left out
 unfoldable pub walk : Station → ℕ → List Pong
 walk s l = flat (map (λ r. flat (map (λ k. ranked r (storedPongs (lineAt s k))) (keepIf (isOther l) lineNumbers))) (0 ∷ 1 ∷ 2 ∷ 3 ∷ 4 ∷ 5 ∷ 6 ∷ 7 ∷ 8 ∷ 9 ∷ []))
 
--- those 15,000 ms old or more are skipped
+-- an age of 15,000 ms or more is too old
 abbrev pub isFresh : ℕ → Pong → Bool
 isFresh clock p = ltb (elapsed clock (p .clock)) 15000
 
@@ -58,7 +58,7 @@ isFresh clock p = ltb (elapsed clock (p .clock)) 15000
 abbrev pub storedSent : Station → ℕ → ℕ → List Pong
 storedSent s l clock = take 10 (keepIf (isFresh clock) (walk s l))
 
--- pongs sent bear the ping's number and the larger of 1 and the ping's Hops as TTL; own Hops 0, stored Hops plus 1
+-- RULES 10.6: the ping's number; as TTL the ping's Hops, or 1 where those are 0; Hops as told
 abbrev pub pongBytes : List ℕ → ℕ → List ℕ → List ℕ
 pongBytes m hops payload = message (numberOf m) pongType (max 1 (hopsOf m)) hops payload
 

@@ -1,5 +1,5 @@
--- Which stored pongs answer a ping (document 01, "Pings and pongs"), from outside: of the other lines' pongs that are less than 15,000 ms old the
--- first ten, where the newest of each line come first, in line order, then the second newest of each, and so on.
+-- Which stored pongs answer a ping (RULES 10.4 to 10.6), from outside: of the other lines' pongs that are less than
+-- 15,000 ms old the first ten, by rank, the newest first, and in each rank by line.
 use Prim.Native.Nat.{ℕ, _+_, _≤_, _<_, max}
 use mathlib.Core.Path.{_≡_}
 use mathlib.Core.Logic.{_⊎_}
@@ -45,7 +45,8 @@ pub record FirstTen (s : Station) (l clock : ℕ) (ps : List Place) : Type 0 whe
   pub order : (i j : ℕ) → i < j → j < length ps → Before (getD ps i firstPlace) (getD ps j firstPlace)
   pub rest : (p : Place) → MayAnswer s l clock p → Among ps p ⊎ ((length ps ≡ 10) × Before (getD ps 9 firstPlace) p)
 
--- the pongs at these places as they go out: the ping's number, TTL the larger of 1 and the ping's Hops, the stored Hops plus 1, the stored bytes
+-- the pongs at these places as they go out (RULES 10.6): the ping's number, TTL the ping's Hops, or 1 where those are 0,
+-- one Hop more than stored, the stored bytes
 abbrev pub storedWritten : Station → List ℕ → List Place → List ℕ
 storedWritten s m [] = []
 storedWritten s m (p ∷ ps) =

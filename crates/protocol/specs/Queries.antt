@@ -1,4 +1,4 @@
--- Queries, arriving and own (document 01, "Questions"). `limit` is the usual life of a query.
+-- Queries, arriving and own (RULES 7, 8). `limit` is the usual life of a query.
 use Prim.Native.Nat.{ℕ, _+_, _-_, min}
 use mathlib.Core.Bool.{Bool, true, false, cond, not, _&&_, _||_}
 use mathlib.Core.List.{List, [], _∷_, _++_}
@@ -32,7 +32,7 @@ textIn p = untilZero (drop 2 p)
 abbrev pub hasText : List ℕ → Bool
 hasText p = any (eqb 0) (drop 2 p)
 
--- document 01's life of a question
+-- the life of a query (RULES 7.2)
 abbrev pub lifeOf : ℕ → List ℕ → ℕ
 lifeOf limit m = min (ttlOf m) (limit - hopsOf m)
 
@@ -77,7 +77,7 @@ queryTaken limit s l m route =
 unfoldable pub queryOutcome : ℕ → Station → ℕ → List ℕ → List ℕ → Outcome
 queryOutcome limit s l m route = refusedOr (firstOf (queryRules limit s m)) s route (queryTaken limit s l m route)
 
--- own queries: TTL the limit, Hops 0, speed 0, to each open line that does not withhold it
+-- own queries: TTL the limit, Hops 0, speed 0, to every line that is open and lets it pass (RULES 8)
 abbrev pub ownPayload : List ℕ → List ℕ
 ownPayload text = 0 ∷ 0 ∷ (text ++ (0 ∷ []))
 

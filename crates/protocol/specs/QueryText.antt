@@ -1,5 +1,5 @@
--- The text of a query from outside: behind two bytes of speed, up to the first zero byte, whatever stands behind that. One way only to read a
--- payload so, hence this fixes the text.
+-- The text of a query (RULES 6.6) from outside: behind two bytes of speed, up to the first zero byte, whatever stands
+-- behind that. One way only to read a payload so, hence this fixes the text.
 use Prim.Native.Nat.{ℕ}
 use mathlib.Core.Path.{_≡_}
 use mathlib.Core.Bool.{true, false}

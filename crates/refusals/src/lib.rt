@@ -1,4 +1,4 @@
-// Floor 4: the ordered refusals of the calls, as number functions: plain values in, document 01's number out, 0 where nothing is refused.
+// Floor 4: the ordered refusals of the calls, as number functions: plain values in, a number of RULES 2.1 out, 0 where nothing is refused.
 ghost use mathlib.Core.Path.{_≡_};
 ghost use Prim.Native.Nat.{_<_, _≤_};
 ghost use lib.ListN.{length};

@@ -20,7 +20,7 @@ use protocol::Line;
 // The usual life of a query.
 const LIMIT: u8 = 7;
 
-// Document 01's life: the smaller of TTL and 7 minus Hops.
+// The life of a query (RULES 7.2): TTL or 7 - Hops, whichever is less.
 fn life_of(ttl: u8, hops: u8) -> u8
     requires { ⌜ hops < 7 ⌝ }
     ensures { λ r. ⌜ r ≡ min ttl (7 - hops) ⌝ }

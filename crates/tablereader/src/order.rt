@@ -1,4 +1,4 @@
-// Whether a table is in order, as document 01 has it in "In order".
+// Whether a table is in order (RULES 4.7, 4.8).
 ghost use mathlib.Core.Path.{_≡_};
 ghost use Rattle.tables.specs.Tables.{insideRun, betweenRuns, withinLimits, tableInOrder};
 use crate::fields::good_bits;

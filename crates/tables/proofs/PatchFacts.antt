@@ -45,7 +45,7 @@ numbers-length bits (b ∷ bs) = by (eqb bits 4) (numbers-length bits bs)
     by true h = omega arith
     by false h = omega arith
 
--- the first four bits of a byte come first
+-- the high half of a byte first
 pub first-bits-first : (b : ℕ) (d : List ℕ) → numbers 4 (b ∷ d) ≡ b / 16 ∷ b % 16 ∷ numbers 4 d
 unfolding numbers
 first-bits-first b d = refl
@@ -287,7 +287,7 @@ sum-in bits infinity v e h =
     let high : e + gain bits v ≤ infinity + loss bits v = h .high in
     (omega arith, omega arith)
 
--- document 01's 16, exactly: it is not answered where there is an entry for each number and each sum is in 1..Infinity
+-- 16 (RULES 12.11), exactly: it is not answered where there is an entry for each number and each sum is in 1..Infinity
 pub record EachWithin (bits infinity : ℕ) (vs es : List ℕ) : Type 0 where
   pub long : length vs ≤ length es
   pub sums : (i : ℕ) → i < length vs → SumWithin bits infinity (getD vs i 0) (getD es i 0)

@@ -1,4 +1,4 @@
--- Document 01's cases P1 to P4 and Q1 to Q3 at the level of a table, and the errors easily made, by computation. The room is 4 entries.
+-- The cases P1 to P4 and Q1 to Q3 of RULES 18 at the level of a table, and its known mistakes, by computation. The room is 4 entries.
 use Prim.Native.Nat.{ℕ}
 use mathlib.Core.Path.{_≡_, refl}
 use mathlib.Core.Bool.{true, false}

@@ -1,4 +1,4 @@
--- Whether a table withholds a query (document 01, "Questions", and demand 3): the rule, and what it comes to in words.
+-- Whether a table withholds a query (RULES 7.7, 7.8, and demand 3): the rule, and what it comes to in words.
 use Prim.Native.Nat.{ℕ, _^_, _≤_, _<_}
 use mathlib.Core.Path.{_≡_}
 use mathlib.Core.Bool.{Bool, true, false, _&&_, _||_}
@@ -10,7 +10,7 @@ use Rattle.laws.specs.Tests.{any}
 use Rattle.keywords.specs.Hash.{hashOf, placeOf, scaled}
 use Rattle.tables.specs.Tables.{Held, settled}
 
--- the entry is Infinity, which means none, or exceeds the Time To Live to be sent
+-- RULES 7.7, 7.8: the entry is Infinity, which means none, or is above the TTL that the query would be sent with
 abbrev pub far : ℕ → ℕ → ℕ → Bool
 far infinity ttl e = eqb e infinity || ltb ttl e
 

@@ -1,4 +1,4 @@
--- When an update is answered 0, 14, 15 or 16, and what a list of updates leaves of a table that begins as no table:
+-- When an update is answered 0, 14, 15 or 16 (RULES 12), and what a list of updates leaves of a table that begins as no table:
 -- in words of the bytes and of the updates before (specs/History), not of the rules that the code cites. They are
 -- laws of those rules, proved in proofs/HistoryLaws (the table) and proofs/Answers.
 use Prim.Native.Nat.{ℕ, _+_, _^_, _≤_, _<_}

@@ -119,7 +119,7 @@ spoiled (u ∷ us) = not (isReset u) && (not (accepted u) || spoiled us)
 abbrev pub speaks : List Update → Bool
 speaks us = not (beforeReset us || (spoiled us || (beforeRun us || insideRun us)))
 
--- document 01's mark, by its number: broken (4) after a refusal, else none (0) before a RESET, running (2) inside a
+-- the mark (RULES 4.7), by its number: broken (4) after a refusal, else none (0) before a RESET, running (2) inside a
 -- run, waiting (1) before a run has ended, settled (3) behind one
 abbrev pub markAfter : List Update → ℕ
 markAfter us = cond (spoiled us) 4 (cond (beforeReset us) 0 (cond (insideRun us) 2 (cond (beforeRun us) 1 3)))

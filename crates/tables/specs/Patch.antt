@@ -8,7 +8,7 @@ use lib.Dec.{eqb, leb, ltb}
 abbrev pub goodBits : ℕ → Bool
 goodBits bits = eqb bits 4 || eqb bits 8
 
--- the raw numbers of some data, each of `bits` bits: the first four bits of a byte come first
+-- the raw numbers of some data, each of `bits` bits: the high half of a byte first (RULES 12.12)
 unfoldable pub numbers : ℕ → List ℕ → List ℕ
 numbers bits [] = []
 numbers bits (b ∷ bs) = cond (eqb bits 4) (b / 16 ∷ b % 16 ∷ numbers bits bs) (b ∷ numbers bits bs)

@@ -8,7 +8,7 @@ use Rattle.laws.specs.Tests.{any, every, all}
 use Rattle.tables.specs.declared.Table.{Table}
 use Rattle.tables.specs.Patch.{goodBits}
 
--- document 01's marks: none, waiting, running, settled, broken
+-- the marks of a table (RULES 4.7): none, waiting, running, settled, broken
 abbrev pub none : ℕ
 none = 0
 
@@ -77,7 +77,7 @@ withinLimits room t =
     ∷ cond (eqb (t .mark) running) (insideRun t) (betweenRuns t)
     ∷ [])
 
--- document 01, "In order", for a table: a mark among the five, and within the limits where the mark is waiting, running or settled
+-- a table in order (RULES 4.7, 4.8): a mark among the five, and within the limits where the mark is waiting, running or settled
 unfoldable pub tableInOrder : ℕ → Table → Bool
 tableInOrder room t = leb (t .mark) broken && (not (ready (t .mark)) || withinLimits room t)
 

@@ -1,4 +1,4 @@
--- Updates, as document 01 has them: what each is answered and what it does to a table and its entries. `room` is how many entries
+-- Updates (RULES 12): what each is answered and what it does to a table and its entries. `room` is how many entries
 -- there is room for. `p` is the payload.
 use Prim.Native.Nat.{ℕ, _+_}
 use mathlib.Core.Bool.{Bool, true, false, cond, not, _&&_, _||_}

@@ -1,4 +1,4 @@
--- Document 01's table of four entries, written and read back, by computation.
+-- The table of four entries of RULES 18, written and read back, by computation.
 use Prim.Native.Nat.{ℕ}
 use mathlib.Core.Path.{_≡_, refl}
 use mathlib.Core.Bool.{true, false}

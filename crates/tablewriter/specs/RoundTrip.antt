@@ -71,8 +71,8 @@ pub record ReadAs (room : ℕ) (h : Held) (ms : List (List ℕ)) (last : Held) :
   pub answers : answersTo room h ms ≡ replicate (length ms) 0
   pub held : afterAll room h ms ≡ last
 
--- document 01, "Updates": reading the writer's bytes from the old table, settled and with room, gives the new one; where there was no old
--- table, from anything that is held
+-- RULES 13.5: who holds the old table, settled, and has room gets the new one by reading the writer's bytes; without an
+-- old table, whatever is held
 abbrev pub RoundTrip : Type 0
 RoundTrip =
     (number : List ℕ) (had : Bool) (old : List ℕ) (oldInfinity : ℕ) (new : List ℕ) (infinity size outLength room : ℕ) (h : Held)

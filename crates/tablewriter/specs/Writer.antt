@@ -1,5 +1,5 @@
--- The writer of document 01's "Updates": the old table or none, the new one, a message number and a data size give a RESET, if there was
--- no old table, and a run of PATCH messages.
+-- The writer of updates (RULES 13): the new table, the old one if any, a message number and a data size give a RESET, where
+-- there was no old table, and a run of PATCH messages.
 use Prim.Native.Nat.{ℕ, zero, suc, _+_, _-_, _^_}
 use mathlib.Core.Bool.{Bool, true, cond, not, _&&_}
 use mathlib.Core.List.{List, [], _∷_, _++_}
@@ -26,7 +26,7 @@ allNear [] bs = true
 allNear (e ∷ es) [] = true
 allNear (e ∷ es) (b ∷ bs) = near e b && allNear es bs
 
--- 4 bits if every difference fits, else 8
+-- RULES 13.4: 4 bits where every difference lies in -8..7, else 8
 abbrev pub bitsFor : List ℕ → List ℕ → ℕ
 bitsFor new base = cond (allNear new base) 4 8
 

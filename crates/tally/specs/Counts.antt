@@ -1,4 +1,4 @@
--- The tally (document 01): one count for each answer number. A full 32-bit count stays.
+-- The tally (RULES 16): one count for each answer number. A full 32-bit count stays.
 use Prim.Native.Nat.{ℕ, suc, _+_, min}
 use mathlib.Core.Bool.{cond}
 use mathlib.Core.List.{List, [], _∷_}

@@ -1,4 +1,4 @@
-// The tally: one count for each of the answer numbers 0 to 18 (document 01). It stands beside the state.
+// The tally: one count for each of the answer numbers 0 to 18 (RULES 16). It stands beside the state.
 ghost use mathlib.Core.Path.{_≡_};
 ghost use Rattle.tally.specs.Counts.{oneMore, counted as countedBy};
 

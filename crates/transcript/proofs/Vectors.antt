@@ -1,4 +1,4 @@
--- Document 01's session of six events, and files that are not good, by computation.
+-- The six events of RULES 17.7, and files that are not good, by computation.
 use Prim.Native.Nat.{ℕ, _+_, _*_}
 use mathlib.Core.Path.{_≡_, refl}
 use mathlib.Core.Bool.{true, false}

@@ -1,4 +1,5 @@
--- Which files are good, in the rules' own terms: numbers of the file and nothing else. And what the session's station says of itself.
+-- Which files are good (RULES 17.1, 17.2), in the rules' own terms: numbers of the file and nothing else. And what the
+-- session's station says of itself.
 use Prim.Native.Nat.{ℕ, _+_, _*_, _≤_, _<_}
 use mathlib.Core.Path.{_≡_}
 use mathlib.Core.Bool.{true}

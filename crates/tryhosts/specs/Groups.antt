@@ -1,4 +1,4 @@
--- The three groups that the station writes, as document 01 has them in "Handshake".
+-- The three groups that the station writes (RULES 15.13, 15.14).
 use Prim.Native.Nat.{ℕ}
 use mathlib.Core.Bool.{Bool, cond, not, _&&_}
 use mathlib.Core.List.{List, [], _∷_, _++_, map}
@@ -84,7 +84,7 @@ canWrite pairs = leb (pairs .count) 32 && all hasPort (pairsIn pairs)
 unfoldable pub textAnswer : ℕ → List ℕ → ℕ
 textAnswer room text = firstOf ((ltb room (length text), 2) ∷ [])
 
--- over 32 pairs or port 0 is 6, then a short area 2
+-- RULES 15.14: 6 for more than 32 pairs or a port 0, then 2 for a short area
 unfoldable pub busyAnswer : ℕ → Pairs → ℕ
 busyAnswer room pairs =
     firstOf ((not (canWrite pairs), 6) ∷ (ltb room (length (busyBytes (pairsIn pairs))), 2) ∷ [])

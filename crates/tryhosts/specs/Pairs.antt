@@ -1,4 +1,4 @@
--- X-Try's pairs in the value of a field, as document 01 has them in "Handshake".
+-- X-Try's pairs in the value of a field (RULES 15.11, 15.12).
 use Prim.Native.Nat.{ℕ, _-_}
 use mathlib.Core.Bool.{Bool, cond, not, _&&_}
 use mathlib.Core.List.{List, [], _∷_, _++_, map}

@@ -15,7 +15,7 @@ use Rattle.tryhosts.specs.declared.TriedGroup.{TriedGroup}
 abbrev pub tryValue : List ℕ → List ℕ
 tryValue m = valueIn m tryName
 
--- as for reading a group: no end in the first 4,096 bytes is 18 where so many are there, else 4; not understood is 17; then a bad pair is 6
+-- as for reading a group (RULES 15.2, 15.3), 18 or 4, then 17; and then 6 for a bad pair
 abbrev pub triedRules : ℕ → ℕ → Bool → Bool → List (Bool × ℕ)
 triedRules n size ok good = (eqb n 0 && leb 4096 size, 18) ∷ (eqb n 0, 4) ∷ (not ok, 17) ∷ (not good, 6) ∷ []
 

@@ -18,7 +18,7 @@ pub struct Pairs {
     pub pairs: [Pair; 32],
 }
 
-// What reading a value gives: the answer's number in document 01, and the pairs (none where it is not 0).
+// What reading a value gives: the answer (RULES 2.1), and the pairs (none where it is not 0).
 #[repr(C)]
 pub struct Tried {
     pub answer: u8,
@@ -33,7 +33,7 @@ pub struct TriedGroup {
     pub pairs: Pairs,
 }
 
-// What writing a group gives: the answer's number in document 01, and how many bytes were written (none where it is not 0).
+// What writing a group gives: the answer (RULES 2.1), and how many bytes were written (none where it is not 0).
 #[repr(C)]
 pub struct Wrote {
     pub answer: u8,

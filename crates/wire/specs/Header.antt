@@ -1,4 +1,4 @@
--- The header of a message, as document 01 has it: number 16 bytes, type, TTL, Hops, payload length 4 bytes, little-endian; the payload from byte 23.
+-- The header of a message (RULES 6.1): number 16 bytes, type, TTL, Hops, payload length 4 bytes, little-endian; the payload from byte 23.
 use Prim.Native.Nat.{ℕ}
 use mathlib.Core.Bool.{cond}
 use mathlib.Core.List.{List, _∷_, _++_}
