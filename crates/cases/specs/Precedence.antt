@@ -87,6 +87,9 @@ precedence =
     ∷ row came (by 1 0 (hit 27 2 255)) 12
     -- pings: TTL 0 before too soon; pongs: size before TTL and Hops
     ∷ row (opened ++ (by 0 5 (ping 7 0) ∷ [])) (by 0 6 (ping 0 0)) 8
+    -- a ping too soon leaves the time, so that the next one is too soon as well; 1,000 ms after the first is not
+    ∷ row (opened ++ (by 0 5 (ping 7 0) ∷ by 0 6 (ping 7 0) ∷ [])) (by 0 1004 (ping 7 0)) 13
+    ∷ row (opened ++ (by 0 5 (ping 7 0) ∷ by 0 6 (ping 7 0) ∷ [])) (by 0 1005 (ping 7 0)) 0
     ∷ row opened (by 0 0 (message number 0x01 0 9 (replicate 13 0))) 6
     -- updates: fields, then turn, then sums
     ∷ row opened (by 1 0 (update (1 ∷ 1 ∷ 1 ∷ 1 ∷ 4 ∷ 9 ∷ 9 ∷ []))) 14

@@ -25,7 +25,7 @@ use Rattle.protocol.specs.declared.Station.{Station}
 use Rattle.protocol.specs.declared.Own.{Own}
 use Rattle.protocol.specs.declared.Handled.{Handled}
 use Rattle.protocol.specs.Lines.{lineAt, withTable, partOf, heldAt}
-use Rattle.protocol.specs.Outcomes.{Outcome, quiet, usedOf}
+use Rattle.protocol.specs.Outcomes.{Outcome, usedOf}
 use Rattle.protocol.specs.Queries.{usualLimit}
 use Rattle.protocol.specs.Calls.{early, updateOutcome, byType, arriving, messageOutcome, messageResult}
 use Rattle.protocol.specs.Kept.{Kept}
@@ -33,7 +33,7 @@ use Rattle.protocol.proofs.Updates.{by-update}
 use Rattle.protocol.proofs.Kept.{order-kept}
 use Rattle.protocol.proofs.Matching.{line-set}
 use Rattle.protocol.proofs.Blind.{taken-before}
-use Rattle.exchange.specs.Feeding.{Turn, thenFed, callThen, fedBy, Silent}
+use Rattle.exchange.specs.Feeding.{Turn, thenFed, callThen, fedBy, Taken}
 use Rattle.exchange.specs.Exchange.{Listening}
 
 -- a table of n entries, with n of them
@@ -149,9 +149,9 @@ module _ (s : Station) (L : ℕ) (area : List ℕ) (w : Listening s L area) (m :
 
   -- answered 0: nothing is sent, and the message's bytes are used
   module _ (taken : answerTo (s .room) (heldAt s L area) m ≡ 0) where
-    pub left-silent : Silent left
+    pub left-taken : Taken left
     unfolding updateOutcome
-    left-silent = ap (λ a. quiet a (left .state) (left .route)) taken
+    left-taken = (taken, record { to = refl; sent = refl; delivered = refl; search = refl; textat = refl; textlen = refl })
 
     answered : left .answer ≡ 0
     unfolding updateOutcome

@@ -18,9 +18,9 @@ use Rattle.protocol.specs.declared.Station.{Station}
 use Rattle.protocol.specs.Lines.{nowhere, lineAt, withLine, withTable, heldAt}
 use Rattle.protocol.specs.Calls.{updateOutcome}
 use Rattle.protocol.proofs.Matching.{line-set}
-use Rattle.exchange.specs.Feeding.{Turn, Fed, unfed, fedBy, AllSilent}
+use Rattle.exchange.specs.Feeding.{Turn, Fed, unfed, fedBy, AllTaken}
 use Rattle.exchange.specs.Exchange.{Listening}
-use Rattle.exchange.proofs.Feeding.{Full, Sendable, line-below, part-inside, held-then, listens-on, left-silent, fed-next}
+use Rattle.exchange.proofs.Feeding.{Full, Sendable, line-below, part-inside, held-then, listens-on, left-taken, fed-next}
 
 -- as many bytes written over others in the same place leave no trace of them
 over-twice : (from : ℕ) (a b area : List ℕ) → length a ≡ length b → from + length a ≤ length area → over from b (over from a area) ≡ over from b area
@@ -56,7 +56,7 @@ full-last n room h (m ∷ ms) f a = full-last n room (after room h m) ms (a .0) 
 
 -- what the calls leave
 pub record FedTo (s : Station) (L : ℕ) (route : List ℕ) (messages bytes : ℕ) (last : Held) (f : Fed) : Type 0 where
-  pub silent : AllSilent (f .outcomes)
+  pub silent : AllTaken (f .outcomes)
   pub calls : length (f .outcomes) ≡ messages
   pub used : f .used ≡ bytes
   pub state : f .state ≡ withLine s L (withTable (lineAt s L) (last .table))
@@ -121,7 +121,7 @@ feeding L n (suc k) t s area h (m ∷ ms) w e within good full answers enough ou
     (λ (x : Fed). FedTo s L area (suc (length ms)) (length (m ++ joined ms)) last x)
     (sym (fed-next s L area w m g taken k t (joined ms) (outs 0)))
     (record {
-      silent = (left-silent s L area w m g taken, rest .silent);
+      silent = (left-taken s L area w m g taken, rest .silent);
       calls = ap suc (rest .calls);
       used = ap (λ i. length m + i) (rest .used) ∙ sym (length-append m (joined ms));
       state = rest .state ∙ table-twice s L (after room (heldAt s L area) m .table) (last .table) (line-below s L area w);

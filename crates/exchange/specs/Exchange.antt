@@ -14,7 +14,7 @@ use Rattle.protocol.specs.Memory.{remembered}
 use Rattle.protocol.specs.Lines.{lineAt, withLine, withTable, heldAt}
 use Rattle.protocol.specs.Order.{inOrder}
 use Rattle.protocol.specs.Kept.{Sized}
-use Rattle.exchange.specs.Feeding.{Turn, Fed, fed, AllSilent}
+use Rattle.exchange.specs.Feeding.{Turn, Fed, fed, AllTaken}
 
 -- a station in order with line L open, and a route area that fits it
 pub record Listening (s : Station) (L : ℕ) (area : List ℕ) : Type 0 where
@@ -35,7 +35,7 @@ pub record SettledAt (h : Held) (es : List ℕ) (infinity : ℕ) : Type 0 where
 -- the new table stands at line L, and all else is as it was
 pub record Exchanged (s : Station) (L : ℕ) (route new : List ℕ) (infinity messages bytes : ℕ) (f : Fed) : Type 0 where
   -- every message is one call, answered 0, with nothing sent, and every byte is used
-  pub silent : AllSilent (f .outcomes)
+  pub silent : AllTaken (f .outcomes)
   pub calls : length (f .outcomes) ≡ messages
   pub used : f .used ≡ bytes
   -- the whole state and the whole route area

@@ -5,7 +5,8 @@ use mathlib.Core.List.{List, [], _∷_}
 use lib.ListN.{length, drop}
 use Rattle.protocol.specs.declared.Station.{Station}
 use Rattle.protocol.specs.declared.Own.{Own}
-use Rattle.protocol.specs.Outcomes.{Outcome, quiet}
+use Rattle.protocol.specs.Outcomes.{Outcome}
+use Rattle.protocol.specs.Frames.{Silent}
 use Rattle.protocol.specs.Calls.{messageOutcome, messageResult}
 
 -- what a call brings besides the bytes: its clock, the own pong, and the length of its output area
@@ -48,9 +49,9 @@ abbrev pub fed : (ℕ → Turn) → ℕ → Station → List ℕ → List ℕ �
 fed t l s area bytes = fedBy (length bytes) t l s area bytes
 
 -- answered 0, and nothing was sent, searched or delivered
-abbrev pub Silent : Outcome → Type 0
-Silent o = o ≡ quiet 0 (o .state) (o .route)
+abbrev pub Taken : Outcome → Type 0
+Taken o = (o .answer ≡ 0) × Silent o
 
-abbrev pub AllSilent : List Outcome → Type 0
-AllSilent [] = Unit {0}
-AllSilent (o ∷ os) = Silent o × AllSilent os
+abbrev pub AllTaken : List Outcome → Type 0
+AllTaken [] = Unit {0}
+AllTaken (o ∷ os) = Taken o × AllTaken os

@@ -29,7 +29,7 @@ use Rattle.protocol.specs.Runs.{Call, Open, Close, Message, Ask, World, 
 use Rattle.protocol.specs.Periods.{lifeLeft}
 use Rattle.protocol.specs.Kept.{Sized}
 use Rattle.protocol.specs.Arrived.{Arrived}
-use Rattle.protocol.specs.Frames.{Silent}
+use Rattle.protocol.specs.Frames.{NotSearched, Silent}
 use Rattle.protocol.specs.Written.{NoHit}
 use Rattle.protocol.specs.Pinged.{PingRouted, PongRouted, PingsRouted}
 use Rattle.protocol.specs.Demand2.{Origin, Unknown, Here, From, Gone, origin, Acceptable, OwnAcceptable, Answered, QueryTo, OwnTo, HitBy, HitRouted, MessageRouted, Routed, AllRouted, Demand2}
@@ -91,7 +91,7 @@ module _ (s : Station) (route : List ℕ) where
             let p = and-iff (lineAt s k .live) (not held) ((λ z. z), (λ z. z)) (not-is held) in
             ((λ z. p .0 (sym at ∙ z)), (λ v. at ∙ p .1 v));
         sent = written-for (ownTo usualLimit s text route) (ownBytes usualLimit number text);
-        search = refl;
+        search = (refl, refl, refl);
         lines = refl;
       }
 
@@ -344,7 +344,7 @@ module _ (w : World) (m route : List ℕ) (f : Found) where
   hit-routed from h since =
       record {
         leaves = of-refused (λ (r : Outcome). r .state ≡ w .state) (firstOf (hitRules f m)) (w .state) route (hitTaken (w .state) f m route) (λ _. refl) (λ _. refl);
-        search = of-refused (λ (r : Outcome). r .search ≡ false) (firstOf (hitRules f m)) (w .state) route (hitTaken (w .state) f m route) (λ _. refl) (λ _. refl);
+        search = of-refused NotSearched (firstOf (hitRules f m)) (w .state) route (hitTaken (w .state) f m route) (λ _. (refl, refl, refl)) (λ _. (refl, refl, refl));
         short = λ a. rw (lt-ltb (sizeOf m) 27 a);
         spent = λ a b. rw (le-ltb (sizeOf m) 27 a, eq-eqb (ttlOf m) 0 b);
         by = λ a b. hit-by from h since a b;

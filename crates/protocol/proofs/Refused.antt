@@ -25,7 +25,7 @@ use Rattle.protocol.specs.Hits.{hitType, hitRules, hitFound, hitTaken, h
 use Rattle.protocol.specs.Pings.{pingType, pongType, pingRules, pingTaken, pingOutcome, pongRules, arrivedPong, pongOutcome}
 use Rattle.protocol.specs.Calls.{fresh, openingRules, opening, closedState, closingRules, closing, early, updateOutcome, byType, arriving, ownRules, asking, messageOutcome}
 use Rattle.protocol.specs.Kept.{OutOfOrder, marksBroken, brokenAt, afterRefusal, RefusedQuietly, RefusalsLeave, RefusalFrame}
-use Rattle.protocol.specs.Frames.{Bare}
+use Rattle.protocol.specs.Frames.{Silent, Bare}
 use Rattle.protocol.proofs.Updates.{by-update, update-range}
 use Rattle.protocol.specs.Memory.{remembered}
 use Rattle.protocol.proofs.Outcomes.{of-pick, of-refused, other-type, early-unsent}
@@ -123,11 +123,15 @@ fresh-bare n l = go (ltb l lineCount) refl
     go true e = bare-at false (lineAt (fresh n .state) l) (getD-replicate lineCount l (emptyLine false) nowhere (ltb-true l lineCount e))
     go false e = rw (List·getD-eq-default (replicate lineCount (emptyLine false)) nowhere {n = l} (ltb-false l lineCount e)) (record { isLive = refl; mark = refl; pongs = refl; unpinged = refl })
 
+quiet-silent : {n : ℕ} {s : Station} {route : List ℕ} → Silent (quiet n s route)
+quiet-silent = record { to = refl; sent = refl; delivered = refl; search = refl; textat = refl; textlen = refl }
+
 pub refusal-frame : RefusalFrame
 unfolding fresh remembered keptPlaces
 refusal-frame =
     record {
       calls = calls-leave;
+      quietly = λ n s route. record { answer = refl; state = refl; route′ = refl; silent = quiet-silent };
       freshRefused = λ n h.
           record {
             answer = rw (lt-ltb n 32 h);

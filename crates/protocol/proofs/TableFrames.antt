@@ -31,7 +31,7 @@ use Rattle.protocol.specs.Pings.{pingType, pongType, pingRules, pingTake
 use Rattle.protocol.specs.Calls.{early, updateOutcome, byType, arriving, ownRules, asking, messageOutcome, ownOutcome}
 use Rattle.protocol.specs.Kept.{Sized, BrokenInWords}
 use Rattle.protocol.specs.Arrived.{Arrived}
-use Rattle.protocol.specs.Frames.{TableOnly, MarkedBroken, PartOnly}
+use Rattle.protocol.specs.Frames.{NotSearched, TableOnly, MarkedBroken, PartOnly}
 use Rattle.protocol.proofs.Outcomes.{of-pick, of-refused}
 use Rattle.protocol.proofs.InOrder.{facts-at}
 use Rattle.protocol.proofs.Updates.{by-update}
@@ -171,9 +171,6 @@ module _ (s : Station) (l clock : ℕ) (own : Own) (m : List ℕ) (out : ℕ) (r
   abbrev handled : Outcome
   handled = messageOutcome s l clock own m out route
 
-  abbrev Unsearched : Outcome → Type 0
-  Unsearched r = r .search ≡ false
-
   abbrev SameArea : Outcome → Type 0
   SameArea r = r .route ≡ route
 
@@ -207,15 +204,15 @@ module _ (s : Station) (l clock : ℕ) (own : Own) (m : List ℕ) (out : ℕ) (r
           (refusal-frame .calls s .message l clock own m out route (eqb-false (handled .answer) 0 e))
 
   -- and no ping is searched for
-  pub ping-search : inOrder s ≡ true → kindOf m ≡ 0x00 → Unsearched handled
+  pub ping-search : inOrder s ≡ true → kindOf m ≡ 0x00 → NotSearched handled
   unfolding arriving pingOutcome
   ping-search o k =
-      of-refused Unsearched (early s l m out (length route)) s route (byType usualLimit s l clock own m route)
+      of-refused NotSearched (early s l m out (length route)) s route (byType usualLimit s l clock own m route)
       (λ _. rw (by-ping s o l m out route clock own k)
-      (of-refused Unsearched (firstOf (pingRules (lineAt s l) clock m)) s route (pingTaken s l clock own m route)
-      (λ _. refl)
-      (λ _. refl)))
-      (λ _. refl)
+      (of-refused NotSearched (firstOf (pingRules (lineAt s l) clock m)) s route (pingTaken s l clock own m route)
+      (λ _. (refl, refl, refl))
+      (λ _. (refl, refl, refl))))
+      (λ _. (refl, refl, refl))
 
 pub own-area : (s : Station) (number text : List ℕ) (out : ℕ) (route : List ℕ)
     → ownOutcome s number text out route .route ≡ route

@@ -26,7 +26,7 @@ use Rattle.protocol.specs.Runs.{Area, Call, Open, Close, Message, Ask, M
 use Rattle.protocol.specs.Periods.{lifeLeft}
 use Rattle.protocol.specs.Kept.{Sized}
 use Rattle.protocol.specs.Arrived.{Areas, Arrived, SentIfArrived}
-use Rattle.protocol.specs.Frames.{TableOnly, MarkedBroken, PartOnly, Silent}
+use Rattle.protocol.specs.Frames.{NotSearched, TableOnly, MarkedBroken, PartOnly, Silent}
 use Rattle.protocol.specs.Written.{NoHit, WrittenFor}
 use Rattle.protocol.specs.Opened.{OpenRouted, CloseRouted}
 use Rattle.protocol.specs.Pinged.{PingsRouted}
@@ -180,7 +180,7 @@ pub record OwnTo (s : Station) (route number text : List ℕ) (o : Outcome) : Ty
   pub to : (k : ℕ) → k < 8
       → (getD (o .to) k false ≡ true) ↔ ((lineAt s k .live ≡ true) × (withholds (heldAt s k route) (keywordsOf text) 7 ≡ false))
   pub sent : WrittenFor (o .to) (message number 0x80 7 0 (0 ∷ 0 ∷ (text ++ (0 ∷ [])))) (o .sent)
-  pub search : o .search ≡ false
+  pub search : NotSearched o
   pub lines : o .state .lines ≡ s .lines
 
 -- Hits. What one with TTL 1 or more and 27 bytes of payload is answered, by where its query came from. It goes back over a line that is
@@ -201,7 +201,7 @@ HitBy (From l n) w m o =
 
 pub record HitRouted (from : Origin) (w : World) (m : List ℕ) (o : Outcome) : Type 0 where
   pub leaves : o .state ≡ w .state
-  pub search : o .search ≡ false
+  pub search : NotSearched o
   pub short : sizeOf m < 27 → o .answer ≡ 6
   pub spent : 27 ≤ sizeOf m → ttlOf m ≡ 0 → o .answer ≡ 8
   pub by : 27 ≤ sizeOf m → 1 ≤ ttlOf m → HitBy from w m o
@@ -214,7 +214,7 @@ pub record MessageRouted (base : List Query) (w : World) (l : ℕ) (m : List ℕ
   pub goes : kindOf m ≡ 0x80 → o .answer ≡ 0 → QueryTo (w .state) route l m o
   pub hit : kindOf m ≡ 0x81 → Arrived (w .state) l m out route → HitRouted (origin (w .log) base (numberIn m)) w m o
   pub noHit : kindOf m ≡ 0x80 → NoHit 0x80 o
-  pub pings : kindOf m ≡ 0x00 → o .search ≡ false
+  pub pings : kindOf m ≡ 0x00 → NotSearched o
   -- an update changes its line's table and nothing else, and a refused one only that table's mark
   pub update : kindOf m ≡ 0x30 → Arrived (w .state) l m out route → TableOnly l (w .state) (o .state)
   pub broken : kindOf m ≡ 0x30 → Arrived (w .state) l m out route → (o .answer ≡ 0 → ⊥) → MarkedBroken l (w .state) (o .state)

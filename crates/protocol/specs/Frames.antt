@@ -49,6 +49,10 @@ pub record PartOnly (room l n : ℕ) (route route′ : List ℕ) : Type 0 where
   pub behind : drop (l * room + n) route′ ≡ drop (l * room + n) route
   pub long : length route′ ≡ length route
 
+-- no text is offered to the local search
+abbrev pub NotSearched : Outcome → Type 0
+NotSearched o = (o .search ≡ false) × (o .textat ≡ 0) × (o .textlen ≡ 0)
+
 -- nothing is sent, searched or delivered
 pub record Silent (o : Outcome) : Type 0 where
   pub to : o .to ≡ nobody
@@ -57,3 +61,10 @@ pub record Silent (o : Outcome) : Type 0 where
   pub search : o .search ≡ false
   pub textat : o .textat ≡ 0
   pub textlen : o .textlen ≡ 0
+
+-- answered n, and all that stands is left: the state, the route area, no byte written, no line sent to
+pub record LeftAsItWas (o : Outcome) (n : ℕ) (s : Station) (route : List ℕ) : Type 0 where
+  pub answer : o .answer ≡ n
+  pub state : o .state ≡ s
+  pub route′ : o .route ≡ route
+  pub silent : Silent o

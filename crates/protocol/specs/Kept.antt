@@ -19,7 +19,7 @@ use Rattle.protocol.specs.Order.{inOrder}
 use Rattle.protocol.specs.Outcomes.{Outcome, quiet}
 use Rattle.protocol.specs.Calls.{fresh, opening, closedState, closing, messageOutcome, ownOutcome}
 use Rattle.protocol.specs.Runs.{Call, World, run}
-use Rattle.protocol.specs.Frames.{Bare, MarkedBroken}
+use Rattle.protocol.specs.Frames.{LeftAsItWas, Bare, MarkedBroken}
 
 -- the arrays of a state are as long as their types have them
 abbrev pub sizedLine : Line → Bool
@@ -108,8 +108,10 @@ pub record FreshRefused (n : ℕ) : Type 0 where
   pub memory : remembered (fresh n .state) ≡ []
   pub order : inOrder (fresh n .state) ≡ true
 
+-- `quietly` is what `quiet` comes to, here and for a state out of order
 pub record RefusalFrame : Type 0 where
   pub calls : (s : Station) → RefusalsLeave s
+  pub quietly : (n : ℕ) (s : Station) (route : List ℕ) → LeftAsItWas (quiet n s route) n s route
   pub freshRefused : (n : ℕ) → n < 32 → FreshRefused n
   pub freshTaken : (n : ℕ) → 32 ≤ n → (fresh n .answer ≡ 0) × (fresh n .state .room ≡ n / 8)
 
