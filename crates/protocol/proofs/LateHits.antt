@@ -25,6 +25,7 @@ use Rattle.protocol.specs.Arrived.{Arrived}
 use Rattle.protocol.specs.Demand2.{allTaken, Here, Gone, origin, AllRouted}
 use Rattle.protocol.proofs.Kept.{fresh-in-order}
 use Rattle.protocol.proofs.Demand2.{demand2}
+use Rattle.protocol.proofs.Outcomes.{counting}
 
 own : Own
 own = record { port = 6346; address = 127 ∷ 0 ∷ 0 ∷ 1 ∷ []; files = 0; kilobytes = 0; calls = true }
@@ -87,10 +88,6 @@ late-arrived =
     }
 
 -- a state that remembers 512 queries asked here, of the numbers 1 to 512, number 1 the oldest
-counting : ℕ → ℕ → List ℕ
-counting zero from = []
-counting (suc n) from = from ∷ counting n (suc from)
-
 full : Station
 full =
     record {

@@ -4,7 +4,7 @@ use Prim.Native.Nat.{ℕ, zero, suc, _+_, _/_, _≤_, _<_}
 use native.Mathlib.Omega.{arith}
 use mathlib.Core.Path.{_≡_, refl, ap, _∙_}
 use mathlib.Core.Bool.{Bool, true, false, not, _||_}
-use mathlib.Core.List.{List}
+use mathlib.Core.List.{List, [], _∷_}
 use lib.Dec.{eqb, ltb}
 use lib.ListN.{length, getD}
 use borrow.Author.Tests.{eqb-true, eqb-false, ltb-true, ltb-false, not-false, not-true}
@@ -27,20 +27,24 @@ module _ (P : Outcome → Type 0) where
   pub of-refused : (n : ℕ) (s : Station) (route : List ℕ) (o : Outcome) → (n ≡ 0 → P o) → ((n ≡ 0 → ⊥) → P (quiet n s route)) → P (refusedOr n s route o)
   of-refused n s route o f g = of-pick (eqb n 0) o (quiet n s route) (λ e. f (eqb-true n 0 e)) (λ e. g (eqb-false n 0 e))
 
--- the flag of one line
-numbers-at : (k : ℕ) → k ≤ 7 → getD lineNumbers k 0 ≡ k
-numbers-at zero h = refl
-numbers-at (suc zero) h = refl
-numbers-at (suc (suc zero)) h = refl
-numbers-at (suc (suc (suc zero))) h = refl
-numbers-at (suc (suc (suc (suc zero)))) h = refl
-numbers-at (suc (suc (suc (suc (suc zero))))) h = refl
-numbers-at (suc (suc (suc (suc (suc (suc zero)))))) h = refl
-numbers-at (suc (suc (suc (suc (suc (suc (suc zero))))))) h = refl
-numbers-at (suc (suc (suc (suc (suc (suc (suc (suc k)))))))) h = absurd (omega arith)
+-- n numbers, counted up from `from`: the one at a place; so the line's number at a place of the eight
+unfoldable pub counting : ℕ → ℕ → List ℕ
+counting zero from = []
+counting (suc n) from = from ∷ counting n (suc from)
 
+pub counted : (n from k : ℕ) → k < n → getD (counting n from) k 0 ≡ from + k
+unfolding counting
+counted zero from k h = absurd (omega arith)
+counted (suc n) from zero h = omega arith
+counted (suc n) from (suc k) h = counted n (suc from) k (omega arith) ∙ omega arith
+
+pub numbers-at : (k : ℕ) → k < 8 → getD lineNumbers k 0 ≡ k
+unfolding counting
+numbers-at k h = counted 8 0 k h ∙ omega arith
+
+-- the flag of one line
 pub eachLine-at : (f : ℕ → Bool) (k : ℕ) → k ≤ 7 → getD (eachLine f) k false ≡ f k
-eachLine-at f k h = map-getD f lineNumbers k 0 false (omega arith) ∙ ap f (numbers-at k h)
+eachLine-at f k h = map-getD f lineNumbers k 0 false (omega arith) ∙ ap f (numbers-at k (omega arith))
 
 -- refusals that all count as unsent, and some that none do
 pub all-unsent : (cs : List (Bool × ℕ)) → all (λ c. unsent (c .1)) cs ≡ true → (firstOf cs ≡ 0 → ⊥) → unsent (firstOf cs) ≡ true

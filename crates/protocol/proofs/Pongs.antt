@@ -18,6 +18,7 @@ use Rattle.protocol.specs.declared.Station.{Station}
 use Rattle.protocol.specs.Lines.{lineNumbers, isOther, lineAt, noPong, storedPongs, elapsed}
 use Rattle.protocol.specs.Pings.{ranked, keepIf, flat, walk, isFresh, storedSent, pongBytes}
 use Rattle.protocol.specs.Pongs.{Place, firstPlace, pongAt, Before, MayAnswer, Among, FirstTen, storedWritten}
+use Rattle.protocol.proofs.Outcomes.{counting, counted, numbers-at}
 
 -- what is kept of a list
 module _ {A : Type 0} (f : A → Bool) where
@@ -114,35 +115,15 @@ in-rows (r ∷ rs) zero i a b = in-row r lineNumbers (rows rs) i b
 in-rows (r ∷ rs) (suc j) i a b =
     in-rest r lineNumbers (rows rs) (record { rank = getD rs j 0; line = getD lineNumbers i 0 }) (in-rows rs j i (omega arith) b)
 
-line-is : (k : ℕ) → k < 8 → getD lineNumbers k 0 ≡ k
-line-is zero h = refl
-line-is (suc zero) h = refl
-line-is (suc (suc zero)) h = refl
-line-is (suc (suc (suc zero))) h = refl
-line-is (suc (suc (suc (suc zero)))) h = refl
-line-is (suc (suc (suc (suc (suc zero))))) h = refl
-line-is (suc (suc (suc (suc (suc (suc zero)))))) h = refl
-line-is (suc (suc (suc (suc (suc (suc (suc zero))))))) h = refl
-line-is (suc (suc (suc (suc (suc (suc (suc (suc k)))))))) h = absurd (omega arith)
-
 rank-is : (r : ℕ) → r < 10 → getD ranks r 0 ≡ r
-rank-is zero h = refl
-rank-is (suc zero) h = refl
-rank-is (suc (suc zero)) h = refl
-rank-is (suc (suc (suc zero))) h = refl
-rank-is (suc (suc (suc (suc zero)))) h = refl
-rank-is (suc (suc (suc (suc (suc zero))))) h = refl
-rank-is (suc (suc (suc (suc (suc (suc zero)))))) h = refl
-rank-is (suc (suc (suc (suc (suc (suc (suc zero))))))) h = refl
-rank-is (suc (suc (suc (suc (suc (suc (suc (suc zero)))))))) h = refl
-rank-is (suc (suc (suc (suc (suc (suc (suc (suc (suc zero))))))))) h = refl
-rank-is (suc (suc (suc (suc (suc (suc (suc (suc (suc (suc r)))))))))) h = absurd (omega arith)
+unfolding counting
+rank-is r h = counted 10 0 r h ∙ omega arith
 
 in-all : (p : Place) → p .rank < 10 → p .line < 8 → Among (rows ranks) p
 in-all p a b =
     let x = in-rows ranks (p .rank) (p .line) a b in
     let u = rank-is (p .rank) a in
-    let v = line-is (p .line) b in
+    let v = numbers-at (p .line) b in
     record { at = x .at; below = x .below; is = x .is ∙ (λ i. record { rank = u i; line = v i }) }
 
 -- one that passes the test is among those kept

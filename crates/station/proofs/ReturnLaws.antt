@@ -24,6 +24,7 @@ use Rattle.protocol.specs.declared.Line.{Line}
 use Rattle.protocol.specs.declared.Changed.{Changed}
 use Rattle.protocol.specs.Lines.{lineNumbers, isOther, nowhere, emptyLine, withTable, partOf}
 use Rattle.protocol.specs.Outcomes.{nobody, onlyTo, writtenFor}
+use Rattle.protocol.proofs.Outcomes.{numbers-at}
 use Rattle.protocol.specs.Queries.{usualLimit, untilZero, textIn, hasText, passes, queryOn}
 use Rattle.protocol.specs.Calls.{fresh}
 use Rattle.protocol.proofs.Updates.{updated-within}
@@ -205,19 +206,8 @@ query-goes ended ttl hops seen e =
     let b = or-snd (ltb 15 ttl) (leb 7 hops) (or-snd (eqb ttl 0) (ltb 15 ttl || leb 7 hops) (p .1 .0)) in
     record { text = not-false ended (p .0); lives = omega (arith, eqb-false ttl 0 a); rises = leb-false 7 hops b }
 
-number-of : (k : ℕ) → k < 8 → getD lineNumbers k 0 ≡ k
-number-of zero h = refl
-number-of (suc zero) h = refl
-number-of (suc (suc zero)) h = refl
-number-of (suc (suc (suc zero))) h = refl
-number-of (suc (suc (suc (suc zero)))) h = refl
-number-of (suc (suc (suc (suc (suc zero))))) h = refl
-number-of (suc (suc (suc (suc (suc (suc zero)))))) h = refl
-number-of (suc (suc (suc (suc (suc (suc (suc zero))))))) h = refl
-number-of (suc (suc (suc (suc (suc (suc (suc (suc k)))))))) h = absurd (omega arith)
-
 pub table-of : (lines : List Line) (k : ℕ) → k < 8 → getD (tablesIn lines) k noTable ≡ getD lines k nowhere .table
-table-of lines k h = map-getD (λ k. getD lines k nowhere .table) lineNumbers k 0 noTable h ∙ ap (λ k. getD lines k nowhere .table) (number-of k h)
+table-of lines k h = map-getD (λ k. getD lines k nowhere .table) lineNumbers k 0 noTable h ∙ ap (λ k. getD lines k nowhere .table) (numbers-at k h)
 
 module _ (lines : List Line) (room l life : ℕ) (text route : List ℕ) where
   pub going-nobody : life < 2 → nobody ≡ goingTo lines room l life text route

@@ -19,7 +19,7 @@ use Rattle.tables.specs.Patch.{gain, loss, fits, allFit}
 use Rattle.tables.specs.Tables.{Held, lengths, goodLength}
 use Rattle.tables.specs.Updates.{lengthIn, infinityIn, placeIn, sizeIn, bitsIn, numbersIn, resetTests, patchTests, goodReset, goodPatch, inTurn, inRange, updateAnswer, updated, resetBy}
 use Rattle.tables.specs.History.{byte, lengthBytes, carried, Update, messages, ended, underWay, lengthNamed, infinityNamed, sumAt}
-use Rattle.tables.specs.Answers.{Sent, answerTo, after, history, MayReset, MayPatch, LikeFirst, InTurn, entryThen, outside, LeadsOut, Answers, EveryAnswer, EveryReset, Numbered, WholeRun, Runs, EveryRun}
+use Rattle.tables.specs.Answers.{Filled, Sent, answerTo, after, history, MayReset, MayPatch, LikeFirst, InTurn, entryThen, outside, LeadsOut, Answers, EveryAnswer, EveryReset, Numbered, WholeRun, Runs, EveryRun}
 use Rattle.tables.proofs.PatchFacts.{fits-exactly, fit-exactly}
 use Rattle.tables.proofs.HistoryLaws.{FourOrEight, length-bytes, signed, carried-is, carried-length, patch-tests, patch-width, signed-parts, brought-more, Accounts, update, turn-ready, turn-of, turn-is, accounts}
 
@@ -391,13 +391,27 @@ every-answer room ss s = answers room (after room ss) (history room ss) (account
 
 -- ---- what an accepted RESET makes
 
-reset-entries : (room : ℕ) (h : Held) (s : Sent) → answerTo room h s ≡ 0 → byte (s .payload) 0 ≡ 0
-    → updated room h (s .ttl) (s .hops) (s .payload) .entries ≡ replicate (lengthBytes (s .payload)) (byte (s .payload) 5)
+reset-answer : (room : ℕ) (h : Held) (s : Sent) → MayReset room s → answerTo room h s ≡ 0
+unfolding updateAnswer
+reset-answer room h s m = rw (is-near s (m .ttl) (m .hops), is-reset room s m, m .variant) refl
+
+reset-filled : (room : ℕ) (h : Held) (s : Sent) → answerTo room h s ≡ 0 → byte (s .payload) 0 ≡ 0
+    → Filled (s .payload) (updated room h (s .ttl) (s .hops) (s .payload))
 unfolding updated resetBy
-reset-entries room h s e v = rw (e, v) (ap (λ n. replicate n (byte (s .payload) 5)) (length-bytes (s .payload)))
+reset-filled room h s e v =
+    let n : lengthIn (s .payload) ≡ lengthBytes (s .payload) = length-bytes (s .payload) in
+    rw (e, v)
+    (record {
+      entries = ap (λ n. replicate n (byte (s .payload) 5)) n;
+      long = n;
+      infinity = refl;
+      mark = refl;
+      place = refl;
+      next = refl;
+    })
 
 pub every-reset : EveryReset
-every-reset room ss s m = reset-entries room (after room ss) s (every-answer room ss s .done .1 (inl m)) (m .variant)
+every-reset room h s m = let e = reset-answer room h s m in (e, reset-filled room h s e (m .variant))
 
 -- ---- runs
 

@@ -115,12 +115,21 @@ pub record Leaves (us : List Update) (h : Held) : Type 0 where
 abbrev pub EveryTable : Type 0
 EveryTable = (room : ℕ) (ss : List Sent) → Leaves (history room ss) (after room ss)
 
--- a RESET that is accepted makes every entry Infinity, whatever was there
+-- the table that a RESET makes: every entry Infinity, the mark waiting (1), place 1 and the first entry next
+pub record Filled (p : List ℕ) (h : Held) : Type 0 where
+  pub entries : h .entries ≡ replicate (lengthBytes p) (byte p 5)
+  pub long : h .table .length ≡ lengthBytes p
+  pub infinity : h .table .infinity ≡ byte p 5
+  pub mark : h .table .mark ≡ 1
+  pub place : h .table .place ≡ 1
+  pub next : h .table .at ≡ 0
+
+-- one that may be is accepted by any table and makes that one of it, whatever was there
 abbrev pub EveryReset : Type 0
 EveryReset =
-    (room : ℕ) (ss : List Sent) (s : Sent)
+    (room : ℕ) (h : Held) (s : Sent)
     → MayReset room s
-    → after room (s ∷ ss) .entries ≡ replicate (lengthBytes (s .payload)) (byte (s .payload) 5)
+    → (answerTo room h s ≡ 0) × Filled (s .payload) (updated room h (s .ttl) (s .hops) (s .payload))
 
 -- the n-th message of a run bears place n and the first one's size and bits
 abbrev pub Numbered : List (List ℕ) → Type 0
