@@ -12,8 +12,8 @@ use Rattle.tables.specs.Updates.{updated}
 use Rattle.tables.proofs.HistoryLaws.{update, after-update}
 pub use Rattle.tables.specs.Answers.{noHeld}
 pub use Rattle.tables.proofs.HistoryLaws.{Accounts, nothing-yet}
-use Rattle.protocol.specs.Outcomes.{Outcome, unsent}
-use Rattle.protocol.specs.Runs.{Call, Open, Close, Message, Ask}
+use Rattle.protocol.specs.Outcomes.{Outcome}
+use Rattle.protocol.specs.Runs.{Call, Open, Close, Message, Ask, unsent}
 use Rattle.protocol.specs.Expected.{Expected, wiped, opens, closes, brings, asks, brought, isUpdateOf, feed}
 use Rattle.protocol.specs.History.{Update, noted}
 use Rattle.protocol.specs.Demand3.{Agrees}

@@ -11,19 +11,20 @@ use lib.ListN.{length}
 use borrow.Author.Tests.{leb-true, le-leb, leb-false, lt-ltb, ltb-false, le-ltb, eqb-true, eqb-false, eq-eqb, not-true, not-false}
 use Rattle.laws.specs.Tests.{firstOf, all}
 use Rattle.laws.proofs.Refusals.{and-fst, and-snd, or-fst, or-snd, no-refusal, NoRefusal}
-use Rattle.wire.specs.Header.{kindOf, ttlOf, hopsOf, sizeOf, payloadOf, routeUpdate}
-use Rattle.protocol.specs.declared.Station.{Station}
+use Rattle.wire.specs.Header.{kindOf, ttlOf, hopsOf, sizeOf, payloadOf, routeUpdate, queryType, hitType, pingType, pongType}
+use Rattle.protocol.specs.State.{Station, lineAt, withLine, heldAt}
 use Rattle.protocol.specs.declared.Own.{Own}
-use Rattle.protocol.specs.Lines.{lineAt, withLine, withPong, heldAt}
+use Rattle.protocol.specs.Lines.{withPong}
 use Rattle.protocol.specs.Order.{inOrder}
-use Rattle.protocol.specs.Outcomes.{Outcome, quiet, refusedOr, unsent}
-use Rattle.protocol.specs.Queries.{usualLimit, queryType, queryRules, queryTaken, queryOutcome}
-use Rattle.protocol.specs.Hits.{hitType, hitRules, hitFound, hitTaken, hitOutcome}
-use Rattle.protocol.specs.Pings.{pingType, pongType, pingRules, pingTaken, pingOutcome, pongRules, arrivedPong, pongOutcome}
+use Rattle.protocol.specs.Outcomes.{Outcome, quiet, refusedOr}
+use Rattle.protocol.specs.Queries.{usualLimit, queryRules, queryTaken, queryOutcome}
+use Rattle.protocol.specs.Hits.{hitRules, hitFound, hitTaken, hitOutcome}
+use Rattle.protocol.specs.Pings.{pingRules, pingTaken, pingOutcome, pongRules, arrivedPong, pongOutcome}
 use Rattle.protocol.specs.Calls.{notOpen, shortOutput, otherRoom, earlyRules, early, updateOutcome, byType, arriving, messageOutcome}
 use Rattle.protocol.specs.Arrived.{Areas, Arrived, Sent, SentIfArrived}
 use Rattle.protocol.proofs.Outcomes.{of-pick, of-refused, none-unsent, LetIn, let-in, early-unsent}
 use Rattle.protocol.proofs.Updates.{update-sent}
+use Rattle.protocol.specs.Runs.{unsent}
 
 -- an ordered list of refusals of which no test holds
 pub none-refused : (cs : List (Bool × ℕ)) → NoRefusal cs → firstOf cs ≡ 0

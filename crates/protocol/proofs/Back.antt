@@ -13,7 +13,6 @@ use Rattle.laws.specs.Tests.{any}
 use Rattle.laws.proofs.Refusals.{clash, or-fst, or-snd}
 use Rattle.wire.specs.Header.{kindOf, ttlOf, hopsOf, sizeOf}
 use Rattle.protocol.specs.Memory.{capacity, here, gone, Number, numberIn, sameNumber}
-use Rattle.protocol.specs.Lines.{lineAt}
 use Rattle.protocol.specs.Outcomes.{Outcome, nobody, onlyTo}
 use Rattle.protocol.specs.Calls.{fresh}
 use Rattle.protocol.specs.Runs.{Call, Open, Close, Message, Ask, Made, World, lent, outcomeOf, run, start}
@@ -23,6 +22,7 @@ use Rattle.protocol.proofs.Kept.{fresh-in-order}
 use Rattle.protocol.proofs.Origins.{from-line, no-from, same-number, taken-took, taken-passed, Since, Invariant, begins, holds-after}
 use Rattle.protocol.proofs.Demand2.{message-routed}
 use Rattle.protocol.proofs.HandedBack.{fresh-remembers}
+use Rattle.protocol.specs.State.{lineAt}
 
 -- the call that took a query, within the n newest, where `shut` says which lines have closed since the log
 abbrev Taking : ℕ → (ℕ → Bool) → List Made → Number → ℕ → ℕ → Type 0

@@ -11,16 +11,16 @@ use lib.Seq.{take-append-le, drop-append-le, length-take-le}
 use borrow.Author.Tests.{le-ltb, leb-true, ne-eqb}
 use Rattle.laws.specs.Tests.{firstOf, all}
 use Rattle.laws.proofs.Refusals.{and-fst, and-snd}
-use Rattle.wire.specs.Header.{numberOf, kindOf, ttlOf, hopsOf, sizeOf, payloadOf, routeUpdate}
+use Rattle.wire.specs.Header.{numberOf, kindOf, ttlOf, hopsOf, sizeOf, payloadOf, routeUpdate, queryType, hitType, pingType, pongType}
 use Rattle.tables.specs.Updates.{updateAnswer}
-use Rattle.protocol.specs.declared.Station.{Station}
+use Rattle.protocol.specs.State.{Station, lineAt, withLine, heldAt}
 use Rattle.protocol.specs.declared.Own.{Own}
 use Rattle.protocol.specs.Memory.{Found, numberIn}
-use Rattle.protocol.specs.Lines.{lineAt, withLine, withPong, heldAt}
+use Rattle.protocol.specs.Lines.{withPong}
 use Rattle.protocol.specs.Outcomes.{Outcome, quiet, refusedOr, pickOutcome}
-use Rattle.protocol.specs.Queries.{usualLimit, queryType, queryRules, queryTaken, queryOutcome}
-use Rattle.protocol.specs.Hits.{hitType, hitRules, hitFound, hitTaken, hitOutcome}
-use Rattle.protocol.specs.Pings.{pingType, pongType, pingRules, pingTaken, pingOutcome, pongRules, arrivedPong, pongOutcome}
+use Rattle.protocol.specs.Queries.{usualLimit, queryRules, queryTaken, queryOutcome}
+use Rattle.protocol.specs.Hits.{hitRules, hitFound, hitTaken, hitOutcome}
+use Rattle.protocol.specs.Pings.{pingRules, pingTaken, pingOutcome, pongRules, arrivedPong, pongOutcome}
 use Rattle.protocol.specs.Calls.{earlyRules, early, updateOutcome, byType, arriving}
 use Rattle.protocol.specs.Blind.{Whole, TakenAlike, Blind, UsedExact, updateRules, typeRules, unnamed, Numbers}
 use Rattle.protocol.proofs.Outcomes.{of-refused}

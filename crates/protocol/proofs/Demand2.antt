@@ -12,20 +12,20 @@ use lib.Seq.{length-take-le}
 use borrow.Author.Tests.{leb-true, le-leb, lt-leb, leb-false, lt-ltb, ltb-false, le-ltb, eqb-true, eqb-false, eq-eqb, ne-eqb, not-true, not-false}
 use Rattle.laws.specs.Tests.{firstOf, any}
 use Rattle.laws.proofs.Refusals.{clash, or-fst, or-snd, no-refusal, NoRefusal}
-use Rattle.wire.specs.Header.{kindOf, ttlOf, hopsOf, sizeOf, payloadOf, numberOf, routeUpdate}
+use Rattle.wire.specs.Header.{kindOf, ttlOf, hopsOf, sizeOf, payloadOf, numberOf, routeUpdate, queryType, hitType, pingType, pongType}
 use Rattle.keywords.specs.Keywords.{keywordsOf}
 use Rattle.tables.specs.Admission.{withholds}
-use Rattle.protocol.specs.declared.Station.{Station}
+use Rattle.protocol.specs.State.{Station, remembered, seen, lineAt, withLine, heldAt}
 use Rattle.protocol.specs.declared.Own.{Own}
-use Rattle.protocol.specs.Memory.{capacity, here, gone, numberIn, Query, remembered, Found, seen, remember}
-use Rattle.protocol.specs.Lines.{isOther, lineAt, withLine, withPong, heldAt}
+use Rattle.protocol.specs.Memory.{capacity, here, gone, numberIn, Query, Found, remember}
+use Rattle.protocol.specs.Lines.{isOther, withPong}
 use Rattle.protocol.specs.Order.{inOrder}
-use Rattle.protocol.specs.Outcomes.{Outcome, quiet, refusedOr, unsent}
-use Rattle.protocol.specs.Queries.{usualLimit, queryType, textIn, hasText, passes, goesOn, queryRules, queryTo, queryOn, queryTaken, queryOutcome, ownPayload, ownBytes, ownTo, ownTaken}
-use Rattle.protocol.specs.Hits.{hitType, hitRules, hitFound, hitTaken, hitOutcome}
-use Rattle.protocol.specs.Pings.{pingType, pongType, pongRules, arrivedPong, pongOutcome}
+use Rattle.protocol.specs.Outcomes.{Outcome, quiet, refusedOr}
+use Rattle.protocol.specs.Queries.{usualLimit, textIn, hasText, passes, goesOn, queryRules, queryTo, queryOn, queryTaken, queryOutcome, ownPayload, ownBytes, ownTo, ownTaken}
+use Rattle.protocol.specs.Hits.{hitRules, hitFound, hitTaken, hitOutcome}
+use Rattle.protocol.specs.Pings.{pongRules, arrivedPong, pongOutcome}
 use Rattle.protocol.specs.Calls.{shortOutput, otherRoom, early, updateOutcome, byType, arriving, ownRules, asking, messageOutcome, ownOutcome}
-use Rattle.protocol.specs.Runs.{Call, Open, Close, Message, Ask, World, lent, outcomeOf, step, start}
+use Rattle.protocol.specs.Runs.{Call, Open, Close, Message, Ask, World, lent, outcomeOf, step, start, unsent}
 use Rattle.protocol.specs.Periods.{lifeLeft}
 use Rattle.protocol.specs.Kept.{Sized}
 use Rattle.protocol.specs.Arrived.{Arrived}

@@ -16,7 +16,7 @@ use Rattle.laws.specs.Tests.{firstOf}
 use Rattle.laws.specs.Parts.{over}
 use Rattle.laws.proofs.Refusals.{clash, of-choice}
 use Rattle.laws.proofs.Overlay.{over-read, over-apart}
-use Rattle.wire.specs.Header.{kindOf, ttlOf, hopsOf, payloadOf, routeUpdate}
+use Rattle.wire.specs.Header.{kindOf, ttlOf, hopsOf, payloadOf, routeUpdate, queryType, hitType, pingType, pongType}
 use Rattle.tables.specs.declared.Table.{Table}
 use Rattle.tables.specs.Tables.{Held, settled, heldIn, noTable}
 use Rattle.tables.specs.Updates.{updateAnswer, updated}
@@ -24,16 +24,16 @@ use Rattle.tables.specs.Answers.{Answers}
 use Rattle.tables.proofs.Answers.{answers}
 use Rattle.protocol.specs.declared.Own.{Own}
 use Rattle.protocol.specs.declared.Line.{Line}
-use Rattle.protocol.specs.declared.Station.{Station}
+use Rattle.protocol.specs.State.{Station, lineAt, withLine, heldAt}
 use Rattle.protocol.specs.Memory.{remember}
-use Rattle.protocol.specs.Lines.{emptyLine, nowhere, lineAt, withLine, withTable, pingedAt, withPong, partOf, heldAt}
+use Rattle.protocol.specs.Lines.{emptyLine, nowhere, withTable, pingedAt, withPong, partOf}
 use Rattle.protocol.specs.Order.{inOrder}
-use Rattle.protocol.specs.Outcomes.{Outcome, quiet, unsent}
-use Rattle.protocol.specs.Queries.{usualLimit, queryType, textIn, passes, goesOn, queryRules, queryTaken, queryOutcome, ownTaken, lifeOf}
-use Rattle.protocol.specs.Hits.{hitType, hitRules, hitFound, hitTaken, hitOutcome}
-use Rattle.protocol.specs.Pings.{pingType, pongType, isProbe, pingRules, pingTaken, pingOutcome, pongRules, arrivedPong, pongOutcome}
+use Rattle.protocol.specs.Outcomes.{Outcome, quiet}
+use Rattle.protocol.specs.Queries.{usualLimit, textIn, passes, goesOn, queryRules, queryTaken, queryOutcome, ownTaken, lifeOf}
+use Rattle.protocol.specs.Hits.{hitRules, hitFound, hitTaken, hitOutcome}
+use Rattle.protocol.specs.Pings.{isProbe, pingRules, pingTaken, pingOutcome, pongRules, arrivedPong, pongOutcome}
 use Rattle.protocol.specs.Calls.{openingRules, opening, closedState, closingRules, closing, early, updateOutcome, byType, arriving, ownRules, asking, messageOutcome, ownOutcome}
-use Rattle.protocol.specs.Runs.{Area, Same, Other, Call, Open, Close, Message, Ask, World, lent, keptArea, outcomeOf, areaAfter, step, run, start, FairArea, FairCall, Fair}
+use Rattle.protocol.specs.Runs.{Area, Same, Other, Call, Open, Close, Message, Ask, World, lent, keptArea, outcomeOf, areaAfter, step, run, start, FairArea, FairCall, Fair, unsent}
 use Rattle.protocol.specs.Expected.{Expected, wiped, brings, asks, brought, isUpdateOf, expectedAnswer, hears, feed, expected}
 use Rattle.protocol.specs.History.{Update, updatesOf, sumAt}
 use Rattle.protocol.specs.Demand3.{lifeLeft, MayGo, Forwarded, updateIn, Agrees, entriesAt, Stands, Demand3}

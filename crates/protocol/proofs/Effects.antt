@@ -12,18 +12,18 @@ use lib.Seq.{getD-set-other}
 use borrow.Author.Tests.{leb-true, ltb-true, lt-ltb, eqb-false, ne-eqb, not-false}
 use Rattle.laws.specs.Tests.{firstOf}
 use Rattle.laws.proofs.Refusals.{clash, or-fst, or-snd, of-choice, no-refusal, NoRefusal}
-use Rattle.wire.specs.Header.{kindOf, ttlOf, hopsOf, payloadOf, routeUpdate}
+use Rattle.wire.specs.Header.{kindOf, ttlOf, hopsOf, payloadOf, routeUpdate, queryType, hitType, pingType, pongType}
 use Rattle.tables.specs.Updates.{updated}
 use Rattle.protocol.specs.declared.Line.{Line}
-use Rattle.protocol.specs.declared.Station.{Station}
+use Rattle.protocol.specs.State.{Station, remembered, seen, lineAt, withLine, heldAt}
 use Rattle.protocol.specs.declared.Own.{Own}
-use Rattle.protocol.specs.Memory.{capacity, here, numberIn, remembered, seen, remember}
-use Rattle.protocol.specs.Lines.{lineCount, emptyLine, nowhere, lineAt, withLine, withTable, pingedAt, withPong, heldAt}
+use Rattle.protocol.specs.Memory.{capacity, here, numberIn, remember}
+use Rattle.protocol.specs.Lines.{lineCount, emptyLine, nowhere, withTable, pingedAt, withPong}
 use Rattle.protocol.specs.Order.{askerFits, inOrder}
 use Rattle.protocol.specs.Outcomes.{Outcome, quiet}
-use Rattle.protocol.specs.Queries.{usualLimit, queryType, queryRules, queryTaken, queryOutcome, ownTaken}
-use Rattle.protocol.specs.Hits.{hitType, hitRules, hitFound, hitTaken, hitOutcome}
-use Rattle.protocol.specs.Pings.{pingType, pongType, isProbe, pingRules, pingTaken, pingOutcome, pongRules, arrivedPong, pongOutcome}
+use Rattle.protocol.specs.Queries.{usualLimit, queryRules, queryTaken, queryOutcome, ownTaken}
+use Rattle.protocol.specs.Hits.{hitRules, hitFound, hitTaken, hitOutcome}
+use Rattle.protocol.specs.Pings.{isProbe, pingRules, pingTaken, pingOutcome, pongRules, arrivedPong, pongOutcome}
 use Rattle.protocol.specs.Calls.{openingRules, opening, closedState, closingRules, closing, early, updateOutcome, byType, arriving, ownRules, asking, messageOutcome, ownOutcome}
 use Rattle.protocol.specs.Runs.{Area, Call, Open, Close, Message, Ask, World, lent, outcomeOf}
 use Rattle.protocol.specs.Kept.{Sized, asked, leftBy}

@@ -13,12 +13,11 @@ use borrow.Author.Tests.{ltb-true, ltb-false, leb-true, le-leb, le-ltb, lt-ltb, 
 use Rattle.laws.specs.Tests.{firstOf, any, all}
 use Rattle.laws.proofs.Refusals.{clash, or-split, or-left, or-right, answer-in}
 use Rattle.wire.specs.Header.{kindOf, ttlOf, hopsOf, sizeOf, payloadOf}
-use Rattle.protocol.specs.declared.Station.{Station}
+use Rattle.protocol.specs.State.{Station, seen, lineAt}
 use Rattle.protocol.specs.declared.Own.{Own}
-use Rattle.protocol.specs.Memory.{numberIn, seen}
-use Rattle.protocol.specs.Lines.{lineAt}
+use Rattle.protocol.specs.Memory.{numberIn}
 use Rattle.protocol.specs.Order.{inOrder}
-use Rattle.protocol.specs.Outcomes.{Outcome, unsent}
+use Rattle.protocol.specs.Outcomes.{Outcome}
 use Rattle.protocol.specs.Queries.{usualLimit, hasText, queryRules, queryTaken, queryOutcome, ownTaken}
 use Rattle.protocol.specs.Calls.{notOpen, extentRules, ownRules, asking, messageOutcome, ownOutcome}
 use Rattle.protocol.specs.Blind.{typeRules, unnamed}
@@ -28,6 +27,7 @@ use Rattle.protocol.proofs.Outcomes.{none-unsent}
 use Rattle.protocol.proofs.Arrived.{answer-taken, badAreas, areas-of, areas-fit, by-type, by-query}
 use Rattle.protocol.proofs.Blind.{type-number, numbers}
 use Rattle.protocol.proofs.Extent.{types-all, types-sent}
+use Rattle.protocol.specs.Runs.{unsent}
 
 -- tests and words
 or-iff : (a b : Bool) {A B : Type 0} → (a ≡ true) ↔ A → (b ≡ true) ↔ B → ((a || b) ≡ true) ↔ (A ⊎ B)

@@ -12,20 +12,19 @@ use lib.ListN.{length}
 use borrow.Author.Tests.{ltb-true, ltb-false, le-ltb, lt-ltb, eq-eqb}
 use Rattle.laws.specs.Tests.{firstOf, all}
 use Rattle.laws.proofs.Refusals.{clash}
-use Rattle.wire.specs.Header.{kindOf, ttlOf, hopsOf, sizeOf, payloadOf, routeUpdate}
-use Rattle.protocol.specs.declared.Station.{Station}
+use Rattle.wire.specs.Header.{kindOf, ttlOf, hopsOf, sizeOf, payloadOf, routeUpdate, queryType, hitType, pingType, pongType}
+use Rattle.protocol.specs.State.{Station, lineAt, heldAt}
 use Rattle.protocol.specs.declared.Own.{Own}
-use Rattle.protocol.specs.Lines.{lineAt, heldAt}
 use Rattle.protocol.specs.Order.{inOrder}
-use Rattle.protocol.specs.Outcomes.{unsent}
-use Rattle.protocol.specs.Queries.{usualLimit, queryType, queryRules}
-use Rattle.protocol.specs.Hits.{hitType, hitRules, hitFound}
-use Rattle.protocol.specs.Pings.{pingType, pongType, pingRules, pongRules}
+use Rattle.protocol.specs.Queries.{usualLimit, queryRules}
+use Rattle.protocol.specs.Hits.{hitRules, hitFound}
+use Rattle.protocol.specs.Pings.{pingRules, pongRules}
 use Rattle.protocol.specs.Calls.{notOpen, shortOutput, otherRoom, extentRules, earlyRules, messageOutcome}
 use Rattle.protocol.specs.Blind.{updateRules, typeRules, unnamed}
 use Rattle.protocol.specs.Extent.{ByExtent, ExtentExactly}
 use Rattle.protocol.proofs.Outcomes.{none-unsent}
 use Rattle.protocol.proofs.Blind.{numbers}
+use Rattle.protocol.specs.Runs.{unsent}
 
 -- what holds of the refusals of each type holds of a message's
 either : (P : Bool × ℕ → Bool) (b : Bool) (cs ds : List (Bool × ℕ)) → all P cs ≡ true → all P ds ≡ true → all P (cond b cs ds) ≡ true

@@ -9,12 +9,13 @@ use mathlib.Core.List.{List, [], _∷_, _++_, map}
 use lib.Dec.{eqb}
 use lib.ListN.{take}
 use Rattle.laws.proofs.Refusals.{clash, of-choice}
-use Rattle.protocol.specs.Memory.{capacity, gone, Number, sameNumber, Query, remembered, Found, Absent, At, later, pickFound, find, isFound, askerOf, left}
+use Rattle.protocol.specs.Memory.{capacity, gone, Number, sameNumber, Query, Found, Absent, At, later, pickFound, find, isFound, askerOf, left}
 use Rattle.protocol.specs.Runs.{Call, World, step, run, start}
 use Rattle.protocol.specs.Kept.{asked, leftBy}
 use Rattle.protocol.specs.Demand2.{broughtNumber, broughtBy, Origin, Unknown, Here, From, Gone, origin, askerNow, GoneForever}
 use Rattle.protocol.proofs.Effects.{call-effect}
 use Rattle.protocol.proofs.Origins.{unknown-of, same-number, SameLookUp, Invariant, begins, goes-on, holds-after, looked-up}
+use Rattle.protocol.specs.State.{remembered}
 
 -- In the remembered queries: gone is still gone after a closing, and after one more query gone or not there
 asker-later : (f : Found) → askerOf (later f) ≡ askerOf f

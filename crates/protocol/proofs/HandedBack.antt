@@ -3,11 +3,11 @@
 use Prim.Native.Nat.{ℕ}
 use mathlib.Core.Path.{refl}
 use Rattle.laws.specs.Ring.{keptPlaces}
-use Rattle.protocol.specs.Memory.{remembered}
 use Rattle.protocol.specs.Outcomes.{Outcome, handled}
 use Rattle.protocol.specs.Calls.{fresh, opening, closing, changed, messageOutcome, ownOutcome}
 use Rattle.protocol.specs.Blind.{usedAfter}
 use Rattle.protocol.specs.HandedBack.{HandedBack, ChangeHanded, AllHanded, FreshRemembersNothing}
+use Rattle.protocol.specs.State.{remembered}
 
 handed : (o : Outcome) (used : ℕ) → HandedBack (handled o used) o used
 handed o used =

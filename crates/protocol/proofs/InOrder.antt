@@ -11,9 +11,9 @@ use Rattle.laws.specs.Tests.{all}
 use Rattle.laws.proofs.Refusals.{and-fst, or-rest, each, every-of, all-getD}
 use Rattle.tables.specs.Tables.{none, tableInOrder}
 use Rattle.protocol.specs.declared.Line.{Line}
-use Rattle.protocol.specs.declared.Station.{Station}
-use Rattle.protocol.specs.Memory.{capacity, remembered, noTwice}
-use Rattle.protocol.specs.Lines.{nowhere, lineAt, pongCapacity, storedPongs}
+use Rattle.protocol.specs.State.{Station, remembered, lineAt}
+use Rattle.protocol.specs.Memory.{capacity, noTwice}
+use Rattle.protocol.specs.Lines.{nowhere, pongCapacity, storedPongs}
 use Rattle.protocol.specs.Order.{askerFits, emptyWhenClosed, lineInOrder, inOrder}
 
 abbrev stateTests : Station → List Bool

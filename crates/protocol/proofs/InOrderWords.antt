@@ -22,9 +22,9 @@ use Rattle.tables.proofs.OrderLaws.{Limits, limits}
 use Rattle.tables.proofs.Answers.{power-of, is-power}
 use Rattle.protocol.specs.declared.Pong.{Pong}
 use Rattle.protocol.specs.declared.Line.{Line}
-use Rattle.protocol.specs.declared.Station.{Station}
-use Rattle.protocol.specs.Memory.{sameNumber, Query, queryAt, remembered, noTwice}
-use Rattle.protocol.specs.Lines.{nowhere, noPong, lineAt, storedPongs}
+use Rattle.protocol.specs.State.{Station, remembered, lineAt}
+use Rattle.protocol.specs.Memory.{sameNumber, Query, queryAt, noTwice}
+use Rattle.protocol.specs.Lines.{nowhere, noPong, storedPongs}
 use Rattle.protocol.specs.Order.{askerFits, emptyWhenClosed, lineInOrder, inOrder}
 use Rattle.protocol.specs.Kept.{Sized}
 use Rattle.protocol.specs.InOrderWords.{queryPlace, pongPlace, RestWords, RunWords, LimitWords, TableWords, ClosedWords, LineWords, AskerWords, OneNumber, InOrderWords, InOrderExactly}

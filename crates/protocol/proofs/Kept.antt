@@ -12,21 +12,21 @@ use borrow.Author.Tests.{leb-true, le-leb, ltb-true, lt-ltb, ltb-false, eqb-true
 use Rattle.laws.specs.Tests.{firstOf, all, any}
 use Rattle.laws.specs.Ring.{keptPlaces}
 use Rattle.laws.proofs.Refusals.{and-fst, and-snd, and-intro, or-fst, or-snd, or-right, of-choice, no-refusal, NoRefusal, all-getD, all-set, all-take, all-weaken, all-map}
-use Rattle.wire.specs.Header.{kindOf, ttlOf, hopsOf, sizeOf, payloadOf, routeUpdate}
+use Rattle.wire.specs.Header.{kindOf, ttlOf, hopsOf, sizeOf, payloadOf, routeUpdate, queryType, hitType, pingType, pongType}
 use Rattle.tables.specs.Tables.{tableInOrder}
 use Rattle.tables.specs.Updates.{updated}
 use Rattle.tables.proofs.OrderLaws.{keeps-order}
 use Rattle.tables.proofs.BoundLaws.{all-replicate}
 use Rattle.protocol.specs.declared.Line.{Line}
-use Rattle.protocol.specs.declared.Station.{Station}
+use Rattle.protocol.specs.State.{Station, remembered, seen, lineAt, withLine, heldAt}
 use Rattle.protocol.specs.declared.Own.{Own}
-use Rattle.protocol.specs.Memory.{capacity, here, gone, numberIn, Number, sameNumber, remembered, seen, remember, noTwice, left}
-use Rattle.protocol.specs.Lines.{lineCount, emptyLine, nowhere, lineAt, withLine, withTable, pingedAt, withPong, pongCapacity, storedPongs, partOf, heldAt}
+use Rattle.protocol.specs.Memory.{capacity, here, gone, numberIn, Number, sameNumber, remember, noTwice, left}
+use Rattle.protocol.specs.Lines.{lineCount, emptyLine, nowhere, withTable, pingedAt, withPong, pongCapacity, storedPongs, partOf}
 use Rattle.protocol.specs.Order.{askerFits, lineInOrder, inOrder}
 use Rattle.protocol.specs.Outcomes.{quiet}
-use Rattle.protocol.specs.Queries.{usualLimit, queryType, queryRules, queryTaken, queryOutcome, ownTaken}
-use Rattle.protocol.specs.Hits.{hitType, hitRules, hitFound, hitTaken, hitOutcome}
-use Rattle.protocol.specs.Pings.{pingType, pongType, isProbe, pingRules, pingTaken, pingOutcome, pongRules, arrivedPong, pongOutcome}
+use Rattle.protocol.specs.Queries.{usualLimit, queryRules, queryTaken, queryOutcome, ownTaken}
+use Rattle.protocol.specs.Hits.{hitRules, hitFound, hitTaken, hitOutcome}
+use Rattle.protocol.specs.Pings.{isProbe, pingRules, pingTaken, pingOutcome, pongRules, arrivedPong, pongOutcome}
 use Rattle.protocol.specs.Calls.{fresh, freshState, openingRules, opening, closedState, closingRules, closing, early, updateOutcome, byType, arriving, ownRules, asking, messageOutcome, ownOutcome}
 use Rattle.protocol.specs.Runs.{Call, Open, Close, Message, Ask, lent, outcomeOf, step, run}
 use Rattle.protocol.specs.Kept.{sizedLine, Sized, Kept, FreshInOrder, OrderKept, OrderKeptByLists, asked, leftBy}

@@ -12,9 +12,9 @@ use Rattle.keywords.specs.Keywords.{keywordsOf, pieces, filled}
 use Rattle.keywords.specs.Hash.{hashOf, word}
 use Rattle.tables.specs.Tables.{goodLength, tableInOrder}
 use Rattle.tables.specs.Admission.{withholds}
-use Rattle.protocol.specs.declared.Station.{Station}
+use Rattle.protocol.specs.State.{Station, remembered}
 use Rattle.protocol.specs.declared.Own.{Own}
-use Rattle.protocol.specs.Memory.{here, Number, numberIn, remembered, Absent, At, find, remember, noTwice}
+use Rattle.protocol.specs.Memory.{here, Number, numberIn, Absent, At, find, remember, noTwice}
 use Rattle.protocol.specs.Lines.{emptyLine, storedPongs}
 use Rattle.protocol.specs.Order.{lineInOrder, inOrder}
 use Rattle.protocol.specs.Queries.{untilZero, queryOutcome}

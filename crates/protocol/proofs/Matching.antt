@@ -12,8 +12,8 @@ use borrow.Author.Tests.{eqb-true, eqb-false}
 use Rattle.tables.specs.declared.Table.{Table}
 use Rattle.tables.specs.Tables.{none, heldIn}
 use Rattle.protocol.specs.declared.Line.{Line}
-use Rattle.protocol.specs.declared.Station.{Station}
-use Rattle.protocol.specs.Lines.{nowhere, lineAt, withLine, partOf, heldAt}
+use Rattle.protocol.specs.State.{Station, lineAt, withLine, heldAt}
+use Rattle.protocol.specs.Lines.{nowhere, partOf}
 use Rattle.protocol.specs.Expected.{Expected}
 use Rattle.protocol.proofs.Updates.{Sound}
 use Rattle.protocol.proofs.Account.{noHeld}

@@ -13,8 +13,8 @@ use Rattle.laws.specs.Tests.{any}
 use Rattle.laws.specs.Ring.{keptPlaces}
 use Rattle.laws.proofs.Refusals.{and-fst, and-snd, any-take}
 use Rattle.laws.proofs.Rings.{map-where, map-map, map-getD, kept-below, ring-push}
-use Rattle.protocol.specs.declared.Station.{Station}
-use Rattle.protocol.specs.Memory.{capacity, Number, sameNumber, Query, queryAt, remembered, Found, Absent, At, later, pickFound, find, isFound, seen, remember, noTwice, left}
+use Rattle.protocol.specs.State.{Station, remembered, seen}
+use Rattle.protocol.specs.Memory.{capacity, Number, sameNumber, Query, queryAt, Found, Absent, At, later, pickFound, find, isFound, remember, noTwice, left}
 use Rattle.protocol.specs.Lines.{withPong, storedPongs}
 use Rattle.protocol.specs.Calls.{closedState}
 use Rattle.protocol.specs.Kept.{asked, leftBy, RemembersNewest, RemembersLeft, StoresNewest}

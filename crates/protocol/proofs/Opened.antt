@@ -13,9 +13,8 @@ use Rattle.laws.specs.Tests.{firstOf}
 use Rattle.laws.specs.Ring.{keptPlaces}
 use Rattle.laws.proofs.Refusals.{or-fst, or-snd, or-split, or-left, or-right}
 use Rattle.protocol.specs.declared.Line.{Line}
-use Rattle.protocol.specs.declared.Station.{Station}
-use Rattle.protocol.specs.Memory.{remembered}
-use Rattle.protocol.specs.Lines.{lineCount, emptyLine, lineAt, withLine, storedPongs}
+use Rattle.protocol.specs.State.{Station, remembered, lineAt, withLine}
+use Rattle.protocol.specs.Lines.{lineCount, emptyLine, storedPongs}
 use Rattle.protocol.specs.Order.{inOrder}
 use Rattle.protocol.specs.Outcomes.{Outcome, quiet}
 use Rattle.protocol.specs.Calls.{openingRules, opening, closedState, closingRules, closing}

@@ -16,9 +16,9 @@ use Rattle.laws.proofs.Refusals.{clash, and-fst, and-snd, or-fst, or-snd, of-ch
 use Rattle.laws.proofs.Rings.{map-take}
 use Rattle.laws.proofs.Ranks.{places-length}
 use Rattle.protocol.specs.declared.Line.{Line}
-use Rattle.protocol.specs.declared.Station.{Station}
-use Rattle.protocol.specs.Memory.{capacity, here, gone, Number, sameNumber, Query, queryAt, remembered, Found, Absent, At, later, pickFound, find, isFound, askerOf, noTwice, left}
-use Rattle.protocol.specs.Lines.{lineCount, nowhere, lineAt}
+use Rattle.protocol.specs.State.{Station, remembered, lineAt}
+use Rattle.protocol.specs.Memory.{capacity, here, gone, Number, sameNumber, Query, queryAt, Found, Absent, At, later, pickFound, find, isFound, askerOf, noTwice, left}
+use Rattle.protocol.specs.Lines.{lineCount, nowhere}
 use Rattle.protocol.specs.Order.{askerFits, inOrder}
 use Rattle.protocol.specs.Outcomes.{Outcome}
 use Rattle.protocol.specs.Calls.{opening}

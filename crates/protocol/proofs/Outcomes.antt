@@ -12,12 +12,13 @@ use Rattle.laws.specs.Tests.{firstOf, all}
 use Rattle.laws.proofs.Refusals.{or-fst, or-snd, no-refusal, NoRefusal, answer-in, refusal-in}
 use Rattle.laws.proofs.Rings.{map-getD}
 use Rattle.wire.specs.Header.{kindOf, sizeOf}
-use Rattle.protocol.specs.declared.Station.{Station}
-use Rattle.protocol.specs.Memory.{numberIn, seen}
-use Rattle.protocol.specs.Lines.{lineNumbers, lineAt}
+use Rattle.protocol.specs.State.{Station, seen, lineAt}
+use Rattle.protocol.specs.Memory.{numberIn}
+use Rattle.protocol.specs.Lines.{lineNumbers, eachLine}
 use Rattle.protocol.specs.Order.{inOrder}
-use Rattle.protocol.specs.Outcomes.{Outcome, quiet, pickOutcome, refusedOr, eachLine, unsent}
+use Rattle.protocol.specs.Outcomes.{Outcome, quiet, pickOutcome, refusedOr}
 use Rattle.protocol.specs.Calls.{notOpen, shortOutput, otherRoom, earlyRules, early, ownRules}
+use Rattle.protocol.specs.Runs.{unsent}
 
 module _ (P : Outcome → Type 0) where
   pub of-pick : (b : Bool) (x y : Outcome) → (b ≡ true → P x) → (b ≡ false → P y) → P (pickOutcome b x y)

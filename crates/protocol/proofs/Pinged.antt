@@ -14,9 +14,9 @@ use Rattle.laws.specs.Tests.{firstOf, all}
 use Rattle.laws.proofs.Refusals.{clash, and-fst, and-snd, and-intro, or-fst, or-snd, or-split, or-left, or-right, all-getD}
 use Rattle.wire.specs.Header.{ttlOf, hopsOf, sizeOf, numberOf, message}
 use Rattle.protocol.specs.declared.Line.{Line}
-use Rattle.protocol.specs.declared.Station.{Station}
+use Rattle.protocol.specs.State.{Station, lineAt, withLine}
 use Rattle.protocol.specs.declared.Own.{Own}
-use Rattle.protocol.specs.Lines.{nowhere, lineAt, withLine, pingedAt, withPong, pongCapacity, storedPongs, elapsed, ElapsedRight, ElapsedPoints}
+use Rattle.protocol.specs.Lines.{nowhere, pingedAt, withPong, pongCapacity, storedPongs, elapsed, ElapsedRight, ElapsedPoints}
 use Rattle.protocol.specs.Order.{inOrder}
 use Rattle.protocol.specs.Outcomes.{Outcome, quiet, nobody, onlyTo}
 use Rattle.protocol.specs.Pings.{isProbe, tooSoon, flat, storedSent, pongBytes, ownPong, pongsSent, pingRules, pingTaken, pingOutcome, pongRules, arrivedPong, pongOutcome}

@@ -14,9 +14,9 @@ use Rattle.laws.proofs.Refusals.{and-fst, and-snd, and-intro, all-take, all-wea
 use Rattle.wire.specs.Header.{hopsOf, numberOf}
 use Rattle.protocol.specs.declared.Pong.{Pong}
 use Rattle.protocol.specs.declared.Line.{Line}
-use Rattle.protocol.specs.declared.Station.{Station}
+use Rattle.protocol.specs.State.{Station, lineAt}
 use Rattle.protocol.specs.declared.Own.{Own}
-use Rattle.protocol.specs.Lines.{lineNumbers, isOther, nowhere, lineAt, pongCapacity, storedPongs}
+use Rattle.protocol.specs.Lines.{lineNumbers, isOther, nowhere, pongCapacity, storedPongs}
 use Rattle.protocol.specs.Pings.{isProbe, ranked, keepIf, flat, walk, isFresh, storedSent, pongBytes, ownPong, ownSent, pongsSent, pingRules, pingTaken, pingOutcome}
 use Rattle.protocol.specs.Kept.{Sized, sizedLine}
 use Rattle.protocol.specs.Written.{Writes, NoHit}

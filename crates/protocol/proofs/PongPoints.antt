@@ -9,12 +9,13 @@ use Rattle.laws.specs.Ring.{keptPlaces}
 use Rattle.wire.specs.Header.{message}
 use Rattle.tables.specs.Tables.{goodLength, tableInOrder}
 use Rattle.protocol.specs.declared.Own.{Own}
-use Rattle.protocol.specs.Memory.{remembered, noTwice}
+use Rattle.protocol.specs.Memory.{noTwice}
 use Rattle.protocol.specs.Lines.{storedPongs}
 use Rattle.protocol.specs.Order.{lineInOrder, inOrder}
 use Rattle.protocol.specs.Pings.{walk, pingOutcome, pongOutcome}
 use Rattle.protocol.specs.Calls.{fresh, opening, early, byType, arriving}
 use Rattle.protocol.specs.Runs.{Call, Open, Message, Same, run, start}
+use Rattle.protocol.specs.State.{remembered}
 
 own : Bool → Own
 own calls = record { port = 6346; address = 127 ∷ 0 ∷ 0 ∷ 1 ∷ []; files = 0; kilobytes = 0; calls = calls }

@@ -14,8 +14,8 @@ use Rattle.laws.specs.Tests.{all}
 use Rattle.laws.proofs.Refusals.{and-fst, and-snd, and-intro, or-split, of-choice, all-getD}
 use Rattle.laws.proofs.Rings.{map-take}
 use Rattle.protocol.specs.declared.Pong.{Pong}
-use Rattle.protocol.specs.declared.Station.{Station}
-use Rattle.protocol.specs.Lines.{lineNumbers, isOther, lineAt, noPong, storedPongs, elapsed}
+use Rattle.protocol.specs.State.{Station, lineAt}
+use Rattle.protocol.specs.Lines.{lineNumbers, isOther, noPong, storedPongs, elapsed}
 use Rattle.protocol.specs.Pings.{ranked, keepIf, flat, walk, isFresh, storedSent, pongBytes}
 use Rattle.protocol.specs.Pongs.{Place, firstPlace, pongAt, Before, MayAnswer, Among, FirstTen, storedWritten}
 use Rattle.protocol.proofs.Outcomes.{counting, counted, numbers-at}

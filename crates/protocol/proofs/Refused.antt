@@ -13,24 +13,24 @@ use Rattle.laws.specs.Parts.{over}
 use Rattle.laws.specs.Ring.{keptPlaces}
 use Rattle.laws.proofs.Refusals.{and-snd, and-intro}
 use Rattle.laws.proofs.Overlay.{over-same-front}
-use Rattle.wire.specs.Header.{kindOf, ttlOf, hopsOf, payloadOf, routeUpdate}
+use Rattle.wire.specs.Header.{kindOf, ttlOf, hopsOf, payloadOf, routeUpdate, queryType, hitType, pingType, pongType}
 use Rattle.tables.specs.Tables.{Held}
 use Rattle.tables.specs.Updates.{updateAnswer, brokenBy}
-use Rattle.protocol.specs.declared.Station.{Station}
+use Rattle.protocol.specs.State.{Station, lineAt, withLine, heldAt, remembered}
 use Rattle.protocol.specs.declared.Own.{Own}
-use Rattle.protocol.specs.Lines.{lineCount, emptyLine, nowhere, lineAt, withLine, withTable, withPong, storedPongs, heldAt}
-use Rattle.protocol.specs.Outcomes.{Outcome, quiet, refusedOr, unsent}
-use Rattle.protocol.specs.Queries.{usualLimit, queryType, queryRules, queryTaken, queryOutcome, ownTaken}
-use Rattle.protocol.specs.Hits.{hitType, hitRules, hitFound, hitTaken, hitOutcome}
-use Rattle.protocol.specs.Pings.{pingType, pongType, pingRules, pingTaken, pingOutcome, pongRules, arrivedPong, pongOutcome}
+use Rattle.protocol.specs.Lines.{lineCount, emptyLine, nowhere, withTable, withPong, storedPongs}
+use Rattle.protocol.specs.Outcomes.{Outcome, quiet, refusedOr}
+use Rattle.protocol.specs.Queries.{usualLimit, queryRules, queryTaken, queryOutcome, ownTaken}
+use Rattle.protocol.specs.Hits.{hitRules, hitFound, hitTaken, hitOutcome}
+use Rattle.protocol.specs.Pings.{pingRules, pingTaken, pingOutcome, pongRules, arrivedPong, pongOutcome}
 use Rattle.protocol.specs.Calls.{fresh, openingRules, opening, closedState, closingRules, closing, early, updateOutcome, byType, arriving, ownRules, asking, messageOutcome}
 use Rattle.protocol.specs.Kept.{OutOfOrder, marksBroken, brokenAt, afterRefusal, RefusedQuietly, RefusalsLeave, RefusalFrame}
 use Rattle.protocol.specs.Frames.{Silent, Bare}
 use Rattle.protocol.proofs.Updates.{by-update, update-range}
-use Rattle.protocol.specs.Memory.{remembered}
 use Rattle.protocol.proofs.Outcomes.{of-pick, of-refused, other-type, early-unsent}
 use Rattle.protocol.proofs.Kept.{fresh-in-order}
 use Rattle.protocol.proofs.Opened.{bare-at}
+use Rattle.protocol.specs.Runs.{unsent}
 
 -- out of order
 pub out-of-order : OutOfOrder

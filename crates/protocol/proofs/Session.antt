@@ -14,8 +14,8 @@ use Rattle.tables.specs.Patch.{numbers, added, allFit}
 use Rattle.tables.specs.Updates.{updateAnswer, updated, goodReset, goodPatch, inTurn, inRange, resetBy, movedOn, patchBy, brokenBy}
 use Rattle.tables.specs.Admission.{withholds}
 use Rattle.protocol.specs.declared.Own.{Own}
-use Rattle.protocol.specs.Memory.{remembered, find, remember, noTwice}
-use Rattle.protocol.specs.Lines.{lineAt, storedPongs}
+use Rattle.protocol.specs.Memory.{find, remember, noTwice}
+use Rattle.protocol.specs.Lines.{storedPongs}
 use Rattle.protocol.specs.Order.{lineInOrder, inOrder}
 use Rattle.protocol.specs.Queries.{untilZero, queryOutcome}
 use Rattle.protocol.specs.Hits.{hitOutcome}
@@ -25,6 +25,7 @@ use Rattle.protocol.specs.Runs.{Call, Open, Close, Message, Ask, Same, O
 use Rattle.protocol.specs.Demand3.{Claimed}
 use Rattle.protocol.proofs.Kept.{fresh-in-order}
 use Rattle.protocol.proofs.Demand3.{demand3}
+use Rattle.protocol.specs.State.{remembered, lineAt}
 
 own : Own
 own = record { port = 6346; address = 127 ∷ 0 ∷ 0 ∷ 1 ∷ []; files = 0; kilobytes = 0; calls = true }

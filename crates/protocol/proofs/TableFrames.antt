@@ -13,21 +13,21 @@ use Rattle.laws.specs.Tests.{firstOf}
 use Rattle.laws.specs.Parts.{over}
 use Rattle.laws.proofs.Over.{over-length}
 use Rattle.laws.proofs.Overlay.{over-ahead, over-behind}
-use Rattle.wire.specs.Header.{kindOf, ttlOf, hopsOf, payloadOf, routeUpdate}
+use Rattle.wire.specs.Header.{kindOf, ttlOf, hopsOf, payloadOf, routeUpdate, queryType, hitType, pingType, pongType}
 use Rattle.tables.specs.declared.Table.{Table}
 use Rattle.tables.specs.Tables.{Held, marked, broken, ready}
 use Rattle.tables.specs.Updates.{lengthIn, infinityIn, updated, resetBy, patchBy, brokenBy}
 use Rattle.tables.proofs.KeepLaws.{moved-length, patched-length}
 use Rattle.tables.proofs.OrderLaws.{limits}
 use Rattle.protocol.specs.declared.Line.{Line}
-use Rattle.protocol.specs.declared.Station.{Station}
+use Rattle.protocol.specs.State.{Station, lineAt, withLine, heldAt}
 use Rattle.protocol.specs.declared.Own.{Own}
-use Rattle.protocol.specs.Lines.{lineAt, withLine, withTable, withPong, storedPongs, heldAt}
+use Rattle.protocol.specs.Lines.{withTable, withPong, storedPongs}
 use Rattle.protocol.specs.Order.{inOrder}
 use Rattle.protocol.specs.Outcomes.{Outcome, quiet, refusedOr}
-use Rattle.protocol.specs.Queries.{usualLimit, queryType, queryRules, queryTaken, queryOutcome, ownTaken}
-use Rattle.protocol.specs.Hits.{hitType, hitRules, hitFound, hitTaken, hitOutcome}
-use Rattle.protocol.specs.Pings.{pingType, pongType, pingRules, pingTaken, pingOutcome, pongRules, arrivedPong, pongOutcome}
+use Rattle.protocol.specs.Queries.{usualLimit, queryRules, queryTaken, queryOutcome, ownTaken}
+use Rattle.protocol.specs.Hits.{hitRules, hitFound, hitTaken, hitOutcome}
+use Rattle.protocol.specs.Pings.{pingRules, pingTaken, pingOutcome, pongRules, arrivedPong, pongOutcome}
 use Rattle.protocol.specs.Calls.{early, updateOutcome, byType, arriving, ownRules, asking, messageOutcome, ownOutcome}
 use Rattle.protocol.specs.Kept.{Sized, BrokenInWords}
 use Rattle.protocol.specs.Arrived.{Arrived}

@@ -15,8 +15,8 @@ use Rattle.tables.specs.Tables.{Held, lengths, goodLength}
 use Rattle.tables.specs.Updates.{lengthIn, infinityIn, isPatch, resetTests, patchTests, turnTests, goodReset, goodPatch, inTurn, inRange, updateAnswer, updated, resetBy, patchBy, brokenBy}
 use Rattle.tables.proofs.AnswerLaws.{ways}
 use Rattle.tables.proofs.KeepLaws.{moved-length, patched-length}
-use Rattle.protocol.specs.Outcomes.{unsent}
 use Rattle.protocol.specs.Blind.{updateRules}
+use Rattle.protocol.specs.Runs.{unsent}
 
 -- an accepted RESET, and an accepted PATCH
 pub record Resets (room : ℕ) (p : List ℕ) : Type 0 where

@@ -7,8 +7,7 @@ use mathlib.Core.Logic.{_↔_, _⊎_}
 use mathlib.Core.List.{List}
 use lib.ListN.{length}
 use Rattle.wire.specs.Header.{sizeOf}
-use Rattle.protocol.specs.declared.Station.{Station}
-use Rattle.protocol.specs.Lines.{lineAt}
+use Rattle.protocol.specs.State.{Station, lineAt}
 use Rattle.protocol.specs.Outcomes.{Outcome}
 
 -- the areas that are lent fit the state: an output area of 4,119 bytes, a route area of 32 or more that gives the state's room

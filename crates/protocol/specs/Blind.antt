@@ -6,16 +6,17 @@ use mathlib.Core.List.{List, [], _∷_, _++_}
 use lib.Dec.{eqb, leb}
 use lib.ListN.{length, take}
 use Rattle.laws.specs.Tests.{firstOf, any}
-use Rattle.wire.specs.Header.{kindOf, ttlOf, hopsOf, sizeOf, payloadOf}
+use Rattle.wire.specs.Header.{headerIn, kindOf, ttlOf, hopsOf, sizeOf, payloadOf}
 use Rattle.tables.specs.Tables.{Held}
 use Rattle.tables.specs.Updates.{isPatch, goodReset, goodPatch, inTurn, inRange}
-use Rattle.protocol.specs.declared.Station.{Station}
-use Rattle.protocol.specs.declared.Own.{Own}
-use Rattle.protocol.specs.Lines.{lineAt, heldAt}
-use Rattle.protocol.specs.Queries.{usualLimit, queryRules}
-use Rattle.protocol.specs.Hits.{hitRules, hitFound}
+use Rattle.protocol.specs.State.{Station, lineAt, heldAt, lookedUp}
+use Rattle.protocol.specs.Memory.{numberIn}
+use Rattle.protocol.specs.Order.{inOrder}
+use Rattle.protocol.specs.Outcomes.{Terms}
+use Rattle.protocol.specs.Queries.{usualLimit, queryRules, hasText}
+use Rattle.protocol.specs.Hits.{hitRules}
 use Rattle.protocol.specs.Pings.{pingRules, pongRules}
-use Rattle.protocol.specs.Calls.{earlyRules, messageOutcome, messageResult}
+use Rattle.protocol.specs.Calls.{earlyRules, messageOutcome, messageReport}
 
 -- a whole message stands at the front: its header and as much payload as the header says
 abbrev pub Whole : List ℕ → Type 0
@@ -23,10 +24,10 @@ Whole m = 23 + sizeOf m ≤ length m
 
 -- every call with one is as the call with the other: answer, state, lines, bytes sent, route area, text, delivery, and bytes used
 pub record TakenAlike (m′ m : List ℕ) : Type 0 where
-  pub outcome : (s : Station) (l clock : ℕ) (own : Own) (out : ℕ) (route : List ℕ)
-      → messageOutcome s l clock own m′ out route ≡ messageOutcome s l clock own m out route
-  pub result : (s : Station) (l clock : ℕ) (own : Own) (out : ℕ) (route : List ℕ)
-      → messageResult s l clock own m′ out route ≡ messageResult s l clock own m out route
+  pub outcome : (s : Station) (l : ℕ) (t : Terms) (route : List ℕ)
+      → messageOutcome s l m′ t route ≡ messageOutcome s l m t route
+  pub report : (s : Station) (l : ℕ) (t : Terms) (route : List ℕ)
+      → messageReport s l m′ t route ≡ messageReport s l m t route
 
 -- RULES 2.8: what stands behind the message has no influence, whatever it is, and can as well be left away
 pub record ReadNoFurther (m : List ℕ) : Type 0 where
@@ -42,8 +43,8 @@ usedAfter answer m = cond (leb 1 answer && leb answer 5) 0 (23 + sizeOf m)
 
 abbrev pub UsedExact : Type 0
 UsedExact =
-    (s : Station) (l clock : ℕ) (own : Own) (m : List ℕ) (out : ℕ) (route : List ℕ)
-    → messageResult s l clock own m out route .used ≡ usedAfter (messageResult s l clock own m out route .answer) m
+    (s : Station) (l : ℕ) (m : List ℕ) (t : Terms) (route : List ℕ)
+    → messageReport s l m t route .used ≡ usedAfter (messageReport s l m t route .answer) m
 
 -- the refusals of an update, in order
 abbrev pub updateRules : ℕ → Held → ℕ → ℕ → List ℕ → List (Bool × ℕ)
@@ -57,11 +58,11 @@ updateRules room h ttl hops p =
 -- the refusals of a message of each type: Ping 0x00, Pong 0x01, route update 0x30, Query 0x80, Query Hit 0x81
 abbrev pub typeRules : Station → ℕ → ℕ → List ℕ → List ℕ → List (Bool × ℕ)
 typeRules s l clock m route =
-    cond (eqb (kindOf m) 0x00) (pingRules (lineAt s l) clock m)
-    (cond (eqb (kindOf m) 0x01) (pongRules m)
+    cond (eqb (kindOf m) 0x00) (pingRules (lineAt s l) clock (headerIn m))
+    (cond (eqb (kindOf m) 0x01) (pongRules (headerIn m))
     (cond (eqb (kindOf m) 0x30) (updateRules (s .room) (heldAt s l route) (ttlOf m) (hopsOf m) (payloadOf m))
-    (cond (eqb (kindOf m) 0x80) (queryRules usualLimit s m)
-    (cond (eqb (kindOf m) 0x81) (hitRules (hitFound s m) m) []))))
+    (cond (eqb (kindOf m) 0x80) (queryRules usualLimit (headerIn m) (hasText (payloadOf m)) (lookedUp s (numberIn m)))
+    (cond (eqb (kindOf m) 0x81) (hitRules (headerIn m) (lookedUp s (numberIn m))) []))))
 
 -- a type that has no rules
 abbrev pub unnamed : List ℕ → Bool
@@ -70,6 +71,8 @@ unnamed m = not (any (eqb (kindOf m)) (0x00 ∷ 0x01 ∷ 0x30 ∷ 0x80 ∷ 0x81 
 -- all refusals of a message call in one ordered list: the answer is the first that holds, and 0 where none does
 abbrev pub Numbers : Type 0
 Numbers =
-    (s : Station) (l clock : ℕ) (own : Own) (m : List ℕ) (out : ℕ) (route : List ℕ)
-    → messageOutcome s l clock own m out route .answer
-    ≡ firstOf (earlyRules s l m out (length route) ++ ((unnamed m, 7) ∷ typeRules s l clock m route))
+    (s : Station) (l : ℕ) (m : List ℕ) (t : Terms) (route : List ℕ)
+    → messageOutcome s l m t route .answer
+    ≡ firstOf
+    (earlyRules (inOrder s) (s .room) (t .out) (length route) l (lineAt s l .live) (length m) (sizeOf m)
+    ++ ((unnamed m, 7) ∷ typeRules s l (t .clock) m route))

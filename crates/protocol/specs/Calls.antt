@@ -1,140 +1,166 @@
--- The five calls: fresh, opening, closing, an arriving message, an own query. Contracts cite these.
+-- The five calls: fresh, opening, closing, an arriving message, an own query. Contracts cite these. A rule takes what it reads; a call applies the
+-- rules to its state, and stores what they come to.
 use Prim.Native.Nat.{ℕ, _+_, _*_, _/_}
 use mathlib.Core.Bool.{Bool, true, false, cond, not, _&&_, _||_}
-use mathlib.Core.List.{List, [], _∷_, map}
+use mathlib.Core.List.{List, [], _∷_, _++_}
 use lib.Dec.{eqb, leb, ltb}
-use lib.ListN.{length, set, replicate}
+use lib.ListN.{length, replicate}
 use Rattle.laws.specs.Tests.{firstOf, any}
 use Rattle.laws.specs.Parts.{over}
-use Rattle.wire.specs.Header.{kindOf, ttlOf, hopsOf, sizeOf, payloadOf, routeUpdate}
+use Rattle.wire.specs.Header.{
+  headerSize,
+  largestPayload,
+  largestMessage,
+  headerIn,
+  sizeOf,
+  payloadOf,
+  pingType,
+  pongType,
+  routeUpdate,
+  queryType,
+  hitType,
+}
 use Rattle.tables.specs.Updates.{updateAnswer, updated}
-use Rattle.protocol.specs.declared.Station.{Station}
-use Rattle.protocol.specs.declared.Own.{Own}
-use Rattle.protocol.specs.declared.Handled.{Handled}
-use Rattle.protocol.specs.declared.Changed.{Changed}
-use Rattle.protocol.specs.Memory.{capacity, numberIn, seen, left}
-use Rattle.protocol.specs.Lines.{lineCount, emptyLine, lineAt, withLine, withTable, heldAt}
+use Rattle.protocol.specs.declared.Line.{Line}
+use Rattle.protocol.specs.declared.Lookup.{Lookup}
+use Rattle.protocol.specs.declared.Report.{Report}
+use Rattle.protocol.specs.Memory.{Memory, memoryOf, capacity, here, numberIn, remember, leftAll}
+use Rattle.protocol.specs.Lines.{lineCount, emptyLine, withTable, heldBy, lineIn}
+use Rattle.protocol.specs.State.{Station, Change, stationOf, lineAt, withLine, withMemory, lookedUp}
 use Rattle.protocol.specs.Order.{inOrder}
-use Rattle.protocol.specs.Outcomes.{Outcome, quiet, refusedOr, handled, usedOf, pickOutcome}
-use Rattle.protocol.specs.Queries.{usualLimit, queryType, queryOutcome, ownTaken}
-use Rattle.protocol.specs.Hits.{hitType, hitOutcome}
-use Rattle.protocol.specs.Pings.{pingType, pongType, pingOutcome, pongOutcome}
+use Rattle.protocol.specs.Outcomes.{Terms, Outcome, Step, quiet, sends, refusedOr, writtenFor, pickResult, stored, reportOf, usedOf}
+use Rattle.protocol.specs.Queries.{usualLimit, queryStep, ownTo, ownBytes}
+use Rattle.protocol.specs.Hits.{hitStep}
+use Rattle.protocol.specs.Pings.{pingStep, pongStep}
 
 -- a fresh state over a route area of n bytes: room per neighbour n / 8; under 32 bytes the answer is 2 and the room 0
-abbrev pub freshState : ℕ → Station
-freshState room =
-    record {
-      room = room;
-      lines = replicate lineCount (emptyLine false);
-      lo = replicate capacity 0;
-      hi = replicate capacity 0;
-      asker = replicate capacity 0;
-      count = 0;
-      next = 0;
-    }
+abbrev pub shortRoute : ℕ → Bool
+shortRoute route = ltb route 32
 
-unfoldable pub fresh : ℕ → Changed
-fresh n = record { state = freshState (cond (ltb n 32) 0 (n / 8)); answer = cond (ltb n 32) 2 0 }
+abbrev pub freshRoom : ℕ → ℕ
+freshRoom n = cond (shortRoute n) 0 (n / 8)
 
--- opening
-abbrev pub openingRules : Station → ℕ → List (Bool × ℕ)
-openingRules s l = (not (inOrder s), 1) ∷ (not (ltb l lineCount) || lineAt s l .live, 3) ∷ []
+abbrev pub freshAnswer : ℕ → ℕ
+freshAnswer n = cond (shortRoute n) 2 0
+
+abbrev pub freshLines : List Line
+freshLines = replicate lineCount (emptyLine false)
+
+abbrev pub freshMemory : Memory
+freshMemory = memoryOf (replicate capacity 0) (replicate capacity 0) (replicate capacity 0) 0 0
+
+unfoldable pub fresh : ℕ → Outcome
+fresh n = quiet (freshAnswer n) (stationOf (freshRoom n) freshLines freshMemory) []
+
+-- opening, given whether the state is in order and the line open
+abbrev pub openingRules : Bool → ℕ → Bool → List (Bool × ℕ)
+openingRules order l live = (not order, 1) ∷ (not (ltb l lineCount) || live, 3) ∷ []
 
 unfoldable pub opening : Station → ℕ → Outcome
-opening s l = refusedOr (firstOf (openingRules s l)) s [] (quiet 0 (withLine s l (emptyLine true)) [])
+opening s l =
+    refusedOr (firstOf (openingRules (inOrder s) l (lineAt s l .live))) s []
+    (quiet 0 (withLine s l (emptyLine true)) [])
 
 -- closing: every remembered query from that line is marked as gone
 abbrev pub closedState : Station → ℕ → Station
-closedState s l =
-    record {
-      room = s .room;
-      lines = set (s .lines) l (emptyLine false);
-      lo = s .lo;
-      hi = s .hi;
-      asker = map (left l) (s .asker);
-      count = s .count;
-      next = s .next;
-    }
+closedState s l = withMemory (withLine s l (emptyLine false)) (leftAll l (s .memory))
 
-abbrev pub notOpen : Station → ℕ → Bool
-notOpen s l = not (ltb l lineCount) || not (lineAt s l .live)
+abbrev pub notOpen : ℕ → Bool → Bool
+notOpen l live = not (ltb l lineCount) || not live
 
-abbrev pub closingRules : Station → ℕ → List (Bool × ℕ)
-closingRules s l = (not (inOrder s), 1) ∷ (notOpen s l, 3) ∷ []
+abbrev pub closingRules : Bool → ℕ → Bool → List (Bool × ℕ)
+closingRules order l live = (not order, 1) ∷ (notOpen l live, 3) ∷ []
 
 unfoldable pub closing : Station → ℕ → Outcome
-closing s l = refusedOr (firstOf (closingRules s l)) s [] (quiet 0 (closedState s l) [])
+closing s l = refusedOr (firstOf (closingRules (inOrder s) l (lineAt s l .live))) s [] (quiet 0 (closedState s l) [])
 
--- the areas that a message or an own query needs
-abbrev pub shortOutput : ℕ → Bool
-shortOutput out = ltb out 4119
+-- the areas that a message or an own query needs, by their lengths
+abbrev pub otherRoom : ℕ → ℕ → Bool
+otherRoom room route = shortRoute route || not (eqb (route / 8) room)
 
-abbrev pub otherRoom : Station → ℕ → Bool
-otherRoom s route = ltb route 32 || not (eqb (route / 8) (s .room))
+abbrev pub unfitAreas : ℕ → ℕ → ℕ → Bool
+unfitAreas room out route = ltb out largestMessage || otherRoom room route
 
--- the extent of a message: short of its header, over the largest payload, short of its payload, or whole
-abbrev pub extentRules : List ℕ → List (Bool × ℕ)
-extentRules m = (ltb (length m) 23, 4) ∷ (ltb 4096 (sizeOf m), 5) ∷ (ltb (length m) (23 + sizeOf m), 4) ∷ []
+-- the extent of a message of which n bytes are there: short of its header, over the largest payload, short of its payload, or whole
+abbrev pub extentRules : ℕ → ℕ → List (Bool × ℕ)
+extentRules n size = (ltb n headerSize, 4) ∷ (ltb largestPayload size, 5) ∷ (ltb n (headerSize + size), 4) ∷ []
 
 -- the refusals of an arriving message before its type counts
-abbrev pub earlyRules : Station → ℕ → List ℕ → ℕ → ℕ → List (Bool × ℕ)
-earlyRules s l m out route =
-    (not (inOrder s), 1)
-    ∷ (shortOutput out || otherRoom s route, 2)
-    ∷ (notOpen s l, 3)
-    ∷ extentRules m
+abbrev pub earlyRules : Bool → ℕ → ℕ → ℕ → ℕ → Bool → ℕ → ℕ → List (Bool × ℕ)
+earlyRules order room out route l live n size =
+    (not order, 1)
+    ∷ (unfitAreas room out route, 2)
+    ∷ (notOpen l live, 3)
+    ∷ extentRules n size
 
 unfoldable pub early : Station → ℕ → List ℕ → ℕ → ℕ → ℕ
-early s l m out route = firstOf (earlyRules s l m out route)
+early s l m out route = firstOf (earlyRules (inOrder s) (s .room) out route l (lineAt s l .live) (length m) (sizeOf m))
 
--- an update: the line's table and its entries as the table's rules have them; the rest of the route area stays
-unfoldable pub updateOutcome : Station → ℕ → List ℕ → List ℕ → Outcome
-updateOutcome s l m route =
-    quiet (updateAnswer (s .room) (heldAt s l route) (ttlOf m) (hopsOf m) (payloadOf m))
-    (withLine s l (withTable (lineAt s l) (updated (s .room) (heldAt s l route) (ttlOf m) (hopsOf m) (payloadOf m) .table)))
-    (over (l * s .room) (updated (s .room) (heldAt s l route) (ttlOf m) (hopsOf m) (payloadOf m) .entries) route)
+-- an update by line l with this record: the line's table and its entries as the table's rules have them; the rest of the route area stays
+unfoldable pub updateStep : ℕ → ℕ → Line → List ℕ → List ℕ → Step
+updateStep room l x m route =
+    quiet (updateAnswer room (heldBy x room l route) (headerIn m .ttl) (headerIn m .hops) (payloadOf m))
+    (record {
+      line = withTable x (updated room (heldBy x room l route) (headerIn m .ttl) (headerIn m .hops) (payloadOf m) .table);
+      taken = false;
+    })
+    (over (l * room) (updated room (heldBy x room l route) (headerIn m .ttl) (headerIn m .hops) (payloadOf m) .entries) route)
 
--- by type; 7 for any other
-unfoldable pub byType : ℕ → Station → ℕ → ℕ → Own → List ℕ → List ℕ → Outcome
-byType limit s l clock own m route =
-    pickOutcome (eqb (kindOf m) pingType) (pingOutcome s l clock own m route)
-    (pickOutcome (eqb (kindOf m) pongType) (pongOutcome s l clock m route)
-    (pickOutcome (eqb (kindOf m) routeUpdate) (updateOutcome s l m route)
-    (pickOutcome (eqb (kindOf m) queryType) (queryOutcome limit s l m route)
-    (pickOutcome (eqb (kindOf m) hitType) (hitOutcome s m route)
-    (quiet 7 s route)))))
+-- by type, of whose number the look-up found k; 7 for any other
+unfoldable pub byType : ℕ → ℕ → List Line → ℕ → Lookup → List ℕ → Terms → List ℕ → Step
+byType limit room lines l k m t route =
+    pickResult (eqb (headerIn m .kind) pingType) (pingStep lines l t m route)
+    (pickResult (eqb (headerIn m .kind) pongType) (pongStep (lineIn lines l) (t .clock) m route)
+    (pickResult (eqb (headerIn m .kind) routeUpdate) (updateStep room l (lineIn lines l) m route)
+    (pickResult (eqb (headerIn m .kind) queryType) (queryStep limit room lines l k m route)
+    (pickResult (eqb (headerIn m .kind) hitType) (hitStep (lineIn lines l) k m route)
+    (quiet 7 (record { line = lineIn lines l; taken = false }) route)))))
 
-unfoldable pub arriving : ℕ → Station → ℕ → ℕ → Own → List ℕ → ℕ → List ℕ → Outcome
-arriving limit s l clock own m out route =
-    refusedOr (early s l m out (length route)) s route (byType limit s l clock own m route)
+-- what a message by line l does to a state by its type
+abbrev pub arrived : ℕ → Station → ℕ → List ℕ → Terms → List ℕ → Outcome
+arrived limit s l m t route =
+    stored s l (numberIn m) (byType limit (s .room) (s .lines) l (lookedUp s (numberIn m)) m t route)
 
--- an own query
-abbrev pub ownRules : Station → List ℕ → List ℕ → ℕ → ℕ → List (Bool × ℕ)
-ownRules s number text out route =
-    (not (inOrder s), 1)
-    ∷ (shortOutput out || otherRoom s route, 2)
-    ∷ (ltb 4093 (length text), 5)
-    ∷ (any (eqb 0) text, 6)
-    ∷ (seen s (numberIn number), 9)
+unfoldable pub arriving : ℕ → Station → ℕ → List ℕ → Terms → List ℕ → Outcome
+arriving limit s l m t route = refusedOr (early s l m (t .out) (length route)) s route (arrived limit s l m t route)
+
+-- an own query: the refusals before its number is looked up, given the length of its text and whether that has a zero byte, and the one after
+abbrev pub ownBefore : Bool → ℕ → ℕ → ℕ → ℕ → Bool → List (Bool × ℕ)
+ownBefore order room out route size zero =
+    (not order, 1)
+    ∷ (unfitAreas room out route, 2)
+    ∷ (ltb 4093 size, 5)
+    ∷ (zero, 6)
     ∷ []
+
+abbrev pub ownAfter : Lookup → List (Bool × ℕ)
+ownAfter k = (k .found, 9) ∷ []
+
+abbrev pub ownRules : Bool → ℕ → ℕ → ℕ → ℕ → Bool → Lookup → List (Bool × ℕ)
+ownRules order room out route size zero k = ownBefore order room out route size zero ++ ownAfter k
+
+unfoldable pub ownAnswer : Station → List ℕ → List ℕ → ℕ → ℕ → ℕ
+ownAnswer s number text out route =
+    firstOf (ownRules (inOrder s) (s .room) out route (length text) (any (eqb 0) text) (lookedUp s (numberIn number)))
+
+abbrev pub ownTaken : ℕ → Station → List ℕ → List ℕ → List ℕ → Outcome
+ownTaken limit s number text route =
+    sends (ownTo limit (s .room) (s .lines) text route) (writtenFor (ownTo limit (s .room) (s .lines) text route) (ownBytes limit number text))
+    (quiet 0 (withMemory s (remember capacity (s .memory) (numberIn number) here)) route)
 
 unfoldable pub asking : ℕ → Station → List ℕ → List ℕ → ℕ → List ℕ → Outcome
 asking limit s number text out route =
-    refusedOr (firstOf (ownRules s number text out (length route))) s route (ownTaken limit s number text route)
+    refusedOr (ownAnswer s number text out (length route)) s route (ownTaken limit s number text route)
 
--- as the code hands them back, with the usual limit
-abbrev pub changed : Outcome → Changed
-changed o = record { state = o .state; answer = o .answer }
-
-abbrev pub messageOutcome : Station → ℕ → ℕ → Own → List ℕ → ℕ → List ℕ → Outcome
+-- with the usual limit, and as a caller is told
+abbrev pub messageOutcome : Station → ℕ → List ℕ → Terms → List ℕ → Outcome
 messageOutcome = arriving usualLimit
 
-abbrev pub messageResult : Station → ℕ → ℕ → Own → List ℕ → ℕ → List ℕ → Handled
-messageResult s l clock own m out route =
-    handled (messageOutcome s l clock own m out route) (usedOf (messageOutcome s l clock own m out route .answer) m)
+abbrev pub messageReport : Station → ℕ → List ℕ → Terms → List ℕ → Report
+messageReport s l m t route = reportOf (messageOutcome s l m t route) (usedOf (messageOutcome s l m t route .answer) m)
 
 abbrev pub ownOutcome : Station → List ℕ → List ℕ → ℕ → List ℕ → Outcome
 ownOutcome = asking usualLimit
 
-abbrev pub ownResult : Station → List ℕ → List ℕ → ℕ → List ℕ → Handled
-ownResult s number text out route = handled (ownOutcome s number text out route) 0
+abbrev pub ownReport : Station → List ℕ → List ℕ → ℕ → List ℕ → Report
+ownReport s number text out route = reportOf (ownOutcome s number text out route) 0

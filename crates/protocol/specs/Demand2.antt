@@ -14,13 +14,11 @@ use Rattle.laws.specs.Tests.{any, all}
 use Rattle.wire.specs.Header.{kindOf, ttlOf, hopsOf, sizeOf, payloadOf, numberOf, message}
 use Rattle.keywords.specs.Keywords.{keywordsOf}
 use Rattle.tables.specs.Admission.{withholds}
-use Rattle.protocol.specs.declared.Station.{Station}
-use Rattle.protocol.specs.declared.Own.{Own}
-use Rattle.protocol.specs.Memory.{capacity, here, gone, Number, numberIn, sameNumber, Query, remembered, noTwice}
-use Rattle.protocol.specs.Lines.{lineAt, heldAt}
+use Rattle.protocol.specs.State.{Station, remembered, lineAt, heldAt}
+use Rattle.protocol.specs.Memory.{capacity, here, gone, Number, numberIn, sameNumber, Query, noTwice}
 use Rattle.protocol.specs.Order.{inOrder}
-use Rattle.protocol.specs.Outcomes.{Outcome, nobody, onlyTo}
-use Rattle.protocol.specs.Queries.{textIn}
+use Rattle.protocol.specs.Outcomes.{Terms, Outcome, nobody, onlyTo}
+use Rattle.protocol.specs.Queries.{usualLimit, textIn}
 use Rattle.protocol.specs.Calls.{fresh}
 use Rattle.protocol.specs.Runs.{Area, Call, Open, Close, Message, Ask, Made, World, lent, outcomeOf, step, run, start}
 use Rattle.protocol.specs.Periods.{lifeLeft}
@@ -35,34 +33,34 @@ use Rattle.protocol.specs.Pinged.{PingsRouted}
 abbrev pub took : Call → ℕ → Bool
 took (Open k) n = false
 took (Close k) n = false
-took (Message k clock own m out a) n = eqb (kindOf m) 0x80 && eqb n 0
-took (Ask number text out a) n = eqb n 0
+took (Message k m t a) n = eqb (kindOf m) 0x80 && eqb n 0
+took (Ask number text t a) n = eqb n 0
 
 -- the number that it brought, and the asker: its line, or here
 abbrev pub broughtNumber : Call → Number
 broughtNumber (Open k) = record { lo = 0; hi = 0 }
 broughtNumber (Close k) = record { lo = 0; hi = 0 }
-broughtNumber (Message k clock own m out a) = numberIn m
-broughtNumber (Ask number text out a) = numberIn number
+broughtNumber (Message k m t a) = numberIn m
+broughtNumber (Ask number text t a) = numberIn number
 
 abbrev pub broughtBy : Call → ℕ
 broughtBy (Open k) = here
 broughtBy (Close k) = here
-broughtBy (Message k clock own m out a) = k
-broughtBy (Ask number text out a) = here
+broughtBy (Message k m t a) = k
+broughtBy (Ask number text t a) = here
 
 -- one that opened line l, one that closed it
 abbrev pub opened : Call → ℕ → ℕ → Bool
 opened (Open k) n l = eqb l k && eqb n 0
 opened (Close k) n l = false
-opened (Message k clock own m out a) n l = false
-opened (Ask number text out a) n l = false
+opened (Message k m t a) n l = false
+opened (Ask number text t a) n l = false
 
 abbrev pub closed : Call → ℕ → ℕ → Bool
 closed (Open k) n l = false
 closed (Close k) n l = eqb l k && eqb n 0
-closed (Message k clock own m out a) n l = false
-closed (Ask number text out a) n l = false
+closed (Message k m t a) n l = false
+closed (Ask number text t a) n l = false
 
 -- how often line l was opened
 abbrev pub openings : ℕ → List Made → ℕ
@@ -87,9 +85,9 @@ allTaken shut (d ∷ ds) base =
     (past shut (broughtNumber (d .call)) (broughtBy (d .call)) (openings (broughtBy (d .call)) ds) ∷ allTaken shut ds base)
     (allTaken (λ l. shut l || closed (d .call) (d .outcome .answer) l) ds base)
 
--- the last 512 of them
-abbrev pub lastTaken : List Made → List Query → List Past
-lastTaken log base = take capacity (allTaken (λ l. false) log base)
+-- the last n of them
+abbrev pub lastTaken : ℕ → List Made → List Query → List Past
+lastTaken n log base = take n (allTaken (λ l. false) log base)
 
 -- numbers are the same exactly if their 16 bytes are
 abbrev pub SameBytes : Type 0
@@ -101,7 +99,7 @@ SameBytes =
     → 16 ≤ length b
     → (sameNumber (numberIn a) (numberIn b) ≡ true) ↔ (numberOf a ≡ numberOf b)
 
--- where a query came from: not among the last 512; here; a line that has not closed since, in its opening of this count; one that has
+-- where a query came from: not among the last n; here; a line that has not closed since, in its opening of this count; one that has
 pub data Origin : Type 0 where
   Unknown : Origin
   Here : Origin
@@ -119,10 +117,10 @@ abbrev pub lookUp : List Past → Number → Origin
 lookUp [] x = Unknown
 lookUp (p ∷ ps) x = pickOrigin (sameNumber (p .number) x) (originOf p) (lookUp ps x)
 
-abbrev pub origin : List Made → List Query → Number → Origin
-origin log base x = lookUp (lastTaken log base) x
+abbrev pub origin : ℕ → List Made → List Query → Number → Origin
+origin n log base x = lookUp (lastTaken n log base) x
 
--- What stands in a state is this history: the remembered queries are the last 512 taken, the newest first, each with its asker now
+-- What stands in a state is this history: the remembered queries are the last n taken, the newest first, each with its asker now
 abbrev pub askerNow : Origin → ℕ
 askerNow Unknown = 10
 askerNow Here = here
@@ -132,54 +130,54 @@ askerNow Gone = gone
 abbrev pub standing : Past → Query
 standing p = record { number = p .number; asker = askerNow (originOf p) }
 
-pub record MemoryIs (s : Station) (log : List Made) (base : List Query) : Type 0 where
-  pub last : remembered s ≡ map standing (lastTaken log base)
-  pub once : noTwice (map standing (lastTaken log base)) ≡ true
+pub record MemoryIs (n : ℕ) (s : Station) (log : List Made) (base : List Query) : Type 0 where
+  pub last : remembered s ≡ map standing (lastTaken n log base)
+  pub once : noTwice (map standing (lastTaken n log base)) ≡ true
 
 abbrev pub MemoryHistory : Type 0
 MemoryHistory =
     (s : Station) (area : List ℕ) (cs : List Call)
     → Sized s
     → inOrder s ≡ true
-    → MemoryIs (run (start s area) cs .state) (run (start s area) cs .log) (remembered s)
+    → MemoryIs capacity (run (start s area) cs .state) (run (start s area) cs .log) (remembered s)
 
 -- Queries. An arriving query that only its number can refuse, and such an own query
-pub record Acceptable (s : Station) (l : ℕ) (m : List ℕ) (out : ℕ) (route : List ℕ) : Type 0 where
+pub record Acceptable (limit : ℕ) (s : Station) (l : ℕ) (m : List ℕ) (out : ℕ) (route : List ℕ) : Type 0 where
   pub arrived : Arrived s l m out route
   pub text : any (eqb 0) (drop 2 (payloadOf m)) ≡ true
   pub ttl : 1 ≤ ttlOf m
   pub ttl15 : ttlOf m ≤ 15
-  pub hops : hopsOf m < 7
+  pub hops : hopsOf m < limit
 
 pub record OwnAcceptable (s : Station) (text : List ℕ) (out : ℕ) (route : List ℕ) : Type 0 where
   pub areas : Areas s out route
   pub size : length text ≤ 4093
   pub noZero : any (eqb 0) text ≡ false
 
--- it is taken exactly if its number is not among the last 512, and is a repeat exactly if it is
+-- it is taken exactly if its number is not among those remembered, and is a repeat exactly if it is
 pub record Answered (acceptable : Type 0) (from : Origin) (o : Outcome) : Type 0 where
   pub taken : (o .answer ≡ 0) ↔ (acceptable × (from ≡ Unknown))
   pub repeats : (o .answer ≡ 9) ↔ (acceptable × (from ≡ Unknown → ⊥))
 
 -- a taken one goes, written once, to exactly the lines that are open, others than its own, with life 2 or more, that do not withhold it; it
 -- is offered to the local search, and an own one is not
-pub record QueryTo (s : Station) (route : List ℕ) (l : ℕ) (m : List ℕ) (o : Outcome) : Type 0 where
+pub record QueryTo (limit : ℕ) (s : Station) (route : List ℕ) (l : ℕ) (m : List ℕ) (o : Outcome) : Type 0 where
   pub eight : length (o .to) ≡ 8
   pub to : (k : ℕ) → k < 8
       → (getD (o .to) k false ≡ true)
       ↔ ((lineAt s k .live ≡ true)
       × (k ≡ l → ⊥)
-      × (2 ≤ lifeLeft m)
-      × (withholds (heldAt s k route) (keywordsOf (textIn (payloadOf m))) (lifeLeft m - 1) ≡ false))
-  pub sent : WrittenFor (o .to) (message (numberOf m) 0x80 (lifeLeft m - 1) (hopsOf m + 1) (payloadOf m)) (o .sent)
+      × (2 ≤ lifeLeft limit m)
+      × (withholds (heldAt s k route) (keywordsOf (textIn (payloadOf m))) (lifeLeft limit m - 1) ≡ false))
+  pub sent : WrittenFor (o .to) (message (numberOf m) 0x80 (lifeLeft limit m - 1) (hopsOf m + 1) (payloadOf m)) (o .sent)
   pub search : (o .search ≡ true) × (o .textat ≡ 25) × (o .textlen ≡ length (textIn (payloadOf m)))
   pub lines : o .state .lines ≡ s .lines
 
-pub record OwnTo (s : Station) (route number text : List ℕ) (o : Outcome) : Type 0 where
+pub record OwnTo (limit : ℕ) (s : Station) (route number text : List ℕ) (o : Outcome) : Type 0 where
   pub eight : length (o .to) ≡ 8
   pub to : (k : ℕ) → k < 8
-      → (getD (o .to) k false ≡ true) ↔ ((lineAt s k .live ≡ true) × (withholds (heldAt s k route) (keywordsOf text) 7 ≡ false))
-  pub sent : WrittenFor (o .to) (message number 0x80 7 0 (0 ∷ 0 ∷ (text ++ (0 ∷ [])))) (o .sent)
+      → (getD (o .to) k false ≡ true) ↔ ((lineAt s k .live ≡ true) × (withholds (heldAt s k route) (keywordsOf text) limit ≡ false))
+  pub sent : WrittenFor (o .to) (message number 0x80 limit 0 (0 ∷ 0 ∷ (text ++ (0 ∷ [])))) (o .sent)
   pub search : NotSearched o
   pub lines : o .state .lines ≡ s .lines
 
@@ -208,11 +206,11 @@ pub record HitRouted (from : Origin) (w : World) (m : List ℕ) (o : Outcome) : 
 
 -- One call, with the world before it and the queries remembered before its log began. Whatever has arrived is decided by its type, and
 -- nothing else is; a refused call sends nothing
-pub record MessageRouted (base : List Query) (w : World) (l : ℕ) (m : List ℕ) (out : ℕ) (route : List ℕ) (o : Outcome) : Type 0 where
+pub record MessageRouted (limit n : ℕ) (base : List Query) (w : World) (l : ℕ) (m : List ℕ) (out : ℕ) (route : List ℕ) (o : Outcome) : Type 0 where
   pub arrives : SentIfArrived (w .state) l m out route o
-  pub query : kindOf m ≡ 0x80 → Answered (Acceptable (w .state) l m out route) (origin (w .log) base (numberIn m)) o
-  pub goes : kindOf m ≡ 0x80 → o .answer ≡ 0 → QueryTo (w .state) route l m o
-  pub hit : kindOf m ≡ 0x81 → Arrived (w .state) l m out route → HitRouted (origin (w .log) base (numberIn m)) w m o
+  pub query : kindOf m ≡ 0x80 → Answered (Acceptable limit (w .state) l m out route) (origin n (w .log) base (numberIn m)) o
+  pub goes : kindOf m ≡ 0x80 → o .answer ≡ 0 → QueryTo limit (w .state) route l m o
+  pub hit : kindOf m ≡ 0x81 → Arrived (w .state) l m out route → HitRouted (origin n (w .log) base (numberIn m)) w m o
   pub noHit : kindOf m ≡ 0x80 → NoHit 0x80 o
   pub pings : kindOf m ≡ 0x00 → NotSearched o
   -- an update changes its line's table and nothing else, and a refused one only that table's mark
@@ -226,45 +224,46 @@ pub record MessageRouted (base : List Query) (w : World) (l : ℕ) (m : List ℕ
   pub refused : (o .answer ≡ 0 → ⊥) → Silent o
 
 -- the number of an own query has 16 bytes by its type, [u8; 16]
-pub record AskRouted (base : List Query) (w : World) (number text : List ℕ) (out : ℕ) (route : List ℕ) (o : Outcome) : Type 0 where
-  pub query : Answered (OwnAcceptable (w .state) text out route) (origin (w .log) base (numberIn number)) o
-  pub goes : o .answer ≡ 0 → OwnTo (w .state) route number text o
+pub record AskRouted (limit n : ℕ) (base : List Query) (w : World) (number text : List ℕ) (out : ℕ) (route : List ℕ) (o : Outcome) : Type 0 where
+  pub query : Answered (OwnAcceptable (w .state) text out route) (origin n (w .log) base (numberIn number)) o
+  pub goes : o .answer ≡ 0 → OwnTo limit (w .state) route number text o
   pub noHit : length number ≡ 16 → NoHit 0x80 o
   pub area : o .route ≡ route
   pub refused : (o .answer ≡ 0 → ⊥) → Silent o
 
-abbrev pub Routed : List Query → World → Call → Outcome → Type 0
-Routed base w (Open l) o = OpenRouted (w .state) l o
-Routed base w (Close l) o = CloseRouted (w .state) l o
-Routed base w (Message l clock own m out a) o =
-    MessageRouted base w l m out (lent a (w .area)) o × PingsRouted (w .state) l clock own m out (lent a (w .area)) o
-Routed base w (Ask number text out a) o = AskRouted base w number text out (lent a (w .area)) o
+abbrev pub Routed : (limit n : ℕ) → List Query → World → Call → Outcome → Type 0
+Routed limit n base w (Open l) o = OpenRouted (w .state) l o
+Routed limit n base w (Close l) o = CloseRouted (w .state) l o
+Routed limit n base w (Message l m t a) o =
+    MessageRouted limit n base w l m (t .out) (lent a (w .area)) o
+    × PingsRouted (w .state) l (t .clock) (t .own) m (t .out) (lent a (w .area)) o
+Routed limit n base w (Ask number text t a) o = AskRouted limit n base w number text (t .out) (lent a (w .area)) o
 
 -- Every call of a list, in turn
-abbrev pub AllRouted : List Query → World → List Call → Type 0
-AllRouted base w [] = Unit {0}
-AllRouted base w (c ∷ cs) = Routed base w c (outcomeOf w c) × AllRouted base (step w c) cs
+abbrev pub AllRouted : (limit n : ℕ) → List Query → World → List Call → Type 0
+AllRouted limit n base w [] = Unit {0}
+AllRouted limit n base w (c ∷ cs) = Routed limit n base w c (outcomeOf w c) × AllRouted limit n base (step w c) cs
 
--- every list of calls, with any areas, from any state in order; from a fresh one nothing is remembered at the start
+-- every list of calls, with any areas, from any state in order, at the usual limit and capacity; from a fresh one nothing is remembered at the start
 abbrev pub Demand2 : Type 0
 Demand2 =
     (s : Station) (area : List ℕ) (cs : List Call)
     → Sized s
     → inOrder s ≡ true
-    → AllRouted (remembered s) (start s area) cs
+    → AllRouted usualLimit capacity (remembered s) (start s area) cs
 
--- Gone stays gone: after any list, no later list makes a line or here of it; it only leaves, as one among the last 512 no more
+-- Gone stays gone: after any list, no later list makes a line or here of it; it only leaves, as one among those remembered no more
 abbrev pub GoneForever : Type 0
 GoneForever =
     (s : Station) (area : List ℕ) (cs later : List Call) (x : Number)
     → Sized s
     → inOrder s ≡ true
-    → origin (run (start s area) cs .log) (remembered s) x ≡ Gone
-    → (origin (run (run (start s area) cs) later .log) (remembered s) x ≡ Gone)
-    ⊎ ((ps qs : List Call) × (later ≡ ps ++ qs) × (origin (run (run (start s area) cs) ps .log) (remembered s) x ≡ Unknown))
+    → origin capacity (run (start s area) cs .log) (remembered s) x ≡ Gone
+    → (origin capacity (run (run (start s area) cs) later .log) (remembered s) x ≡ Gone)
+    ⊎ ((ps qs : List Call) × (later ≡ ps ++ qs) × (origin capacity (run (run (start s area) cs) ps .log) (remembered s) x ≡ Unknown))
 
 -- With the log laid open, from a fresh state: where a hit goes to line l, that line is open and some call of the log took a query with its
--- number by it; since then fewer than 512 were taken, the line was not closed, and it has been opened as often now as it had been then
+-- number by it; since then fewer than n were taken, the line was not closed, and it has been opened as often now as it had been then
 abbrev pub takenIn : List Made → ℕ
 takenIn [] = 0
 takenIn (d ∷ ds) = cond (took (d .call) (d .outcome .answer)) (suc (takenIn ds)) (takenIn ds)
@@ -281,13 +280,13 @@ pub record Brought (n : ℕ) (log : List Made) (x : Number) (l opening : ℕ) : 
   pub unclosed : any (λ d. closed (d .call) (d .outcome .answer) l) newer ≡ false
   pub before : openings l older ≡ opening
 
-abbrev pub BackOnly : World → Type 0
-BackOnly w =
-    (l clock : ℕ) (own : Own) (m : List ℕ) (out : ℕ) (a : Area) (k : ℕ)
+abbrev pub BackOnly : ℕ → World → Type 0
+BackOnly n w =
+    (l : ℕ) (m : List ℕ) (t : Terms) (a : Area) (k : ℕ)
     → kindOf m ≡ 0x81
     → k < 8
-    → getD (outcomeOf w (Message l clock own m out a) .to) k false ≡ true
-    → (lineAt (w .state) k .live ≡ true) × Brought 512 (w .log) (numberIn m) k (openings k (w .log))
+    → getD (outcomeOf w (Message l m t a) .to) k false ≡ true
+    → (lineAt (w .state) k .live ≡ true) × Brought n (w .log) (numberIn m) k (openings k (w .log))
 
 abbrev pub AnswersBack : Type 0
-AnswersBack = (n : ℕ) (area : List ℕ) (cs : List Call) → BackOnly (run (start (fresh n .state) area) cs)
+AnswersBack = (n : ℕ) (area : List ℕ) (cs : List Call) → BackOnly capacity (run (start (fresh n .state) area) cs)

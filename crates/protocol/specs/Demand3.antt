@@ -29,12 +29,11 @@ use Rattle.keywords.specs.Keywords.{keywordsOf}
 use Rattle.keywords.specs.Hash.{placeOf}
 use Rattle.tables.specs.Tables.{settled}
 use Rattle.tables.specs.Answers.{Sent, Answers}
-use Rattle.protocol.specs.declared.Station.{Station}
-use Rattle.protocol.specs.Lines.{lineAt}
+use Rattle.protocol.specs.State.{Station, lineAt}
 use Rattle.protocol.specs.Order.{inOrder}
-use Rattle.protocol.specs.Outcomes.{Outcome, unsent}
-use Rattle.protocol.specs.Queries.{textIn}
-use Rattle.protocol.specs.Runs.{Call, Open, Close, Message, Ask, World, outcomeOf, run, start, Fair}
+use Rattle.protocol.specs.Outcomes.{Outcome}
+use Rattle.protocol.specs.Queries.{usualLimit, textIn}
+use Rattle.protocol.specs.Runs.{Call, Open, Close, Message, Ask, World, unsent, outcomeOf, run, start, Fair}
 use Rattle.protocol.specs.Expected.{Expected, expected, expectedAnswer, isUpdateOf}
 use Rattle.protocol.specs.History.{Update, updatesOf, sumAt, beforeReset, beforeRun, insideRun, spoiled, speaks}
 
@@ -67,13 +66,13 @@ abbrev pub Withheld : Expected → List ℕ → ℕ → Type 0
 Withheld e text ttl = (e .held .table .mark ≡ settled) × Stopped e text ttl
 
 -- the life of a query (RULES 7.2)
-abbrev pub lifeLeft : List ℕ → ℕ
-lifeLeft m = min (ttlOf m) (7 - hopsOf m)
+abbrev pub lifeLeft : ℕ → List ℕ → ℕ
+lifeLeft limit m = min (ttlOf m) (limit - hopsOf m)
 
 -- an arriving query, which came by line l, goes on to line L but for its table: that line is open, it is another one,
 -- and life is 2 or more
-abbrev pub MayGo : Expected → (L l : ℕ) → List ℕ → Type 0
-MayGo e L l m = (e .live ≡ true) × (L ≡ l → ⊥) × (2 ≤ lifeLeft m)
+abbrev pub MayGo : (limit : ℕ) → Expected → (L l : ℕ) → List ℕ → Type 0
+MayGo limit e L l m = (e .live ≡ true) × (L ≡ l → ⊥) × (2 ≤ lifeLeft limit m)
 
 -- a query answered 0, with its text and the TTL to be sent. `may` says that it goes on to the line but for the line's
 -- table, and `sent` whether it was sent there. Before it e was expected of the line, and us are the updates of the
@@ -92,15 +91,15 @@ updateIn m = record { ttl = ttlOf m; hops = hopsOf m; payload = payloadOf m }
 
 -- a call and its outcome, read with what was expected before it and the updates until then. An opening or closing that
 -- is not unsent is done
-abbrev pub Agrees : (L room : ℕ) → Expected → List Update → Call → Outcome → Type 0
-Agrees L room e us (Open l) o = unsent (o .answer) ≡ false → o .answer ≡ 0
-Agrees L room e us (Close l) o = unsent (o .answer) ≡ false → o .answer ≡ 0
-Agrees L room e us (Message l clock own m out a) o =
-    (unsent (o .answer) ≡ false → isUpdateOf L l m ≡ true
+abbrev pub Agrees : (limit L room : ℕ) → Expected → List Update → Call → Outcome → Type 0
+Agrees limit L room e us (Open l) o = unsent (Open l) (o .answer) ≡ false → o .answer ≡ 0
+Agrees limit L room e us (Close l) o = unsent (Close l) (o .answer) ≡ false → o .answer ≡ 0
+Agrees limit L room e us (Message l m t a) o =
+    (unsent (Message l m t a) (o .answer) ≡ false → isUpdateOf L l m ≡ true
     → (o .answer ≡ expectedAnswer room e m) × Answers room us (updateIn m) (o .answer))
     × (o .answer ≡ 0 → kindOf m ≡ 0x80
-    → Forwarded e us (MayGo e L l m) (textIn (payloadOf m)) (lifeLeft m - 1) (getD (o .to) L false))
-Agrees L room e us (Ask n text out a) o = o .answer ≡ 0 → Forwarded e us (e .live ≡ true) text 7 (getD (o .to) L false)
+    → Forwarded e us (MayGo limit e L l m) (textIn (payloadOf m)) (lifeLeft limit m - 1) (getD (o .to) L false))
+Agrees limit L room e us (Ask n text t a) o = o .answer ≡ 0 → Forwarded e us (e .live ≡ true) text limit (getD (o .to) L false)
 
 -- the entries of a line in an area
 abbrev pub entriesAt : Station → ℕ → List ℕ → List ℕ
@@ -124,16 +123,16 @@ pub record Stands (L room : ℕ) (e : Expected) (us : List Update) (s : Station)
 abbrev pub StandsAt : (L room : ℕ) → World → Type 0
 StandsAt L room w = Stands L room (expected L room (w .log)) (updatesOf L (w .log)) (w .state) (w .area)
 
-abbrev pub AgreesAt : (L room : ℕ) → World → Call → Type 0
-AgreesAt L room w c = Agrees L room (expected L room (w .log)) (updatesOf L (w .log)) c (outcomeOf w c)
+abbrev pub AgreesAt : (limit L room : ℕ) → World → Call → Type 0
+AgreesAt limit L room w c = Agrees limit L room (expected L room (w .log)) (updatesOf L (w .log)) c (outcomeOf w c)
 
 -- the whole claim of a list of calls: at each place of it, where the calls before have been made
-pub record Claimed (s : Station) (area : List ℕ) (L : ℕ) (cs : List Call) : Type 0 where
+pub record Claimed (limit : ℕ) (s : Station) (area : List ℕ) (L : ℕ) (cs : List Call) : Type 0 where
   pub stands : (before after : List Call) → cs ≡ before ++ after → StandsAt L (s .room) (run (start s area) before)
   pub calls : (before : List Call) (c : Call) (after : List Call) → cs ≡ before ++ (c ∷ after)
-      → AgreesAt L (s .room) (run (start s area) before) c
+      → AgreesAt limit L (s .room) (run (start s area) before) c
 
--- every list of calls, from any state in order with the line closed
+-- every list of calls, from any state in order with the line closed, at the usual limit
 abbrev pub Demand3 : Type 0
 Demand3 =
     (s : Station) (area : List ℕ) (L : ℕ) (cs : List Call)
@@ -142,4 +141,4 @@ Demand3 =
     → L ≤ 7
     → lineAt s L .live ≡ false
     → Fair (s .room) cs
-    → Claimed s area L cs
+    → Claimed usualLimit s area L cs

@@ -8,10 +8,9 @@ use mathlib.Core.Logic.{_↔_, _⊎_}
 use mathlib.Core.List.{List}
 use lib.ListN.{length, getD}
 use Rattle.wire.specs.Header.{kindOf, ttlOf, hopsOf, payloadOf}
-use Rattle.protocol.specs.declared.Station.{Station}
-use Rattle.protocol.specs.declared.Own.{Own}
-use Rattle.protocol.specs.Lines.{lineAt}
+use Rattle.protocol.specs.State.{Station, lineAt}
 use Rattle.protocol.specs.Order.{inOrder}
+use Rattle.protocol.specs.Outcomes.{Terms}
 use Rattle.protocol.specs.Calls.{messageOutcome, ownOutcome}
 use Rattle.protocol.specs.Arrived.{Areas, Arrived}
 
@@ -57,16 +56,16 @@ pub record OwnExactly (s : Station) (text : List ℕ) (out : ℕ) (route : List 
   pub six : (answer ≡ 6) ↔ ((inOrder s ≡ true) × (Areas s out route × ((length text ≤ 4093) × ZeroFrom 0 text)))
 
 pub record Exactly : Type 0 where
-  pub early : (s : Station) (l clock : ℕ) (own : Own) (m : List ℕ) (out : ℕ) (route : List ℕ)
-      → EarlyExactly s l out route (messageOutcome s l clock own m out route .answer)
-  pub seven : (s : Station) (l clock : ℕ) (own : Own) (m : List ℕ) (out : ℕ) (route : List ℕ)
+  pub early : (s : Station) (l : ℕ) (m : List ℕ) (t : Terms) (route : List ℕ)
+      → EarlyExactly s l out route (messageOutcome s l m t route .answer)
+  pub seven : (s : Station) (l : ℕ) (m : List ℕ) (t : Terms) (route : List ℕ)
       → inOrder s ≡ true
       → Arrived s l m out route
-      → (messageOutcome s l clock own m out route .answer ≡ 7) ↔ (Named m → ⊥)
-  pub query : (s : Station) (l clock : ℕ) (own : Own) (m : List ℕ) (out : ℕ) (route : List ℕ)
+      → (messageOutcome s l m t route .answer ≡ 7) ↔ (Named m → ⊥)
+  pub query : (s : Station) (l : ℕ) (m : List ℕ) (t : Terms) (route : List ℕ)
       → inOrder s ≡ true
       → Arrived s l m out route
       → kindOf m ≡ 0x80
-      → QueryExactly m (messageOutcome s l clock own m out route .answer)
+      → QueryExactly m (messageOutcome s l m t route .answer)
   pub asks : (s : Station) (number text : List ℕ) (out : ℕ) (route : List ℕ)
       → OwnExactly s text out route (ownOutcome s number text out route .answer)

@@ -8,8 +8,7 @@ use lib.Dec.{eqb}
 use Rattle.wire.specs.Header.{kindOf, ttlOf, hopsOf, payloadOf}
 use Rattle.tables.specs.Tables.{Held, noTable}
 use Rattle.tables.specs.Updates.{updateAnswer, updated}
-use Rattle.protocol.specs.Outcomes.{unsent}
-use Rattle.protocol.specs.Runs.{Call, Open, Close, Message, Ask, Made}
+use Rattle.protocol.specs.Runs.{Call, Open, Close, Message, Ask, Made, unsent}
 
 pub record Expected : Type 0 where
   pub live : Bool
@@ -29,8 +28,8 @@ pub data Brought : Type 0 where
 abbrev pub brought : Call → Brought
 brought (Open l) = opens l
 brought (Close l) = closes l
-brought (Message l clock own m out a) = brings l m
-brought (Ask n text out a) = asks
+brought (Message l m t a) = brings l m
+brought (Ask n text t a) = asks
 
 -- an update is a message of type 0x30
 abbrev pub isUpdateOf : ℕ → ℕ → List ℕ → Bool
@@ -57,7 +56,7 @@ pub record Fed : Type 0 where
   pub refused : Bool
 
 abbrev pub fed : Made → Fed
-fed d = record { call = brought (d .call); refused = unsent (d .outcome .answer) }
+fed d = record { call = brought (d .call); refused = unsent (d .call) (d .outcome .answer) }
 
 -- it begins as after a closing; the list has the newest first
 abbrev pub fedAll : (L room : ℕ) → List Fed → Expected

@@ -8,10 +8,9 @@ use mathlib.Core.Logic.{_↔_, _⊎_}
 use mathlib.Core.List.{List}
 use lib.ListN.{length}
 use Rattle.wire.specs.Header.{sizeOf}
-use Rattle.protocol.specs.declared.Station.{Station}
-use Rattle.protocol.specs.declared.Own.{Own}
-use Rattle.protocol.specs.Lines.{lineAt}
+use Rattle.protocol.specs.State.{Station, lineAt}
 use Rattle.protocol.specs.Order.{inOrder}
+use Rattle.protocol.specs.Outcomes.{Terms}
 use Rattle.protocol.specs.Calls.{messageOutcome}
 use Rattle.protocol.specs.Arrived.{Areas}
 
@@ -21,9 +20,9 @@ pub record ByExtent (m : List ℕ) (answer : ℕ) : Type 0 where
 
 abbrev pub ExtentExactly : Type 0
 ExtentExactly =
-    (s : Station) (l clock : ℕ) (own : Own) (m : List ℕ) (out : ℕ) (route : List ℕ)
+    (s : Station) (l : ℕ) (m : List ℕ) (t : Terms) (route : List ℕ)
     → inOrder s ≡ true
     → Areas s out route
     → l ≤ 7
     → lineAt s l .live ≡ true
-    → ByExtent m (messageOutcome s l clock own m out route .answer)
+    → ByExtent m (messageOutcome s l m t route .answer)

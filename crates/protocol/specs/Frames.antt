@@ -6,9 +6,8 @@ use mathlib.Core.List.{List, []}
 use lib.ListN.{length, take, drop}
 use Rattle.tables.specs.Tables.{none}
 use Rattle.protocol.specs.declared.Line.{Line}
-use Rattle.protocol.specs.declared.Station.{Station}
-use Rattle.protocol.specs.Memory.{remembered}
-use Rattle.protocol.specs.Lines.{lineAt, storedPongs}
+use Rattle.protocol.specs.State.{Station, remembered, lineAt}
+use Rattle.protocol.specs.Lines.{storedPongs}
 use Rattle.protocol.specs.Outcomes.{Outcome, nobody}
 
 -- a line with no table, no pongs and no accepted ping, open or closed

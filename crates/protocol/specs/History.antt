@@ -7,34 +7,33 @@ use mathlib.Core.List.{List, [], _∷_}
 use lib.Dec.{eqb}
 use Rattle.wire.specs.Header.{payloadOf}
 pub use Rattle.tables.specs.History.{Update, sumAt, beforeReset, beforeRun, insideRun, spoiled, speaks}
-use Rattle.protocol.specs.Outcomes.{unsent}
-use Rattle.protocol.specs.Runs.{Call, Open, Close, Message, Ask, Made}
+use Rattle.protocol.specs.Runs.{Call, Open, Close, Message, Ask, Made, unsent}
 use Rattle.protocol.specs.Expected.{isUpdateOf}
 
 -- what a call is to line L: an opening or closing of it, or an update from it, with its payload
 abbrev pub turnsLine : ℕ → Call → Bool
 turnsLine L (Open l) = eqb l L
 turnsLine L (Close l) = eqb l L
-turnsLine L (Message l clock own m out a) = false
-turnsLine L (Ask number text out a) = false
+turnsLine L (Message l m t a) = false
+turnsLine L (Ask number text t a) = false
 
 abbrev pub updatesLine : ℕ → Call → Bool
 updatesLine L (Open l) = false
 updatesLine L (Close l) = false
-updatesLine L (Message l clock own m out a) = isUpdateOf L l m
-updatesLine L (Ask number text out a) = false
+updatesLine L (Message l m t a) = isUpdateOf L l m
+updatesLine L (Ask number text t a) = false
 
 abbrev pub payloadBy : Call → List ℕ
 payloadBy (Open l) = []
 payloadBy (Close l) = []
-payloadBy (Message l clock own m out a) = payloadOf m
-payloadBy (Ask number text out a) = []
+payloadBy (Message l m t a) = payloadOf m
+payloadBy (Ask number text t a) = []
 
 -- an accepted opening or closing begins anew; an update counts unless it is unsent
 abbrev pub noted : ℕ → Call → ℕ → List Update → List Update
 noted L c n us =
     cond (turnsLine L c && eqb n 0) []
-    (cond (updatesLine L c && not (unsent n)) (record { payload = payloadBy c; answer = n } ∷ us) us)
+    (cond (updatesLine L c && not (unsent c n)) (record { payload = payloadBy c; answer = n } ∷ us) us)
 
 -- the updates of the opening, the newest first
 abbrev pub updatesOf : ℕ → List Made → List Update

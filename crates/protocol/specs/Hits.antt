@@ -1,53 +1,43 @@
--- Query hits (RULES 9).
+-- Query hits (RULES 9), over what the rules read.
 use Prim.Native.Nat.{ℕ, _+_, _-_}
 use mathlib.Core.Bool.{Bool, true, false, cond, not, _&&_, _||_}
-use mathlib.Core.List.{List, [], _∷_}
+use mathlib.Core.List.{List, [], _∷_, _++_}
 use lib.Dec.{eqb, leb, ltb}
-use lib.ListN.{length}
 use Rattle.laws.specs.Tests.{firstOf}
-use Rattle.wire.specs.Header.{ttlOf, hopsOf, sizeOf, payloadOf, numberOf, message}
-use Rattle.protocol.specs.declared.Station.{Station}
-use Rattle.protocol.specs.Memory.{here, gone, Found, isFound, askerOf, numberIn, find, remembered}
-use Rattle.protocol.specs.Outcomes.{Outcome, nobody, onlyTo, refusedOr}
+use Rattle.wire.specs.declared.Header.{Header}
+use Rattle.wire.specs.Header.{headerIn, payloadOf, numberOf, message, hitType}
+use Rattle.protocol.specs.declared.Line.{Line}
+use Rattle.protocol.specs.declared.Lookup.{Lookup}
+use Rattle.protocol.specs.Memory.{here, gone}
+use Rattle.protocol.specs.State.{Change}
+use Rattle.protocol.specs.Outcomes.{Step, nobody, onlyTo, quiet, sends, delivers, refusedOr}
 
-abbrev pub hitType : ℕ
-hitType = 0x81
+-- the checks, in order: those before the query's number is looked up, and those after; a hit of a query asked here is
+-- delivered before the last two
+abbrev pub hitBefore : Header → List (Bool × ℕ)
+hitBefore h = (ltb (h .size) 27, 6) ∷ (eqb (h .ttl) 0, 8) ∷ []
 
--- the checks, in order; a hit of a query asked here is delivered before the last two
-abbrev pub hitRules : Found → List ℕ → List (Bool × ℕ)
-hitRules f m =
-    (ltb (sizeOf m) 27, 6)
-    ∷ (eqb (ttlOf m) 0, 8)
-    ∷ (not (isFound f), 10)
-    ∷ (eqb (askerOf f) gone, 11)
-    ∷ (not (eqb (askerOf f) here) && eqb (ttlOf m) 1, 8)
-    ∷ (not (eqb (askerOf f) here) && eqb (hopsOf m) 255, 12)
+abbrev pub hitAfter : Header → Lookup → List (Bool × ℕ)
+hitAfter h k =
+    (not (k .found), 10)
+    ∷ (eqb (k .asker) gone, 11)
+    ∷ (not (eqb (k .asker) here) && eqb (h .ttl) 1, 8)
+    ∷ (not (eqb (k .asker) here) && eqb (h .hops) 255, 12)
     ∷ []
 
-abbrev pub hitOn : List ℕ → List ℕ
-hitOn m = message (numberOf m) hitType (ttlOf m - 1) (hopsOf m + 1) (payloadOf m)
+abbrev pub hitRules : Header → Lookup → List (Bool × ℕ)
+hitRules h k = hitBefore h ++ hitAfter h k
 
--- what is remembered after a hit of the query that was found
-abbrev pub afterHit : Station → Found → Station
-afterHit s f = s
+abbrev pub hitOn : List ℕ → List ℕ
+hitOn m = message (numberOf m) hitType (headerIn m .ttl - 1) (headerIn m .hops + 1) (payloadOf m)
 
 -- delivered here, or passed back to the asker's line, which may be the one it came by
-abbrev pub hitTaken : Station → Found → List ℕ → List ℕ → Outcome
-hitTaken s f m route =
-    record {
-      answer = 0;
-      state = afterHit s f;
-      to = cond (eqb (askerOf f) here) nobody (onlyTo (askerOf f));
-      sent = cond (eqb (askerOf f) here) [] (hitOn m);
-      route = route;
-      search = false;
-      textat = 0;
-      textlen = 0;
-      delivered = eqb (askerOf f) here;
-    }
+abbrev pub hitTaken : Line → Lookup → List ℕ → List ℕ → Step
+hitTaken x k m route =
+    delivers (eqb (k .asker) here)
+    (sends (cond (eqb (k .asker) here) nobody (onlyTo (k .asker))) (cond (eqb (k .asker) here) [] (hitOn m))
+    (quiet 0 (record { line = x; taken = false }) route))
 
-abbrev pub hitFound : Station → List ℕ → Found
-hitFound s m = find (remembered s) (numberIn m)
-
-unfoldable pub hitOutcome : Station → List ℕ → List ℕ → Outcome
-hitOutcome s m route = refusedOr (firstOf (hitRules (hitFound s m) m)) s route (hitTaken s (hitFound s m) m route)
+-- a hit by a line with this record, of whose number the look-up found k
+unfoldable pub hitStep : Line → Lookup → List ℕ → List ℕ → Step
+hitStep x k m route = refusedOr (firstOf (hitRules (headerIn m) k)) (record { line = x; taken = false }) route (hitTaken x k m route)

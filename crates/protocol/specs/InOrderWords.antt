@@ -7,8 +7,8 @@ use mathlib.Core.Logic.{_↔_, _⊎_}
 use lib.ListN.{getD}
 use Rattle.tables.specs.declared.Table.{Table}
 use Rattle.protocol.specs.declared.Line.{Line}
-use Rattle.protocol.specs.declared.Station.{Station}
-use Rattle.protocol.specs.Lines.{noPong, lineAt}
+use Rattle.protocol.specs.State.{Station, lineAt}
+use Rattle.protocol.specs.Lines.{noPong}
 use Rattle.protocol.specs.Order.{inOrder}
 use Rattle.protocol.specs.Kept.{Sized}
 
@@ -70,13 +70,14 @@ AskerWords s a = ((a ≤ 7) × (lineAt s a .live ≡ true)) ⊎ ((a ≡ 8) ⊎ (
 
 -- two places hold one number: both halves of it are the same
 abbrev pub OneNumber : Station → ℕ → ℕ → Type 0
-OneNumber s p q = (getD (s .lo) p 0 ≡ getD (s .lo) q 0) × (getD (s .hi) p 0 ≡ getD (s .hi) q 0)
+OneNumber s p q = (getD (s .memory .lo) p 0 ≡ getD (s .memory .lo) q 0) × (getD (s .memory .hi) p 0 ≡ getD (s .memory .hi) q 0)
 
 pub record InOrderWords (s : Station) : Type 0 where
-  pub count : s .count ≤ 512
-  pub next : s .next < 512
-  pub once : (i j : ℕ) → i < j → j < s .count → OneNumber s (queryPlace (s .next) i) (queryPlace (s .next) j) → ⊥
-  pub askers : (i : ℕ) → i < s .count → AskerWords s (getD (s .asker) (queryPlace (s .next) i) 0)
+  pub count : s .memory .count ≤ 512
+  pub next : s .memory .next < 512
+  pub once : (i j : ℕ) → i < j → j < s .memory .count
+      → OneNumber s (queryPlace (s .memory .next) i) (queryPlace (s .memory .next) j) → ⊥
+  pub askers : (i : ℕ) → i < s .memory .count → AskerWords s (getD (s .memory .asker) (queryPlace (s .memory .next) i) 0)
   pub lines : (l : ℕ) → l < 8 → LineWords (s .room) (lineAt s l)
 
 -- a state whose arrays are as long as their types have them is in order exactly if these hold of it

@@ -11,12 +11,11 @@ use Rattle.wire.specs.Header.{kindOf, routeUpdate}
 use Rattle.tables.specs.Tables.{marked, broken}
 use Rattle.protocol.specs.declared.Pong.{Pong}
 use Rattle.protocol.specs.declared.Line.{Line}
-use Rattle.protocol.specs.declared.Station.{Station}
-use Rattle.protocol.specs.declared.Own.{Own}
-use Rattle.protocol.specs.Memory.{capacity, Number, Query, remembered, remember, left}
-use Rattle.protocol.specs.Lines.{lineCount, lineAt, withLine, withTable, withPong, pongCapacity, storedPongs}
+use Rattle.protocol.specs.State.{Station, remembered, lineAt, withLine}
+use Rattle.protocol.specs.Memory.{capacity, Number, Query, queriesIn, remember, left}
+use Rattle.protocol.specs.Lines.{lineCount, withTable, withPong, pongCapacity, storedPongs}
 use Rattle.protocol.specs.Order.{inOrder}
-use Rattle.protocol.specs.Outcomes.{Outcome, quiet}
+use Rattle.protocol.specs.Outcomes.{Terms, Outcome, quiet}
 use Rattle.protocol.specs.Calls.{fresh, opening, closedState, closing, messageOutcome, ownOutcome}
 use Rattle.protocol.specs.Runs.{Call, World, run}
 use Rattle.protocol.specs.Frames.{LeftAsItWas, Bare, MarkedBroken}
@@ -27,9 +26,9 @@ sizedLine x = eqb (length (x .pongs)) pongCapacity && all (λ p. eqb (length (p 
 
 pub record Sized (s : Station) : Type 0 where
   pub eight : length (s .lines) ≡ lineCount
-  pub lo : length (s .lo) ≡ capacity
-  pub hi : length (s .hi) ≡ capacity
-  pub asker : length (s .asker) ≡ capacity
+  pub lo : length (s .memory .lo) ≡ capacity
+  pub hi : length (s .memory .hi) ≡ capacity
+  pub asker : length (s .memory .asker) ≡ capacity
   pub pongs : all sizedLine (s .lines) ≡ true
 
 -- a state after a call, and the state before it
@@ -52,7 +51,7 @@ FreshInOrder = (n : ℕ) → FreshFacts n
 pub record KeptByCalls (s : Station) : Type 0 where
   pub opens : (l : ℕ) → Kept s (opening s l .state)
   pub closes : (l : ℕ) → Kept s (closing s l .state)
-  pub message : (l clock : ℕ) (own : Own) (m : List ℕ) (out : ℕ) (route : List ℕ) → Kept s (messageOutcome s l clock own m out route .state)
+  pub message : (l : ℕ) (m : List ℕ) (t : Terms) (route : List ℕ) → Kept s (messageOutcome s l m t route .state)
   pub asks : (number text : List ℕ) (out : ℕ) (route : List ℕ) → Kept s (ownOutcome s number text out route .state)
 
 abbrev pub OrderKept : Type 0
@@ -66,7 +65,7 @@ OrderKeptByLists = (w : World) (cs : List Call) → Sized (w .state) → inOrder
 pub record AnsweredOne (s : Station) : Type 0 where
   pub opens : (l : ℕ) → opening s l ≡ quiet 1 s []
   pub closes : (l : ℕ) → closing s l ≡ quiet 1 s []
-  pub message : (l clock : ℕ) (own : Own) (m : List ℕ) (out : ℕ) (route : List ℕ) → messageOutcome s l clock own m out route ≡ quiet 1 s route
+  pub message : (l : ℕ) (m : List ℕ) (t : Terms) (route : List ℕ) → messageOutcome s l m t route ≡ quiet 1 s route
   pub asks : (number text : List ℕ) (out : ℕ) (route : List ℕ) → ownOutcome s number text out route ≡ quiet 1 s route
 
 abbrev pub OutOfOrder : Type 0
@@ -94,8 +93,8 @@ RefusedQuietly o s route = (o .answer ≡ 0 → ⊥) → o ≡ quiet (o .answer)
 pub record RefusalsLeave (s : Station) : Type 0 where
   pub opens : (l : ℕ) → RefusedQuietly (opening s l) (λ n. s) []
   pub closes : (l : ℕ) → RefusedQuietly (closing s l) (λ n. s) []
-  pub message : (l clock : ℕ) (own : Own) (m : List ℕ) (out : ℕ) (route : List ℕ)
-      → RefusedQuietly (messageOutcome s l clock own m out route) (λ n. afterRefusal n s l m) route
+  pub message : (l : ℕ) (m : List ℕ) (t : Terms) (route : List ℕ)
+      → RefusedQuietly (messageOutcome s l m t route) (λ n. afterRefusal n s l m) route
   pub asks : (number text : List ℕ) (out : ℕ) (route : List ℕ) → RefusedQuietly (ownOutcome s number text out route) (λ n. s) route
 
 -- RULES 3.6, 3.7: a fresh state over less than 32 bytes is refused by 2, and is handed back all the same, with room 0:
@@ -125,8 +124,8 @@ leftBy l q = record { number = q .number; asker = left l (q .asker) }
 abbrev pub RemembersNewest : Type 0
 RemembersNewest =
     (s : Station) (n : Number) (who : ℕ)
-    → Sized s → s .count ≤ capacity → s .next < capacity
-    → remembered (remember s n who) ≡ take capacity (asked n who ∷ remembered s)
+    → Sized s → s .memory .count ≤ capacity → s .memory .next < capacity
+    → queriesIn capacity (remember capacity (s .memory) n who) ≡ take capacity (asked n who ∷ remembered s)
 
 abbrev pub RemembersLeft : Type 0
 RemembersLeft = (s : Station) (l : ℕ) → Sized s → remembered (closedState s l) ≡ map (leftBy l) (remembered s)

@@ -1,6 +1,7 @@
 -- The rules of the station's calls.
-pub mod Memory
 pub mod Lines
+pub mod Memory
+pub mod State
 pub mod Order
 pub mod Outcomes
 pub mod Queries

@@ -10,7 +10,6 @@ use Rattle.tables.specs.declared.Table.{Table}
 use Rattle.tables.specs.Tables.{Held, noTable, heldIn}
 use Rattle.protocol.specs.declared.Pong.{Pong}
 use Rattle.protocol.specs.declared.Line.{Line}
-use Rattle.protocol.specs.declared.Station.{Station}
 
 abbrev pub lineCount : ℕ
 lineCount = 8
@@ -49,20 +48,20 @@ nowhere = record {
   table = noTable;
 }
 
-abbrev pub lineAt : Station → ℕ → Line
-lineAt s l = getD (s .lines) l nowhere
+-- line k of these
+abbrev pub lineIn : List Line → ℕ → Line
+lineIn lines k = getD lines k nowhere
 
-abbrev pub withLine : Station → ℕ → Line → Station
-withLine s l x =
-    record {
-      room = s .room;
-      lines = set (s .lines) l x;
-      lo = s .lo;
-      hi = s .hi;
-      asker = s .asker;
-      count = s .count;
-      next = s .next;
-    }
+-- eight flags, one a line
+abbrev pub eachLine : (ℕ → Bool) → List Bool
+eachLine f = map f lineNumbers
+
+-- for each of the eight lines whether it is open, and its table
+abbrev pub livesIn : List Line → List Bool
+livesIn lines = eachLine (λ k. lineIn lines k .live)
+
+abbrev pub tablesIn : List Line → List Table
+tablesIn lines = map (λ k. lineIn lines k .table) lineNumbers
 
 -- a line with another table, with another ping time, with one more pong
 abbrev pub withTable : Line → Table → Line
@@ -89,10 +88,15 @@ pingedAt x clock =
       table = x .table;
     }
 
+-- the largest Hops of a stored pong (RULES 4.7); it is another number than a query's usual life
+abbrev pub pongHops : ℕ
+pongHops = 7
+
 -- pongs kept for each line
 abbrev pub pongCapacity : ℕ
 pongCapacity = 10
 
+-- at the ring's next place
 abbrev pub withPong : Line → Pong → Line
 withPong x p =
     record {
@@ -101,7 +105,7 @@ withPong x p =
       pingtime = x .pingtime;
       pongcount = min pongCapacity (x .pongcount + 1);
       pongnext = onward pongCapacity (x .pongnext);
-      pongs = set (x .pongs) (x .pongnext) p;
+      pongs = set (x .pongs) (x .pongnext % pongCapacity) p;
       table = x .table;
     }
 
@@ -113,8 +117,11 @@ storedPongs x = map (λ p. getD (x .pongs) p (record { bytes = []; hops = 0; clo
 abbrev pub partOf : ℕ → ℕ → List ℕ → List ℕ
 partOf room l route = take room (drop (l * room) route)
 
-abbrev pub heldAt : Station → ℕ → List ℕ → Held
-heldAt s l route = heldIn (lineAt s l .table) (partOf (s .room) l route)
+abbrev pub heldBy : Line → ℕ → ℕ → List ℕ → Held
+heldBy x room l route = heldIn (x .table) (partOf room l route)
+
+abbrev pub heldFor : ℕ → List Line → ℕ → List ℕ → Held
+heldFor room lines k route = heldBy (lineIn lines k) room k route
 
 -- elapsed time (RULES 10.1): the difference modulo 2 to the power 32
 abbrev pub elapsed : ℕ → ℕ → ℕ

@@ -1,32 +1,50 @@
 -- The remembered queries: the last 512 (RULES 7.3), as a newest-first list over a ring.
-use Prim.Native.Nat.{ℕ, zero, suc, _+_, min}
+use Prim.Native.Nat.{ℕ, zero, suc, _+_, _%_, min}
 use mathlib.Core.Bool.{Bool, true, false, cond, not, _&&_, _||_}
 use mathlib.Core.List.{List, [], _∷_, map}
-use lib.Dec.{eqb}
+use lib.Dec.{eqb, leb, ltb}
 use lib.ListN.{length, getD, set, take, drop}
-use Rattle.laws.specs.Tests.{any}
+use Rattle.laws.specs.Tests.{any, every, all}
 use Rattle.laws.specs.Bytes.{little}
 use Rattle.laws.specs.Ring.{keptPlaces, onward}
-use Rattle.protocol.specs.declared.Station.{Station}
+use Rattle.protocol.specs.declared.Lookup.{Lookup}
+use Rattle.protocol.specs.Lines.{lineCount}
 
 -- how many are remembered
 abbrev pub capacity : ℕ
 capacity = 512
 
--- askers that are no line: here and gone (RULES 4.4)
+-- askers that are no line: here and gone (RULES 4.4); nobody, where a number is not remembered
 abbrev pub here : ℕ
 here = 8
 
 abbrev pub gone : ℕ
 gone = 9
 
+abbrev pub nobodyAsked : ℕ
+nobodyAsked = 10
+
+-- the ring: the number of each query as two halves, its asker, how many are kept, and the place of the next. The code is lent these
+pub record Memory : Type 0 where
+  pub lo : List ℕ
+  pub hi : List ℕ
+  pub asker : List ℕ
+  pub count : ℕ
+  pub next : ℕ
+
+abbrev pub memoryOf : List ℕ → List ℕ → List ℕ → ℕ → ℕ → Memory
+memoryOf lo hi asker count next = record { lo = lo; hi = hi; asker = asker; count = count; next = next }
+
 -- the number of a query, as two little-endian halves of its 16 bytes
 pub record Number : Type 0 where
   pub lo : ℕ
   pub hi : ℕ
 
+abbrev pub numberFrom : ℕ → ℕ → Number
+numberFrom lo hi = record { lo = lo; hi = hi }
+
 abbrev pub numberIn : List ℕ → Number
-numberIn m = record { lo = little (take 8 m); hi = little (take 8 (drop 8 m)) }
+numberIn m = numberFrom (little (take 8 m)) (little (take 8 (drop 8 m)))
 
 abbrev pub sameNumber : Number → Number → Bool
 sameNumber a b = eqb (a .lo) (b .lo) && eqb (a .hi) (b .hi)
@@ -36,12 +54,12 @@ pub record Query : Type 0 where
   pub number : Number
   pub asker : ℕ
 
-abbrev pub queryAt : Station → ℕ → Query
-queryAt s p = record { number = record { lo = getD (s .lo) p 0; hi = getD (s .hi) p 0 }; asker = getD (s .asker) p 0 }
+abbrev pub queryAt : Memory → ℕ → Query
+queryAt q p = record { number = numberFrom (getD (q .lo) p 0) (getD (q .hi) p 0); asker = getD (q .asker) p 0 }
 
--- the remembered queries, the newest first
-unfoldable pub remembered : Station → List Query
-remembered s = map (queryAt s) (keptPlaces capacity (s .next) (s .count))
+-- the queries of a ring of n places, the newest first
+unfoldable pub queriesIn : ℕ → Memory → List Query
+queriesIn n q = map (queryAt q) (keptPlaces n (q .next) (q .count))
 
 -- looking a number up: how many were remembered after it, and its asker
 pub data Found : Type 0 where
@@ -64,33 +82,61 @@ abbrev pub isFound : Found → Bool
 isFound Absent = false
 isFound (At n a) = true
 
--- who asked; 10, which is nobody, where the number is not remembered
+-- how many were remembered after it
+abbrev pub afterOf : Found → ℕ
+afterOf Absent = 0
+afterOf (At n a) = n
+
+-- who asked
 abbrev pub askerOf : Found → ℕ
-askerOf Absent = 10
+askerOf Absent = nobodyAsked
 askerOf (At n a) = a
 
--- the number is remembered
-abbrev pub seen : Station → Number → Bool
-seen s n = isFound (find (remembered s) n)
+-- as the code hands it on, and the rules read it
+abbrev pub lookupOf : Found → Lookup
+lookupOf f = record { found = isFound f; after = afterOf f; asker = askerOf f }
 
--- one more is remembered; the oldest of `capacity` makes way
-unfoldable pub remember : Station → Number → ℕ → Station
-remember s n who =
+-- one more is remembered, at the ring's next place; the oldest of n makes way
+unfoldable pub remember : ℕ → Memory → Number → ℕ → Memory
+remember n q x who =
     record {
-      room = s .room;
-      lines = s .lines;
-      lo = set (s .lo) (s .next) (n .lo);
-      hi = set (s .hi) (s .next) (n .hi);
-      asker = set (s .asker) (s .next) who;
-      count = min capacity (s .count + 1);
-      next = onward capacity (s .next);
+      lo = set (q .lo) (q .next % n) (x .lo);
+      hi = set (q .hi) (q .next % n) (x .hi);
+      asker = set (q .asker) (q .next % n) who;
+      count = min n (q .count + 1);
+      next = onward n (q .next);
     }
+
+abbrev pub pickMemory : Bool → Memory → Memory → Memory
+pickMemory true a b = a
+pickMemory false a b = b
+
+-- the ring after a call that took the query x, or did not
+abbrev pub rememberIf : Bool → ℕ → Memory → Number → ℕ → Memory
+rememberIf taken n q x who = pickMemory taken (remember n q x who) q
 
 -- no number stands twice
 unfoldable pub noTwice : List Query → Bool
 noTwice [] = true
 noTwice (q ∷ qs) = not (any (λ p. sameNumber (p .number) (q .number)) qs) && noTwice qs
 
--- the asker after line l has closed
+-- an asker is an open line, here or gone; `live` says which lines are open
+abbrev pub askerFits : (ℕ → Bool) → ℕ → Bool
+askerFits live a = (ltb a lineCount && live a) || (eqb a here || eqb a gone)
+
+-- the ring is in order, clause by clause (RULES 4.1 to 4.4)
+unfoldable pub memoryInOrder : ℕ → (ℕ → Bool) → Memory → Bool
+memoryInOrder n live q =
+    every
+    (leb (q .count) n
+    ∷ ltb (q .next) n
+    ∷ noTwice (queriesIn n q)
+    ∷ all (λ x. askerFits live (x .asker)) (queriesIn n q)
+    ∷ [])
+
+-- the asker after line l has closed, and the ring then
 abbrev pub left : ℕ → ℕ → ℕ
 left l a = cond (eqb a l) gone a
+
+abbrev pub leftAll : ℕ → Memory → Memory
+leftAll l q = record { lo = q .lo; hi = q .hi; asker = map (left l) (q .asker); count = q .count; next = q .next }

@@ -7,9 +7,8 @@ use mathlib.Core.Bool.{Bool, true, false, cond, not}
 use mathlib.Core.Logic.{_↔_, _⊎_}
 use mathlib.Core.List.{List, map}
 use lib.Dec.{eqb}
-use Rattle.protocol.specs.declared.Station.{Station}
-use Rattle.protocol.specs.Memory.{gone, Query, remembered}
-use Rattle.protocol.specs.Lines.{lineAt}
+use Rattle.protocol.specs.State.{Station, remembered, lineAt}
+use Rattle.protocol.specs.Memory.{gone, Query}
 use Rattle.protocol.specs.Outcomes.{Outcome}
 use Rattle.protocol.specs.Frames.{Bare, Beside, Silent}
 

@@ -1,20 +1,31 @@
 -- What a call leaves, and the constructors by which every outcome is made.
 use Prim.Native.Nat.{ℕ, _+_}
-use mathlib.Core.Bool.{Bool, true, false, cond, not, _&&_}
-use mathlib.Core.List.{List, [], _∷_, map}
+use mathlib.Core.Bool.{Bool, true, false, cond, _&&_}
+use mathlib.Core.List.{List, []}
 use lib.Dec.{eqb, leb}
 use lib.ListN.{length}
 use Rattle.laws.specs.Tests.{any}
 use Rattle.wire.specs.Header.{sizeOf}
-use Rattle.protocol.specs.declared.Station.{Station}
-use Rattle.protocol.specs.declared.Handled.{Handled}
-use Rattle.protocol.specs.Lines.{lineNumbers}
+use Rattle.protocol.specs.declared.Own.{Own}
+use Rattle.protocol.specs.declared.Report.{Report}
+use Rattle.protocol.specs.Lines.{eachLine}
+use Rattle.protocol.specs.Memory.{Number}
+use Rattle.protocol.specs.State.{Station, Change, stateAfter}
 
--- the answer, the state after the call, the lines sent to, the bytes written at the front of the output area, the route area after the
--- call, the text offered to the local search (its place and length in the message), and whether a hit is delivered here
-pub record Outcome : Type 0 where
+-- what a message or an own query brings besides: the caller's clock, what this station says of itself, and the length of the output area
+pub record Terms : Type 0 where
+  pub clock : ℕ
+  pub own : Own
+  pub out : ℕ
+
+abbrev pub termsOf : ℕ → Own → ℕ → Terms
+termsOf clock own out = record { clock = clock; own = own; out = out }
+
+-- the answer, what is left of the state, the lines sent to, the bytes written at the front of the output area, the route area after the call, the
+-- text offered to the local search (its place and length in the message), and whether a hit is delivered here
+pub record Result (S : Type 0) : Type 0 where
   pub answer : ℕ
-  pub state : Station
+  pub state : S
   pub to : List Bool
   pub sent : List ℕ
   pub route : List ℕ
@@ -23,9 +34,12 @@ pub record Outcome : Type 0 where
   pub textlen : ℕ
   pub delivered : Bool
 
--- eight flags, one a line
-abbrev pub eachLine : (ℕ → Bool) → List Bool
-eachLine f = map f lineNumbers
+-- a call leaves a whole state; what a message does by its type leaves a change of it
+abbrev pub Outcome : Type 0
+Outcome = Result Station
+
+abbrev pub Step : Type 0
+Step = Result Change
 
 abbrev pub nobody : List Bool
 nobody = eachLine (λ k. false)
@@ -33,52 +47,116 @@ nobody = eachLine (λ k. false)
 abbrev pub onlyTo : ℕ → List Bool
 onlyTo l = eachLine (eqb l)
 
--- answered n, and nothing is sent, searched or delivered
-abbrev pub quiet : ℕ → Station → List ℕ → Outcome
-quiet n s route =
-    record {
-      answer = n;
-      state = s;
-      to = nobody;
-      sent = [];
-      route = route;
-      search = false;
-      textat = 0;
-      textlen = 0;
-      delivered = false;
-    }
-
 -- RULES 7.6: written once for however many lines, and not where there is none
 abbrev pub writtenFor : List Bool → List ℕ → List ℕ
 writtenFor to bytes = cond (any (λ b. b) to) bytes []
 
-abbrev pub pickOutcome : Bool → Outcome → Outcome → Outcome
-pickOutcome true a b = a
-pickOutcome false a b = b
+module _ {S : Type 0} where
+  -- answered n, and nothing is sent, searched or delivered
+  abbrev pub quiet : ℕ → S → List ℕ → Result S
+  quiet n s route =
+      record {
+        answer = n;
+        state = s;
+        to = nobody;
+        sent = [];
+        route = route;
+        search = false;
+        textat = 0;
+        textlen = 0;
+        delivered = false;
+      }
 
--- refused by n, which leaves what stands, or else what follows
-abbrev pub refusedOr : ℕ → Station → List ℕ → Outcome → Outcome
-refusedOr n s route o = pickOutcome (eqb n 0) o (quiet n s route)
+  -- the same, and these bytes are sent to these lines
+  abbrev pub sends : List Bool → List ℕ → Result S → Result S
+  sends to bytes r =
+      record {
+        answer = r .answer;
+        state = r .state;
+        to = to;
+        sent = bytes;
+        route = r .route;
+        search = r .search;
+        textat = r .textat;
+        textlen = r .textlen;
+        delivered = r .delivered;
+      }
 
--- the answers of which nothing is consumed, and which demand 3 counts as unsent: 1 to 5
-abbrev pub unsent : ℕ → Bool
-unsent n = leb 1 n && leb n 5
+  -- the same, and the text at this place of the message is offered to the local search
+  abbrev pub searches : ℕ → ℕ → Result S → Result S
+  searches at n r =
+      record {
+        answer = r .answer;
+        state = r .state;
+        to = r .to;
+        sent = r .sent;
+        route = r .route;
+        search = true;
+        textat = at;
+        textlen = n;
+        delivered = r .delivered;
+      }
+
+  -- the same, and whether the hit is delivered here
+  abbrev pub delivers : Bool → Result S → Result S
+  delivers b r =
+      record {
+        answer = r .answer;
+        state = r .state;
+        to = r .to;
+        sent = r .sent;
+        route = r .route;
+        search = r .search;
+        textat = r .textat;
+        textlen = r .textlen;
+        delivered = b;
+      }
+
+  abbrev pub pickResult : Bool → Result S → Result S → Result S
+  pickResult true a b = a
+  pickResult false a b = b
+
+  -- refused by n, which leaves what stands, or else what follows
+  abbrev pub refusedOr : ℕ → S → List ℕ → Result S → Result S
+  refusedOr n s route r = pickResult (eqb n 0) r (quiet n s route)
+
+  -- the same with another state
+  abbrev pub leaving : {T : Type 0} → T → Result S → Result T
+  leaving t r =
+      record {
+        answer = r .answer;
+        state = t;
+        to = r .to;
+        sent = r .sent;
+        route = r .route;
+        search = r .search;
+        textat = r .textat;
+        textlen = r .textlen;
+        delivered = r .delivered;
+      }
+
+  -- as a caller is told it, with the bytes used; the output and route areas are handed back in place
+  abbrev pub reportOf : Result S → ℕ → Report
+  reportOf r used =
+      record {
+        answer = r .answer;
+        used = used;
+        written = length (r .sent);
+        to = r .to;
+        search = r .search;
+        delivered = r .delivered;
+        textat = r .textat;
+        textlen = r .textlen;
+      }
+
+-- what a message with this number by line l does, stored
+abbrev pub stored : Station → ℕ → Number → Step → Outcome
+stored s l x r = leaving (stateAfter s l x (r .state)) r
+
+-- the answers of which nothing is consumed: 1 to 5
+abbrev pub unused : ℕ → Bool
+unused n = leb 1 n && leb n 5
 
 -- bytes used of a message
 abbrev pub usedOf : ℕ → List ℕ → ℕ
-usedOf n m = cond (unsent n) 0 (23 + sizeOf m)
-
--- an outcome as the code hands it back; the output and route areas are handed back in place
-abbrev pub handled : Outcome → ℕ → Handled
-handled o used =
-    record {
-      state = o .state;
-      answer = o .answer;
-      used = used;
-      written = length (o .sent);
-      to = o .to;
-      search = o .search;
-      delivered = o .delivered;
-      textat = o .textat;
-      textlen = o .textlen;
-    }
+usedOf n m = cond (unused n) 0 (23 + sizeOf m)

@@ -7,11 +7,10 @@ use mathlib.Core.Logic.{_↔_}
 use mathlib.Core.List.{List}
 use lib.ListN.{length, getD}
 use Rattle.wire.specs.Header.{kindOf, payloadOf}
-use Rattle.protocol.specs.declared.Station.{Station}
-use Rattle.protocol.specs.declared.Own.{Own}
-use Rattle.protocol.specs.Lines.{lineAt}
+use Rattle.protocol.specs.State.{Station, lineAt}
 use Rattle.protocol.specs.Order.{inOrder}
-use Rattle.protocol.specs.Queries.{textIn}
+use Rattle.protocol.specs.Queries.{usualLimit, textIn}
+use Rattle.protocol.specs.Outcomes.{Terms}
 use Rattle.protocol.specs.Calls.{messageOutcome, ownOutcome}
 use Rattle.protocol.specs.Runs.{Call, World, run, start, Fair}
 use Rattle.protocol.specs.History.{updatesOf, speaks}
@@ -29,16 +28,16 @@ abbrev pub WithheldNow : World → ℕ → List ℕ → ℕ → Type 0
 WithheldNow w L text ttl = (speaks (updatesOf L (w .log)) ≡ true) × StoppedNow w L text ttl
 
 -- an arriving query answered 0 goes on to line L, an own query does
-pub record Forwards (w : World) (L : ℕ) : Type 0 where
-  pub message : (l clock : ℕ) (own : Own) (m : List ℕ) (out : ℕ)
-      → messageOutcome (w .state) l clock own m out (w .area) .answer ≡ 0
+pub record Forwards (limit : ℕ) (w : World) (L : ℕ) : Type 0 where
+  pub message : (l : ℕ) (m : List ℕ) (t : Terms)
+      → messageOutcome (w .state) l m t (w .area) .answer ≡ 0
       → kindOf m ≡ 0x80
-      → (getD (messageOutcome (w .state) l clock own m out (w .area) .to) L false ≡ true)
-      ↔ ((lineAt (w .state) L .live ≡ true) × (L ≡ l → ⊥) × (2 ≤ lifeLeft m) × (WithheldNow w L (textIn (payloadOf m)) (lifeLeft m - 1) → ⊥))
+      → (getD (messageOutcome (w .state) l m t (w .area) .to) L false ≡ true)
+      ↔ ((lineAt (w .state) L .live ≡ true) × (L ≡ l → ⊥) × (2 ≤ lifeLeft limit m) × (WithheldNow w L (textIn (payloadOf m)) (lifeLeft limit m - 1) → ⊥))
   pub asks : (number text : List ℕ) (out : ℕ)
       → ownOutcome (w .state) number text out (w .area) .answer ≡ 0
       → (getD (ownOutcome (w .state) number text out (w .area) .to) L false ≡ true)
-      ↔ ((lineAt (w .state) L .live ≡ true) × (WithheldNow w L text 7 → ⊥))
+      ↔ ((lineAt (w .state) L .live ≡ true) × (WithheldNow w L text limit → ⊥))
 
 -- after every list of calls, from any state in order with the line closed
 abbrev pub QuietPeriods : Type 0
@@ -49,4 +48,4 @@ QuietPeriods =
     → L ≤ 7
     → lineAt s L .live ≡ false
     → Fair (s .room) cs
-    → Forwards (run (start s area) cs) L
+    → Forwards usualLimit (run (start s area) cs) L

@@ -7,10 +7,9 @@ use mathlib.Core.List.{List, [], _∷_, _++_}
 use lib.ListN.{length, getD, take}
 use Rattle.laws.specs.Bytes.{littleBytes}
 use Rattle.wire.specs.Header.{kindOf, ttlOf, hopsOf, sizeOf, payloadOf, numberOf, message}
-use Rattle.protocol.specs.declared.Station.{Station}
+use Rattle.protocol.specs.State.{Station, remembered, lineAt}
 use Rattle.protocol.specs.declared.Own.{Own}
-use Rattle.protocol.specs.Memory.{remembered}
-use Rattle.protocol.specs.Lines.{lineAt, storedPongs, elapsed}
+use Rattle.protocol.specs.Lines.{storedPongs, elapsed}
 use Rattle.protocol.specs.Outcomes.{Outcome}
 use Rattle.protocol.specs.Arrived.{Arrived}
 use Rattle.protocol.specs.Frames.{Beside, Silent}
@@ -79,7 +78,7 @@ pub record PongRouted (s : Station) (l clock : ℕ) (m : List ℕ) (o : Outcome)
   pub silent : Silent o
 
 -- a message of either type; the own address has four bytes by its type, [u8; 4]
-pub record PingsRouted (s : Station) (l clock : ℕ) (own : Own) (m : List ℕ) (out : ℕ) (route : List ℕ) (o : Outcome) : Type 0 where
+pub record PingsRouted (s : Station) (l : ℕ) (m : List ℕ) (t : Terms) (route : List ℕ) (o : Outcome) : Type 0 where
   pub ping : kindOf m ≡ 0x00 → Arrived s l m out route → PingRouted s l clock own m o
   pub noHit : kindOf m ≡ 0x00 → length (own .address) ≡ 4 → NoHit 0x01 o
   pub pong : kindOf m ≡ 0x01 → Arrived s l m out route → PongRouted s l clock m o

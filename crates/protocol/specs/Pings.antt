@@ -1,35 +1,30 @@
--- Pings and pongs (RULES 10).
-use Prim.Native.Nat.{ℕ, zero, suc, _+_, _-_, max}
+-- Pings and pongs (RULES 10), over what the rules read.
+use Prim.Native.Nat.{ℕ, zero, suc, _+_, _-_, min, max}
 use mathlib.Core.Bool.{Bool, true, false, cond, not, _&&_, _||_}
 use mathlib.Core.List.{List, [], _∷_, _++_, map}
 use lib.Dec.{eqb, leb, ltb}
 use lib.ListN.{length, take, drop}
 use Rattle.laws.specs.Tests.{firstOf}
 use Rattle.laws.specs.Bytes.{littleBytes}
-use Rattle.wire.specs.Header.{ttlOf, hopsOf, sizeOf, payloadOf, numberOf, message}
+use Rattle.wire.specs.declared.Header.{Header}
+use Rattle.wire.specs.Header.{headerIn, payloadOf, numberOf, message, pongType}
 use Rattle.protocol.specs.declared.Pong.{Pong}
 use Rattle.protocol.specs.declared.Line.{Line}
-use Rattle.protocol.specs.declared.Station.{Station}
 use Rattle.protocol.specs.declared.Own.{Own}
-use Rattle.protocol.specs.Lines.{lineNumbers, isOther, lineAt, withLine, pingedAt, withPong, storedPongs, elapsed}
-use Rattle.protocol.specs.Outcomes.{Outcome, quiet, nobody, onlyTo, refusedOr}
-
-abbrev pub pingType : ℕ
-pingType = 0x00
-
-abbrev pub pongType : ℕ
-pongType = 0x01
+use Rattle.protocol.specs.Lines.{lineNumbers, isOther, lineIn, pingedAt, withPong, pongHops, storedPongs, elapsed}
+use Rattle.protocol.specs.State.{Change}
+use Rattle.protocol.specs.Outcomes.{Terms, Step, quiet, sends, nobody, onlyTo, refusedOr}
 
 -- TTL 1 with Hops 0 or 1 asks this station alone
-abbrev pub isProbe : List ℕ → Bool
-isProbe m = eqb (ttlOf m) 1 && leb (hopsOf m) 1
+abbrev pub isProbe : Header → Bool
+isProbe h = eqb (h .ttl) 1 && leb (h .hops) 1
 
 -- too soon after the last accepted ping of the line
 abbrev pub tooSoon : Line → ℕ → Bool
 tooSoon x clock = x .pinged && ltb (elapsed clock (x .pingtime)) 1000
 
-abbrev pub pingRules : Line → ℕ → List ℕ → List (Bool × ℕ)
-pingRules x clock m = (eqb (ttlOf m) 0, 8) ∷ (not (isProbe m) && tooSoon x clock, 13) ∷ []
+abbrev pub pingRules : Line → ℕ → Header → List (Bool × ℕ)
+pingRules x clock h = (eqb (h .ttl) 0, 8) ∷ (not (isProbe h) && tooSoon x clock, 13) ∷ []
 
 -- the pong at this rank of a newest-first list, if there is one
 abbrev pub ranked : ℕ → List Pong → List Pong
@@ -47,59 +42,75 @@ module _ {A : Type 0} where
   flat (x ∷ xs) = x ++ flat xs
 
 -- RULES 10.5: by rank, the newest first, and in each rank by line, the ping's own left out
-unfoldable pub walk : Station → ℕ → List Pong
-walk s l = flat (map (λ r. flat (map (λ k. ranked r (storedPongs (lineAt s k))) (keepIf (isOther l) lineNumbers))) (0 ∷ 1 ∷ 2 ∷ 3 ∷ 4 ∷ 5 ∷ 6 ∷ 7 ∷ 8 ∷ 9 ∷ []))
+unfoldable pub walk : List Line → ℕ → List Pong
+walk lines l =
+    flat
+    (map (λ r. flat (map (λ k. ranked r (storedPongs (lineIn lines k))) (keepIf (isOther l) lineNumbers)))
+    (0 ∷ 1 ∷ 2 ∷ 3 ∷ 4 ∷ 5 ∷ 6 ∷ 7 ∷ 8 ∷ 9 ∷ []))
 
 -- an age of 15,000 ms or more is too old
 abbrev pub isFresh : ℕ → Pong → Bool
 isFresh clock p = ltb (elapsed clock (p .clock)) 15000
 
 -- up to ten stored pongs
-abbrev pub storedSent : Station → ℕ → ℕ → List Pong
-storedSent s l clock = take 10 (keepIf (isFresh clock) (walk s l))
+abbrev pub storedSent : List Line → ℕ → ℕ → List Pong
+storedSent lines l clock = take 10 (keepIf (isFresh clock) (walk lines l))
 
 -- RULES 10.6: the ping's number; as TTL the ping's Hops, or 1 where those are 0; Hops as told
-abbrev pub pongBytes : List ℕ → ℕ → List ℕ → List ℕ
-pongBytes m hops payload = message (numberOf m) pongType (max 1 (hopsOf m)) hops payload
+abbrev pub pongBytes : List ℕ → ℕ → ℕ → List ℕ → List ℕ
+pongBytes number pingHops hops payload = message number pongType (max 1 pingHops) hops payload
+
+-- stored Hops plus 1; Hops of 255, which no state in order stores, stay
+abbrev pub oneHopMore : ℕ → ℕ
+oneHopMore hops = min 255 (hops + 1)
+
+abbrev pub storedBytes : List ℕ → ℕ → List Pong → List ℕ
+storedBytes number pingHops ps = flat (map (λ p. pongBytes number pingHops (oneHopMore (p .hops)) (p .bytes)) ps)
 
 abbrev pub ownPong : Own → List ℕ
 ownPong own = littleBytes 2 (own .port) ++ (own .address ++ (littleBytes 4 (own .files) ++ littleBytes 4 (own .kilobytes)))
 
-abbrev pub ownSent : Own → List ℕ → List ℕ
-ownSent own m = cond (isProbe m || own .calls) (pongBytes m 0 (ownPong own)) []
+-- the own pong: to a probe always, else where the station takes calls
+abbrev pub ownSent : Own → List ℕ → ℕ → Bool → List ℕ
+ownSent own number pingHops probe = cond (probe || own .calls) (pongBytes number pingHops 0 (ownPong own)) []
 
-abbrev pub pongsSent : Station → ℕ → ℕ → Own → List ℕ → List ℕ
-pongsSent s l clock own m =
-    ownSent own m ++ cond (isProbe m) [] (flat (map (λ p. pongBytes m (p .hops + 1) (p .bytes)) (storedSent s l clock)))
+-- the own pong, and then, but for a probe, the stored ones
+unfoldable pub pongsSent : List Line → ℕ → ℕ → Own → List ℕ → ℕ → Bool → List ℕ
+pongsSent lines l clock own number pingHops probe =
+    ownSent own number pingHops probe ++ cond probe [] (storedBytes number pingHops (storedSent lines l clock))
 
--- the time is kept, but for a probe
-abbrev pub afterPing : Station → ℕ → ℕ → List ℕ → Station
-afterPing s l clock m = withLine s l (cond (isProbe m) (lineAt s l) (pingedAt (lineAt s l) clock))
+-- the pongs that go back for a ping
+abbrev pub pongsBack : List Line → ℕ → Terms → List ℕ → List ℕ
+pongsBack lines l t m = pongsSent lines l (t .clock) (t .own) (numberOf m) (headerIn m .hops) (isProbe (headerIn m))
 
-abbrev pub pingTaken : Station → ℕ → ℕ → Own → List ℕ → List ℕ → Outcome
-pingTaken s l clock own m route =
-    record {
-      answer = 0;
-      state = afterPing s l clock m;
-      to = cond (eqb (length (pongsSent s l clock own m)) 0) nobody (onlyTo l);
-      sent = pongsSent s l clock own m;
-      route = route;
-      search = false;
-      textat = 0;
-      textlen = 0;
-      delivered = false;
-    }
+-- the line after an accepted ping: a probe's time is not kept
+abbrev pub timeKept : Line → Bool → ℕ → Line
+timeKept x probe clock = cond probe x (pingedAt x clock)
 
-unfoldable pub pingOutcome : Station → ℕ → ℕ → Own → List ℕ → List ℕ → Outcome
-pingOutcome s l clock own m route = refusedOr (firstOf (pingRules (lineAt s l) clock m)) s route (pingTaken s l clock own m route)
+-- pongs go back to the ping's line, if any are written
+abbrev pub backTo : ℕ → ℕ → List Bool
+backTo written l = cond (eqb written 0) nobody (onlyTo l)
+
+abbrev pub pingTaken : List Line → ℕ → Terms → List ℕ → List ℕ → Step
+pingTaken lines l t m route =
+    sends (backTo (length (pongsBack lines l t m)) l) (pongsBack lines l t m)
+    (quiet 0 (record { line = timeKept (lineIn lines l) (isProbe (headerIn m)) (t .clock); taken = false }) route)
+
+-- a ping by line l
+unfoldable pub pingStep : List Line → ℕ → Terms → List ℕ → List ℕ → Step
+pingStep lines l t m route =
+    refusedOr (firstOf (pingRules (lineIn lines l) (t .clock) (headerIn m))) (record { line = lineIn lines l; taken = false }) route
+    (pingTaken lines l t m route)
 
 -- an arriving pong: its first 14 bytes are stored; the eleventh takes the oldest's place
-abbrev pub pongRules : List ℕ → List (Bool × ℕ)
-pongRules m = (ltb (sizeOf m) 14, 6) ∷ (eqb (ttlOf m) 0 || ltb 7 (hopsOf m), 8) ∷ []
+abbrev pub pongRules : Header → List (Bool × ℕ)
+pongRules h = (ltb (h .size) 14, 6) ∷ (eqb (h .ttl) 0 || ltb pongHops (h .hops), 8) ∷ []
 
 abbrev pub arrivedPong : ℕ → List ℕ → Pong
-arrivedPong clock m = record { bytes = take 14 (payloadOf m); hops = hopsOf m; clock = clock }
+arrivedPong clock m = record { bytes = take 14 (payloadOf m); hops = headerIn m .hops; clock = clock }
 
-unfoldable pub pongOutcome : Station → ℕ → ℕ → List ℕ → List ℕ → Outcome
-pongOutcome s l clock m route =
-    refusedOr (firstOf (pongRules m)) s route (quiet 0 (withLine s l (withPong (lineAt s l) (arrivedPong clock m))) route)
+-- a pong by a line with this record
+unfoldable pub pongStep : Line → ℕ → List ℕ → List ℕ → Step
+pongStep x clock m route =
+    refusedOr (firstOf (pongRules (headerIn m))) (record { line = x; taken = false }) route
+    (quiet 0 (record { line = withPong x (arrivedPong clock m); taken = false }) route)

@@ -7,8 +7,8 @@ use mathlib.Core.List.{List, [], _∷_, _++_}
 use lib.ListN.{length, getD}
 use Rattle.wire.specs.Header.{hopsOf, numberOf, message}
 use Rattle.protocol.specs.declared.Pong.{Pong}
-use Rattle.protocol.specs.declared.Station.{Station}
-use Rattle.protocol.specs.Lines.{noPong, lineAt, storedPongs, elapsed}
+use Rattle.protocol.specs.State.{Station, lineAt}
+use Rattle.protocol.specs.Lines.{noPong, storedPongs, elapsed}
 
 -- a place among the stored pongs: a line, and the rank of a pong on it, 0 for the newest
 pub record Place : Type 0 where

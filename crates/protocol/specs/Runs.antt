@@ -1,11 +1,11 @@
 -- Lists of calls, and what they leave: the state, the route area, and the log of calls with their outcomes, the newest first.
 use Prim.Native.Nat.{ℕ, _/_}
 use mathlib.Core.Path.{_≡_}
+use mathlib.Core.Bool.{Bool}
 use mathlib.Core.List.{List, [], _∷_}
 use lib.ListN.{length}
-use Rattle.protocol.specs.declared.Station.{Station}
-use Rattle.protocol.specs.declared.Own.{Own}
-use Rattle.protocol.specs.Outcomes.{Outcome}
+use Rattle.protocol.specs.State.{Station}
+use Rattle.protocol.specs.Outcomes.{Terms, Outcome, unused}
 use Rattle.protocol.specs.Calls.{opening, closing, messageOutcome, ownOutcome}
 
 -- the route area lent to a call: the one that the last call with it left, or another
@@ -13,12 +13,16 @@ pub data Area : Type 0 where
   Same : Area
   Other : List ℕ → Area
 
--- a call with all that it brings; `out` is the length of the output area
+-- a call with all that it brings
 pub data Call : Type 0 where
   Open : (line : ℕ) → Call
   Close : (line : ℕ) → Call
-  Message : (line clock : ℕ) (own : Own) (m : List ℕ) (out : ℕ) (area : Area) → Call
-  Ask : (number text : List ℕ) (out : ℕ) (area : Area) → Call
+  Message : (line : ℕ) (m : List ℕ) (terms : Terms) (area : Area) → Call
+  Ask : (number text : List ℕ) (terms : Terms) (area : Area) → Call
+
+-- demand 3 counts a call as unsent that is so answered: 1 to 5, whatever it brought
+abbrev pub unsent : Call → ℕ → Bool
+unsent c n = unused n
 
 -- a call that was made, and its outcome
 pub record Made : Type 0 where
@@ -42,15 +46,15 @@ keptArea (Other a) r r′ = r
 abbrev pub outcomeOf : World → Call → Outcome
 outcomeOf w (Open l) = opening (w .state) l
 outcomeOf w (Close l) = closing (w .state) l
-outcomeOf w (Message l clock own m out a) = messageOutcome (w .state) l clock own m out (lent a (w .area))
-outcomeOf w (Ask n text out a) = ownOutcome (w .state) n text out (lent a (w .area))
+outcomeOf w (Message l m t a) = messageOutcome (w .state) l m t (lent a (w .area))
+outcomeOf w (Ask n text t a) = ownOutcome (w .state) n text (t .out) (lent a (w .area))
 
 -- opening and closing take no area
 abbrev pub areaAfter : Call → List ℕ → List ℕ → List ℕ
 areaAfter (Open l) r r′ = r
 areaAfter (Close l) r r′ = r
-areaAfter (Message l clock own m out a) r r′ = keptArea a r r′
-areaAfter (Ask n text out a) r r′ = keptArea a r r′
+areaAfter (Message l m t a) r r′ = keptArea a r r′
+areaAfter (Ask n text t a) r r′ = keptArea a r r′
 
 abbrev pub step : World → Call → World
 step w c =
@@ -75,8 +79,8 @@ FairArea room (Other a) = length a / 8 ≡ room → ⊥
 abbrev pub FairCall : ℕ → Call → Type 0
 FairCall room (Open l) = Unit {0}
 FairCall room (Close l) = Unit {0}
-FairCall room (Message l clock own m out a) = FairArea room a
-FairCall room (Ask n text out a) = FairArea room a
+FairCall room (Message l m t a) = FairArea room a
+FairCall room (Ask n text t a) = FairArea room a
 
 abbrev pub Fair : ℕ → List Call → Type 0
 Fair room [] = Unit {0}

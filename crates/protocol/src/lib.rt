@@ -1,6 +1,24 @@
-// Floor 3: the station's state and what its calls bring and hand back. The rules of the calls are the definitions of specs/; the history
-// theorems about them are in proofs/. The code that meets them is crate station.
+// Floor 3: what a station's state is made of, and what its calls bring and hand back. The rules of the calls are the definitions of specs/; the
+// history theorems about them are in proofs/. The code that meets them is crate station.
+pub mod lines;
+
 use tables::Table;
+
+// Lines of a station, and queries that it remembers.
+pub const LINES: u32 = 8;
+
+pub const CAPACITY: usize = 512;
+
+// The askers of a remembered query that are no line: this station, a line that has closed since, and nobody, for a number that is not
+// remembered.
+pub const HERE: u8 = 8;
+
+pub const GONE: u8 = 9;
+
+pub const NOBODY: u8 = 10;
+
+// The usual life of a query.
+pub const LIMIT: u8 = 7;
 
 // A stored pong: its first 14 bytes, its Hops, and the clock of the call that brought it.
 #[repr(C)]
@@ -23,19 +41,6 @@ pub struct Line {
     pub table: Table,
 }
 
-// The state: the room for each neighbour's table, the eight lines, and the ring of remembered queries. The number of a query is two
-// little-endian halves; its asker is a line, 8 for this station, or 9 for a line that has closed since.
-#[repr(C)]
-pub struct Station {
-    pub room: usize,
-    pub lines: [Line; 8],
-    pub lo: [u64; 512],
-    pub hi: [u64; 512],
-    pub asker: [u8; 512],
-    pub count: usize,
-    pub next: usize,
-}
-
 // What this station says of itself in a pong, and whether it takes calls.
 #[repr(C)]
 pub struct Own {
@@ -46,12 +51,19 @@ pub struct Own {
     pub calls: bool,
 }
 
-// What a call hands back: the state after it, the answer, the bytes it used of the message and wrote to the output area, the lines to
+// What a look-up of a number finds among the remembered queries: whether it is there, how many were remembered after it, and who asked.
+#[repr(C)]
+pub struct Lookup {
+    pub found: bool,
+    pub after: usize,
+    pub asker: u8,
+}
+
+// What a caller is told of a message or an own query: the answer, the bytes it used of the message and wrote to the output area, the lines to
 // send those to, whether a query is offered to the local search (with its text's place and length in the message), and whether a hit is
 // delivered here.
 #[repr(C)]
-pub struct Handled {
-    pub state: Station,
+pub struct Report {
     pub answer: u8,
     pub used: usize,
     pub written: usize,
@@ -60,11 +72,4 @@ pub struct Handled {
     pub delivered: bool,
     pub textat: usize,
     pub textlen: usize,
-}
-
-// What opening, closing and a fresh state hand back.
-#[repr(C)]
-pub struct Changed {
-    pub state: Station,
-    pub answer: u8,
 }

@@ -6,6 +6,7 @@ use lib.Dec.{leb}
 use lib.ListN.{length, getD, take, drop}
 use Rattle.laws.specs.Bytes.{little, littleBytes}
 use Rattle.laws.specs.Parts.{over}
+use Rattle.wire.specs.declared.Header.{Header}
 
 -- read off a message
 abbrev pub numberOf : List ℕ → List ℕ
@@ -26,9 +27,43 @@ sizeOf m = little (take 4 (drop 19 m))
 abbrev pub payloadOf : List ℕ → List ℕ
 payloadOf m = take (sizeOf m) (drop 23 m)
 
+-- the header as it is read: the number as two little-endian halves, and the rest
+abbrev pub headerIn : List ℕ → Header
+headerIn m =
+    record {
+      lo = little (take 8 m);
+      hi = little (take 8 (drop 8 m));
+      kind = kindOf m;
+      ttl = ttlOf m;
+      hops = hopsOf m;
+      size = sizeOf m;
+    }
+
+-- sizes: a header, the largest payload, and the two together
+abbrev pub headerSize : ℕ
+headerSize = 23
+
+abbrev pub largestPayload : ℕ
+largestPayload = 4096
+
+abbrev pub largestMessage : ℕ
+largestMessage = 4119
+
 -- the types of messages
+abbrev pub pingType : ℕ
+pingType = 0x00
+
+abbrev pub pongType : ℕ
+pongType = 0x01
+
 abbrev pub routeUpdate : ℕ
 routeUpdate = 0x30
+
+abbrev pub queryType : ℕ
+queryType = 0x80
+
+abbrev pub hitType : ℕ
+hitType = 0x81
 
 -- written: the header of a payload of n bytes, and a whole message
 abbrev pub header : List ℕ → ℕ → ℕ → ℕ → ℕ → List ℕ

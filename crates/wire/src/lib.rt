@@ -6,6 +6,17 @@ ghost use Rattle.laws.specs.Bytes.{little, littleBytes};
 ghost use Rattle.laws.specs.Parts.{over};
 ghost use Rattle.wire.specs.Header.{withHeader};
 
+// A message's header: its number as two little-endian halves, type, TTL, Hops, and the length of the payload.
+#[repr(C)]
+pub struct Header {
+    pub lo: u64,
+    pub hi: u64,
+    pub kind: u8,
+    pub ttl: u8,
+    pub hops: u8,
+    pub size: u32,
+}
+
 // The byte at place i as a number, and 0 past the end.
 fn number_at(b: &[u8], i: usize) -> u8
     ensures { λ r. ⌜ r ≡ getD (now (b .entry)) i 0 ⌝ }
