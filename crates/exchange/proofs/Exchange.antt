@@ -117,8 +117,8 @@ module _ (s : Station) (L : ℕ) (area : List ℕ) (w : Listening s L area) wher
         mark = q .mark;
         long = q .long;
         limit = q .limit;
-        place = eqb-true (t .place) 1 (and-fst (eqb (t .place) 1) (eqb (t .at) 0) r);
-        at = eqb-true (t .at) 0 (and-snd (eqb (t .place) 1) (eqb (t .at) 0) r);
+        place = eqb-true (t .nextplace) 1 (and-fst (eqb (t .nextplace) 1) (eqb (t .nextentry) 0) r);
+        at = eqb-true (t .nextentry) 0 (and-snd (eqb (t .nextplace) 1) (eqb (t .nextentry) 0) r);
         entries = q .entries;
       }
 

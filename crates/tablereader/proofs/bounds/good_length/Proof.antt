@@ -2,8 +2,8 @@ use mathlib.Core.List.{[], _∷_}
 use mathlib.Core.Path.{sym}
 use Rattle.tables.specs.Tables.{goodLength}
 use Rattle.tables.proofs.TestLaws.{among-any, among-none}
-use Rattle.tablereader.proofs.fields.good_length.Statement.{statement}
-use Rattle.tablereader.proofs.fields.good_length.Tie as tie
+use Rattle.tablereader.proofs.bounds.good_length.Statement.{statement}
+use Rattle.tablereader.proofs.bounds.good_length.Tie as tie
 
 returns : tie.Need-returns
 unfolding goodLength

@@ -1,6 +1,6 @@
 use borrow.Author.Tests.{le-leb, lt-leb}
-use Rattle.tablereader.proofs.fields.good_infinity.Statement.{statement}
-use Rattle.tablereader.proofs.fields.good_infinity.Tie as tie
+use Rattle.tablereader.proofs.bounds.good_infinity.Statement.{statement}
+use Rattle.tablereader.proofs.bounds.good_infinity.Tie as tie
 
 returns : tie.Need-returns
 returns c = rw (lt-leb _ _ (c .if1 .taken))
