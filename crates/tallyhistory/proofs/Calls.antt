@@ -26,7 +26,7 @@ use Rattle.protocol.proofs.Outcomes.{of-pick, of-refused}
 use Rattle.tally.specs.Counts.{answerCount}
 use Rattle.tally.specs.History.{zeros}
 use Rattle.tally.proofs.History.{counts-exactly, zeros-sized, sum-is-messages}
-use Rattle.tallied.specs.Tallied.{answersOf, messages, TallyOfCalls}
+use Rattle.tallyhistory.specs.Calls.{answersOf, messages, TallyOfCalls}
 
 abbrev isAnswer : ℕ → Bool
 isAnswer n = ltb n answerCount

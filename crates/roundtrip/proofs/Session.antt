@@ -20,9 +20,9 @@ use Rattle.protocol.specs.Order.{lineInOrder, inOrder}
 use Rattle.protocol.specs.Calls.{fresh, opening, early, updateOutcome, byType, arriving}
 use Rattle.protocol.specs.Kept.{Kept}
 use Rattle.protocol.proofs.Kept.{fresh-in-order, order-kept}
-use Rattle.exchange.specs.Feeding.{Turn, Fed, fedBy, fed}
-use Rattle.exchange.specs.Exchange.{Listening, Exchanged}
-use Rattle.exchange.proofs.Exchange.{station-round-trip}
+use Rattle.roundtrip.specs.Feeding.{Turn, Fed, fedBy, fed}
+use Rattle.roundtrip.specs.RoundTrip.{Listening, Exchanged}
+use Rattle.roundtrip.proofs.RoundTrip.{station-round-trip}
 
 number : List ℕ
 number = replicate 16 7

@@ -33,8 +33,8 @@ use Rattle.protocol.proofs.Updates.{by-update}
 use Rattle.protocol.proofs.Kept.{order-kept}
 use Rattle.protocol.proofs.Matching.{line-set}
 use Rattle.protocol.proofs.Blind.{taken-before}
-use Rattle.exchange.specs.Feeding.{Turn, thenFed, callThen, fedBy, Taken}
-use Rattle.exchange.specs.Exchange.{Listening}
+use Rattle.roundtrip.specs.Feeding.{Turn, thenFed, callThen, fedBy, Taken}
+use Rattle.roundtrip.specs.RoundTrip.{Listening}
 
 -- a table of n entries, with n of them
 pub record Full (n : ℕ) (h : Held) : Type 0 where

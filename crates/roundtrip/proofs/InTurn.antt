@@ -18,9 +18,9 @@ use Rattle.protocol.specs.declared.Station.{Station}
 use Rattle.protocol.specs.Lines.{nowhere, lineAt, withLine, withTable, heldAt}
 use Rattle.protocol.specs.Calls.{updateOutcome}
 use Rattle.protocol.proofs.Matching.{line-set}
-use Rattle.exchange.specs.Feeding.{Turn, Fed, unfed, fedBy, AllTaken}
-use Rattle.exchange.specs.Exchange.{Listening}
-use Rattle.exchange.proofs.Feeding.{Full, Sendable, line-below, part-inside, held-then, listens-on, left-taken, fed-next}
+use Rattle.roundtrip.specs.Feeding.{Turn, Fed, unfed, fedBy, AllTaken}
+use Rattle.roundtrip.specs.RoundTrip.{Listening}
+use Rattle.roundtrip.proofs.Feeding.{Full, Sendable, line-below, part-inside, held-then, listens-on, left-taken, fed-next}
 
 -- as many bytes written over others in the same place leave no trace of them
 over-twice : (from : ℕ) (a b area : List ℕ) → length a ≡ length b → from + length a ≤ length area → over from b (over from a area) ≡ over from b area

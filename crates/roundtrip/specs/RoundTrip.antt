@@ -14,7 +14,7 @@ use Rattle.protocol.specs.Memory.{remembered}
 use Rattle.protocol.specs.Lines.{lineAt, withLine, withTable, heldAt}
 use Rattle.protocol.specs.Order.{inOrder}
 use Rattle.protocol.specs.Kept.{Sized}
-use Rattle.exchange.specs.Feeding.{Turn, Fed, fed, AllTaken}
+use Rattle.roundtrip.specs.Feeding.{Turn, Fed, fed, AllTaken}
 
 -- a station in order with line L open, and a route area that fits it
 pub record Listening (s : Station) (L : ℕ) (area : List ℕ) : Type 0 where

@@ -31,10 +31,10 @@ use Rattle.protocol.specs.Memory.{remembered}
 use Rattle.protocol.specs.Lines.{lineAt, withTable, partOf, heldAt}
 use Rattle.protocol.proofs.InOrder.{facts-at}
 use Rattle.protocol.proofs.Matching.{line-set, line-other}
-use Rattle.exchange.specs.Feeding.{Turn, Fed, fed}
-use Rattle.exchange.specs.Exchange.{Listening, SettledAt, Exchanged, StationRoundTrip}
-use Rattle.exchange.proofs.Feeding.{Full, patch-full, Sendable, line-below, part-inside}
-use Rattle.exchange.proofs.InTurn.{AllFull, FedTo, feeding}
+use Rattle.roundtrip.specs.Feeding.{Turn, Fed, fed}
+use Rattle.roundtrip.specs.RoundTrip.{Listening, SettledAt, Exchanged, StationRoundTrip}
+use Rattle.roundtrip.proofs.Feeding.{Full, patch-full, Sendable, line-below, part-inside}
+use Rattle.roundtrip.proofs.InTurn.{AllFull, FedTo, feeding}
 
 -- facts that hold of each element
 module _ {A : Type 0} where

@@ -1,4 +1,5 @@
 -- A tally over a list of calls, by computation: two cut messages and one of a line that is not open are counted, the rest is not.
+use Prim.Native.Nat.{_-_}
 use mathlib.Core.Path.{_≡_, refl}
 use mathlib.Core.Bool.{true}
 use mathlib.Core.List.{List, [], _∷_}
@@ -11,8 +12,8 @@ use Rattle.protocol.specs.Lines.{storedPongs}
 use Rattle.protocol.specs.Order.{lineInOrder, inOrder}
 use Rattle.protocol.specs.Calls.{fresh, opening, closing, early, arriving, asking}
 use Rattle.protocol.specs.Runs.{Call, Open, Close, Message, Ask, Same, World, start}
-use Rattle.tally.specs.Counts.{oneMore, bump, bumps}
-use Rattle.tallied.specs.Tallied.{answersOf, messages, tallyOf}
+use Rattle.tally.specs.Counts.{answerCount, oneMore, bump, bumps}
+use Rattle.tallyhistory.specs.Calls.{answersOf, messages, tallyOf}
 
 own : Own
 own = record { port = 6346; address = 127 ∷ 0 ∷ 0 ∷ 1 ∷ []; files = 0; kilobytes = 0; calls = true }
@@ -34,6 +35,6 @@ three : messages calls ≡ 3
 unfolding calls messages
 three = refl
 
-tallied : tallyOf begun calls ≡ 0 ∷ 0 ∷ 0 ∷ 1 ∷ 2 ∷ replicate 14 0
+tallied : tallyOf begun calls ≡ 0 ∷ 0 ∷ 0 ∷ 1 ∷ 2 ∷ replicate (answerCount - 5) 0
 unfolding own begun calls answersOf oneMore bump bumps keptPlaces tableInOrder remembered find remember noTwice storedPongs lineInOrder inOrder fresh opening closing early arriving asking
 tallied = refl

@@ -1,2 +1,2 @@
 -- The tally over lists of calls.
-pub mod Tallied
+pub mod Calls

@@ -31,7 +31,7 @@ messages (c ∷ cs) = cond (isMessage c) (suc (messages cs)) (messages cs)
 abbrev pub tallyOf : World → List Call → List ℕ
 tallyOf w cs = bumps zeros (answersOf w cs)
 
--- from any world, whatever the calls: every message is answered by one of the nineteen numbers, each count is how many messages had its
+-- from any world, whatever the calls: every message is answered by one of the answer numbers, each count is how many messages had its
 -- answer, or full where that is more, and while none is full they sum up to the number of messages
 pub record TallyOfCalls (w : World) (cs : List Call) : Type 0 where
   pub known : all (λ n. ltb n answerCount) (answersOf w cs) ≡ true
