@@ -72,7 +72,7 @@ pingedClosed =
 
 abbrev pub table : (mark length infinity place size bits at : ℕ) → Table
 table mark length infinity place size bits at =
-    record { mark = mark; length = length; infinity = infinity; place = place; size = size; bits = bits; at = at }
+    record { mark = mark; length = length; infinity = infinity; nextplace = place; runsize = size; runbits = bits; nextentry = at }
 
 -- line 1, which is open, with this table, and line 2, which is closed
 abbrev pub openTable : Table → Station

@@ -28,7 +28,7 @@ texts = refl
 -- four entries a line, of which "eb" has the last: 3, 2 and 2, the last of these with Infinity 2; a closed line; none; a table that is
 -- not settled, twice; and a part that the area lacks
 table : ℕ → ℕ → Table
-table mark infinity = record { mark = mark; length = 4; infinity = infinity; place = 1; size = 0; bits = 0; at = 0 }
+table mark infinity = record { mark = mark; length = 4; infinity = infinity; nextplace = 1; runsize = 0; runbits = 0; nextentry = 0 }
 
 tables : List Table
 tables = table settled 8 ∷ table settled 8 ∷ table settled 2 ∷ noTable ∷ noTable ∷ table running 8 ∷ table broken 8 ∷ table settled 8 ∷ []

@@ -113,40 +113,40 @@ ready-least m e =
 rest-words : (t : Table) → betweenRuns t ≡ true → RestWords t
 rest-words t e =
     record {
-      place = eqb-true (t .place) 1 (and-fst (eqb (t .place) 1) (eqb (t .at) 0) e);
-      entry = eqb-true (t .at) 0 (and-snd (eqb (t .place) 1) (eqb (t .at) 0) e);
+      place = eqb-true (t .nextplace) 1 (and-fst (eqb (t .nextplace) 1) (eqb (t .nextentry) 0) e);
+      entry = eqb-true (t .nextentry) 0 (and-snd (eqb (t .nextplace) 1) (eqb (t .nextentry) 0) e);
     }
 
 rest-is : (t : Table) → RestWords t → betweenRuns t ≡ true
-rest-is t w = and-intro (eqb (t .place) 1) (eqb (t .at) 0) (eq-eqb (t .place) 1 (w .place)) (eq-eqb (t .at) 0 (w .entry))
+rest-is t w = and-intro (eqb (t .nextplace) 1) (eqb (t .nextentry) 0) (eq-eqb (t .nextplace) 1 (w .place)) (eq-eqb (t .nextentry) 0 (w .entry))
 
 abbrev runTests : Table → List Bool
-runTests t = leb 2 (t .place) ∷ leb (t .place) (t .size) ∷ (eqb (t .bits) 4 || eqb (t .bits) 8) ∷ leb (t .at) (t .length) ∷ []
+runTests t = leb 2 (t .nextplace) ∷ leb (t .nextplace) (t .runsize) ∷ (eqb (t .runbits) 4 || eqb (t .runbits) 8) ∷ leb (t .nextentry) (t .length) ∷ []
 
 run-words : (t : Table) → insideRun t ≡ true → RunWords t
 run-words t e =
     let h = each (runTests t) e in
     record {
-      second = leb-true 2 (t .place) (h .0);
-      last = leb-true (t .place) (t .size) (h .1 .0);
+      second = leb-true 2 (t .nextplace) (h .0);
+      last = leb-true (t .nextplace) (t .runsize) (h .1 .0);
       width =
-          ⊎-elim (λ a. inl (eqb-true (t .bits) 4 a)) (λ a. inr (eqb-true (t .bits) 8 a))
-          (or-split (eqb (t .bits) 4) (eqb (t .bits) 8) (h .1 .1 .0));
-      entry = leb-true (t .at) (t .length) (h .1 .1 .1 .0);
+          ⊎-elim (λ a. inl (eqb-true (t .runbits) 4 a)) (λ a. inr (eqb-true (t .runbits) 8 a))
+          (or-split (eqb (t .runbits) 4) (eqb (t .runbits) 8) (h .1 .1 .0));
+      entry = leb-true (t .nextentry) (t .length) (h .1 .1 .1 .0);
     }
 
 run-is : (t : Table) → RunWords t → insideRun t ≡ true
 run-is t w =
     every-of (runTests t) (
-      le-leb 2 (t .place) (w .second),
+      le-leb 2 (t .nextplace) (w .second),
       (
-        le-leb (t .place) (t .size) (w .last),
+        le-leb (t .nextplace) (t .runsize) (w .last),
         (
           ⊎-elim
-              (λ e. or-left (eqb (t .bits) 4) (eqb (t .bits) 8) (eq-eqb (t .bits) 4 e))
-              (λ e. or-right (eqb (t .bits) 4) (eqb (t .bits) 8) (eq-eqb (t .bits) 8 e))
+              (λ e. or-left (eqb (t .runbits) 4) (eqb (t .runbits) 8) (eq-eqb (t .runbits) 4 e))
+              (λ e. or-right (eqb (t .runbits) 4) (eqb (t .runbits) 8) (eq-eqb (t .runbits) 8 e))
               (w .width),
-          (le-leb (t .at) (t .length) (w .entry), tt),
+          (le-leb (t .nextentry) (t .length) (w .entry), tt),
         ),
       ),
     )

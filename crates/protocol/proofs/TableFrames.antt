@@ -72,10 +72,10 @@ module _ (s : Station) (z : Sized s) (l : ℕ) (l≤7 : l ≤ 7) where
         mark = ap (λ (y : Line). y .table .mark) q;
         long = ap (λ (y : Line). y .table .length) q;
         infinity = ap (λ (y : Line). y .table .infinity) q;
-        place = ap (λ (y : Line). y .table .place) q;
-        size = ap (λ (y : Line). y .table .size) q;
-        bits = ap (λ (y : Line). y .table .bits) q;
-        at = ap (λ (y : Line). y .table .at) q;
+        nextplace = ap (λ (y : Line). y .table .nextplace) q;
+        runsize = ap (λ (y : Line). y .table .runsize) q;
+        runbits = ap (λ (y : Line). y .table .runbits) q;
+        nextentry = ap (λ (y : Line). y .table .nextentry) q;
       }
 
 pub broken-in-words : BrokenInWords

@@ -57,14 +57,14 @@ pub record OwnExactly (s : Station) (text : List ℕ) (out : ℕ) (route : List 
 
 pub record Exactly : Type 0 where
   pub early : (s : Station) (l : ℕ) (m : List ℕ) (t : Terms) (route : List ℕ)
-      → EarlyExactly s l out route (messageOutcome s l m t route .answer)
+      → EarlyExactly s l (t .out) route (messageOutcome s l m t route .answer)
   pub seven : (s : Station) (l : ℕ) (m : List ℕ) (t : Terms) (route : List ℕ)
       → inOrder s ≡ true
-      → Arrived s l m out route
+      → Arrived s l m (t .out) route
       → (messageOutcome s l m t route .answer ≡ 7) ↔ (Named m → ⊥)
   pub query : (s : Station) (l : ℕ) (m : List ℕ) (t : Terms) (route : List ℕ)
       → inOrder s ≡ true
-      → Arrived s l m out route
+      → Arrived s l m (t .out) route
       → kindOf m ≡ 0x80
       → QueryExactly m (messageOutcome s l m t route .answer)
   pub asks : (s : Station) (number text : List ℕ) (out : ℕ) (route : List ℕ)

@@ -22,7 +22,7 @@ abbrev pub ExtentExactly : Type 0
 ExtentExactly =
     (s : Station) (l : ℕ) (m : List ℕ) (t : Terms) (route : List ℕ)
     → inOrder s ≡ true
-    → Areas s out route
+    → Areas s (t .out) route
     → l ≤ 7
     → lineAt s l .live ≡ true
     → ByExtent m (messageOutcome s l m t route .answer)

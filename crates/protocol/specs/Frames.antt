@@ -37,10 +37,10 @@ pub record MarkedBroken (l : ℕ) (s s′ : Station) : Type 0 where
   pub mark : lineAt s′ l .table .mark ≡ 4
   pub long : lineAt s′ l .table .length ≡ lineAt s l .table .length
   pub infinity : lineAt s′ l .table .infinity ≡ lineAt s l .table .infinity
-  pub place : lineAt s′ l .table .place ≡ lineAt s l .table .place
-  pub size : lineAt s′ l .table .size ≡ lineAt s l .table .size
-  pub bits : lineAt s′ l .table .bits ≡ lineAt s l .table .bits
-  pub at : lineAt s′ l .table .at ≡ lineAt s l .table .at
+  pub nextplace : lineAt s′ l .table .nextplace ≡ lineAt s l .table .nextplace
+  pub runsize : lineAt s′ l .table .runsize ≡ lineAt s l .table .runsize
+  pub runbits : lineAt s′ l .table .runbits ≡ lineAt s l .table .runbits
+  pub nextentry : lineAt s′ l .table .nextentry ≡ lineAt s l .table .nextentry
 
 -- of the route area only the first n bytes of line l's part may change, each part being `room` bytes long
 pub record PartOnly (room l n : ℕ) (route route′ : List ℕ) : Type 0 where

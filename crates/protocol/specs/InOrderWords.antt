@@ -22,16 +22,16 @@ pongPlace next i = (next + 9 - i) % 10
 
 -- the run position of a table between runs, which is waiting (1) or settled (3): place 1 is next, and entry 0
 pub record RestWords (t : Table) : Type 0 where
-  pub place : t .place ≡ 1
-  pub entry : t .at ≡ 0
+  pub place : t .nextplace ≡ 1
+  pub entry : t .nextentry ≡ 0
 
 -- and of a table that is running (2): the next place is 2 to the run's size, its bits are 4 or 8, and the next entry is
 -- at most the length
 pub record RunWords (t : Table) : Type 0 where
-  pub second : 2 ≤ t .place
-  pub last : t .place ≤ t .size
-  pub width : (t .bits ≡ 4) ⊎ (t .bits ≡ 8)
-  pub entry : t .at ≤ t .length
+  pub second : 2 ≤ t .nextplace
+  pub last : t .nextplace ≤ t .runsize
+  pub width : (t .runbits ≡ 4) ⊎ (t .runbits ≡ 8)
+  pub entry : t .nextentry ≤ t .length
 
 -- the limits: a length of 2 ^ power for a power of 2 to 16, within the room; an Infinity of 2 to 127; the run position
 pub record LimitWords (room : ℕ) (t : Table) : Type 0 where

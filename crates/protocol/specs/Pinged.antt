@@ -78,7 +78,7 @@ pub record PongRouted (s : Station) (l clock : ℕ) (m : List ℕ) (o : Outcome)
   pub silent : Silent o
 
 -- a message of either type; the own address has four bytes by its type, [u8; 4]
-pub record PingsRouted (s : Station) (l : ℕ) (m : List ℕ) (t : Terms) (route : List ℕ) (o : Outcome) : Type 0 where
+pub record PingsRouted (s : Station) (l clock : ℕ) (own : Own) (m : List ℕ) (out : ℕ) (route : List ℕ) (o : Outcome) : Type 0 where
   pub ping : kindOf m ≡ 0x00 → Arrived s l m out route → PingRouted s l clock own m o
   pub noHit : kindOf m ≡ 0x00 → length (own .address) ≡ 4 → NoHit 0x01 o
   pub pong : kindOf m ≡ 0x01 → Arrived s l m out route → PongRouted s l clock m o

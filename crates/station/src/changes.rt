@@ -30,10 +30,10 @@ fn empty_line(live: bool) -> Line
         mark: 0,
         length: 0,
         infinity: 0,
-        place: 0,
-        size: 0,
-        bits: 0,
-        at: 0,
+        nextplace: 0,
+        runsize: 0,
+        runbits: 0,
+        nextentry: 0,
     };
     Line {
         live,

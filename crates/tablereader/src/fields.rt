@@ -5,45 +5,13 @@ ghost use Prim.Native.Nat.{_+_, _≤_, _<_, min};
 ghost use lib.Dec.{eqb, leb};
 ghost use lib.ListN.{length};
 ghost use Rattle.tables.specs.Patch.{goodBits};
-ghost use Rattle.tables.specs.Tables.{goodLength, goodInfinity, ready, running};
+ghost use Rattle.tables.specs.Tables.{ready, running};
 ghost use Rattle.tables.specs.Updates.{isPatch, lengthIn, goodReset, goodPatch};
+use crate::bounds::good_infinity;
+use crate::bounds::good_length;
 use tables::RUNNING;
 use tables::SETTLED;
 use tables::WAITING;
-
-// A length that a RESET may carry: a power of two, 4 to 65,536.
-pub(crate) fn good_length(n: u32) -> bool
-    ensures { λ r. ⌜ r ≡ goodLength n ⌝ }
-{
-    match n {
-        4
-        | 8
-        | 16
-        | 32
-        | 64
-        | 128
-        | 256
-        | 512
-        | 1024
-        | 2048
-        | 4096
-        | 8192
-        | 16384
-        | 32768
-        | 65536 => true,
-        _ => false,
-    }
-}
-
-// An Infinity that a RESET may carry.
-pub(crate) fn good_infinity(n: u8) -> bool
-    ensures { λ r. ⌜ r ≡ goodInfinity n ⌝ }
-{
-    if n < 2 {
-        return false;
-    }
-    n <= 127
-}
 
 // How many bits a number of a PATCH may have.
 pub(crate) fn good_bits(bits: u8) -> bool

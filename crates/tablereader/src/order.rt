@@ -1,9 +1,9 @@
 // Whether a table is in order (RULES 4.7, 4.8).
 ghost use mathlib.Core.Path.{_≡_};
 ghost use Rattle.tables.specs.Tables.{insideRun, betweenRuns, withinLimits, tableInOrder};
+use crate::bounds::good_infinity;
+use crate::bounds::good_length;
 use crate::fields::good_bits;
-use crate::fields::good_infinity;
-use crate::fields::good_length;
 use crate::fields::takes_patch;
 use tables::BROKEN;
 use tables::RUNNING;
@@ -13,26 +13,26 @@ use tables::Table;
 fn inside_run(table: Table) -> bool
     ensures { λ r. ⌜ r ≡ insideRun table ⌝ }
 {
-    if table.place < 2 {
+    if table.nextplace < 2 {
         return false;
     }
-    if table.size < table.place {
+    if table.runsize < table.nextplace {
         return false;
     }
-    if !good_bits(table.bits) {
+    if !good_bits(table.runbits) {
         return false;
     }
-    table.at <= table.length
+    table.nextentry <= table.length
 }
 
 // The run position of a table that is waiting or settled.
 fn between_runs(table: Table) -> bool
     ensures { λ r. ⌜ r ≡ betweenRuns table ⌝ }
 {
-    if table.place != 1 {
+    if table.nextplace != 1 {
         return false;
     }
-    table.at == 0
+    table.nextentry == 0
 }
 
 // Length, Infinity and run position of a table that is waiting, running or settled.

@@ -27,15 +27,15 @@ fn in_turn(table: Table, payload: &[u8], part: &[u8]) -> bool
     if !takes_patch(table.mark) {
         return false;
     }
-    if place != table.place {
+    if place != table.nextplace {
         return false;
     }
-    if !same_run(table.mark, size, table.size, bits, table.bits) {
+    if !same_run(table.mark, size, table.runsize, bits, table.runbits) {
         return false;
     }
     let n = number_count(bits, payload.len() - 5);
     let end = entry_count(table.length, part.len());
-    ends_right(table.at as usize, n, end, place == size)
+    ends_right(table.nextentry as usize, n, end, place == size)
 }
 
 // Every entry that the data covers stays in 1..Infinity.
@@ -45,7 +45,7 @@ fn in_range(table: Table, payload: &[u8], part: &[u8]) -> bool
     ensures { λ r. ⌜ r ≡ inRange (heldIn table (now (part .entry))) (now (payload .entry)) ⌝ }
 {
     let bits = payload[4];
-    let at = table.at as usize;
+    let at = table.nextentry as usize;
     let end = entry_count(table.length, part.len());
     all_fit(&payload[5..], &part[at..end], bits, table.infinity)
 }
@@ -74,17 +74,17 @@ pub(crate) fn at_rest(mark: u8, length: u32, infinity: u8) -> Table
         mark,
         length,
         infinity,
-        place: 1,
-        size: 0,
-        bits: 0,
-        at: 0,
+        nextplace: 1,
+        runsize: 0,
+        runbits: 0,
+        nextentry: 0,
     }
 }
 
 // The table once the PATCH is added: inside its run, or settled by the run's last message.
 pub(crate) fn moved_on(table: Table, payload: &[u8]) -> Table
     requires { ⌜ goodPatch (now payload) ≡ true ⌝ }
-    requires { ⌜ table .at + length (numbersIn (now payload)) < 2 ^ 32 ⌝ }
+    requires { ⌜ table .nextentry + length (numbersIn (now payload)) < 2 ^ 32 ⌝ }
     ensures { λ r. ⌜ r ≡ movedOn table (now (payload .entry)) ⌝ }
 {
     let place = payload[1];
@@ -98,9 +98,9 @@ pub(crate) fn moved_on(table: Table, payload: &[u8]) -> Table
         mark: RUNNING,
         length: table.length,
         infinity: table.infinity,
-        place: place + 1,
-        size,
-        bits,
-        at: table.at + n,
+        nextplace: place + 1,
+        runsize: size,
+        runbits: bits,
+        nextentry: table.nextentry + n,
     }
 }

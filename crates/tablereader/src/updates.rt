@@ -27,10 +27,10 @@ fn refused(answer: u8, table: Table) -> Updated
         mark: BROKEN,
         length: table.length,
         infinity: table.infinity,
-        place: table.place,
-        size: table.size,
-        bits: table.bits,
-        at: table.at,
+        nextplace: table.nextplace,
+        runsize: table.runsize,
+        runbits: table.runbits,
+        nextentry: table.nextentry,
     };
     Updated {
         answer,
@@ -90,7 +90,7 @@ pub fn patch(table: Table, payload: &[u8], part: &mut [u8]) -> Updated
         return refused(answer, table);
     }
     let bits = payload[4];
-    let at = table.at as usize;
+    let at = table.nextentry as usize;
     let end = entry_count(table.length, part.len());
     add_all(&payload[5..], &mut part[at..end], bits);
     let next = moved_on(table, payload);

@@ -224,7 +224,7 @@ getD-map f (x ∷ xs) (suc j) d c l = getD-map f xs j d c (omega arith)
 -- a PATCH that is in turn: the rules' test of its numbers is that none leads out
 module _ (h : Held) (us : List Update) (q : Accounts h us) (p : List ℕ) (w : FourOrEight (bitsIn p)) (turn : inTurn h p ≡ true) where
   abbrev at : ℕ
-  at = h .table .at
+  at = h .table .nextentry
 
   t : InTurn us p
   t = turn-of h us q p w turn

@@ -64,9 +64,9 @@ module _ (room : ℕ) (h : Held) (ttl hops : ℕ) (p : List ℕ) where
   bounds-patched b u r =
       let i = h .table .infinity in
       let a : all (inBounds i) (h .entries) ≡ true = rw (every-true (turnTests h p) u .0) at b in
-      let s = all-append (inBounds i) (take (h .table .at) (h .entries)) (added (bitsIn p) (numbersIn p) (drop (h .table .at) (h .entries)))
-      (all-take (inBounds i) (h .table .at) (h .entries) a)
-      (added-bounds (bitsIn p) i (numbersIn p) (drop (h .table .at) (h .entries)) r (all-drop (inBounds i) (h .table .at) (h .entries) a)) in
+      let s = all-append (inBounds i) (take (h .table .nextentry) (h .entries)) (added (bitsIn p) (numbersIn p) (drop (h .table .nextentry) (h .entries)))
+      (all-take (inBounds i) (h .table .nextentry) (h .entries) a)
+      (added-bounds (bitsIn p) i (numbersIn p) (drop (h .table .nextentry) (h .entries)) r (all-drop (inBounds i) (h .table .nextentry) (h .entries) a)) in
       rw (moved-keeps (λ u. u .infinity) (h .table) p refl refl, s, or-true)
 
   pub keeps-bounds : entriesInBounds h ≡ true → entriesInBounds (updated room h ttl hops p) ≡ true

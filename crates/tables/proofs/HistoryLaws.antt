@@ -147,7 +147,7 @@ inside-quiet false = refl
 -- the table is inside a run exactly where there are messages of one, and knows the first one's size and bits
 abbrev pub AfterFirst : List (List ℕ) → Table → Type 0
 AfterFirst [] t = eqb (t .mark) running ≡ false
-AfterFirst (m ∷ ms) t = (eqb (t .mark) running ≡ true) × (t .size ≡ byte m 2) × (t .bits ≡ byte m 4)
+AfterFirst (m ∷ ms) t = (eqb (t .mark) running ≡ true) × (t .runsize ≡ byte m 2) × (t .runbits ≡ byte m 4)
 
 -- a table with its entries is what these updates come to
 pub record Accounts (h : Held) (us : List Update) : Type 0 where
@@ -157,8 +157,8 @@ pub record Accounts (h : Held) (us : List Update) : Type 0 where
   pub patchable : ready (h .table .mark) ≡ (any isReset us && not (spoiled us))
   pub mark : h .table .mark ≡ markAfter us
   pub speaking : eqb (h .table .mark) settled ≡ speaks us
-  pub reached : ready (h .table .mark) ≡ true → h .table .at ≡ length (underWay us)
-  pub placed : ready (h .table .mark) ≡ true → h .table .place ≡ length (messages us) + 1
+  pub reached : ready (h .table .mark) ≡ true → h .table .nextentry ≡ length (underWay us)
+  pub placed : ready (h .table .mark) ≡ true → h .table .nextplace ≡ length (messages us) + 1
   pub first : ready (h .table .mark) ≡ true → AfterFirst (messages us) (h .table)
   pub totals : (j : ℕ) → j < length (h .entries) → pos (getD (h .entries) j 0) ≡ pos (h .table .infinity) +ℤ sumAt us j
 
@@ -182,19 +182,19 @@ update p n = record { payload = p; answer = n }
 
 -- the test of size and bits says that they are the first one's
 like-first : (ms : List (List ℕ)) (t : Table) (p : List ℕ) → AfterFirst ms t
-    → (not (eqb (t .mark) running) || (eqb (sizeIn p) (t .size) && eqb (bitsIn p) (t .bits))) ≡ true → LikeFirst ms p
+    → (not (eqb (t .mark) running) || (eqb (sizeIn p) (t .runsize) && eqb (bitsIn p) (t .runbits))) ≡ true → LikeFirst ms p
 like-first [] t p a e = tt
 like-first (m ∷ ms) t p a e =
-    let f : (eqb (sizeIn p) (t .size) && eqb (bitsIn p) (t .bits)) ≡ true = rw (a .0) at e in (
-      eqb-true (sizeIn p) (t .size) (and-fst (eqb (sizeIn p) (t .size)) (eqb (bitsIn p) (t .bits)) f) ∙ a .1,
-      eqb-true (bitsIn p) (t .bits) (and-snd (eqb (sizeIn p) (t .size)) (eqb (bitsIn p) (t .bits)) f) ∙ a .2,
+    let f : (eqb (sizeIn p) (t .runsize) && eqb (bitsIn p) (t .runbits)) ≡ true = rw (a .0) at e in (
+      eqb-true (sizeIn p) (t .runsize) (and-fst (eqb (sizeIn p) (t .runsize)) (eqb (bitsIn p) (t .runbits)) f) ∙ a .1,
+      eqb-true (bitsIn p) (t .runbits) (and-snd (eqb (sizeIn p) (t .runsize)) (eqb (bitsIn p) (t .runbits)) f) ∙ a .2,
     )
 
 first-like : (ms : List (List ℕ)) (t : Table) (p : List ℕ) → AfterFirst ms t → LikeFirst ms p
-    → (not (eqb (t .mark) running) || (eqb (sizeIn p) (t .size) && eqb (bitsIn p) (t .bits))) ≡ true
+    → (not (eqb (t .mark) running) || (eqb (sizeIn p) (t .runsize) && eqb (bitsIn p) (t .runbits))) ≡ true
 first-like [] t p a l = rw a
 first-like (m ∷ ms) t p a l =
-    rw (a .0) (and-intro _ _ (eq-eqb (sizeIn p) (t .size) (l .0 ∙ sym (a .1))) (eq-eqb (bitsIn p) (t .bits) (l .1 ∙ sym (a .2))))
+    rw (a .0) (and-intro _ _ (eq-eqb (sizeIn p) (t .runsize) (l .0 ∙ sym (a .1))) (eq-eqb (bitsIn p) (t .runbits) (l .1 ∙ sym (a .2))))
 
 after-first : (ms : List (List ℕ)) (t : Table) (p : List ℕ) → LikeFirst ms p → AfterFirst (ms ++ (p ∷ [])) (onward t p)
 after-first [] t p l = (refl, refl, refl)
@@ -210,7 +210,7 @@ module _ (h : Held) (us : List Update) (q : Accounts h us) (p : List ℕ) (w : F
   clean r = sym (q .patchable) ∙ r
 
   -- what the run has with this message
-  reach : ready (h .table .mark) ≡ true → h .table .at + length (numbersIn p) ≡ length (underWay us) + length (carried p)
+  reach : ready (h .table .mark) ≡ true → h .table .nextentry + length (numbersIn p) ≡ length (underWay us) + length (carried p)
   reach r = ap₂ (λ a b. a + b) (q .reached r) (sym (carried-length p w))
 
   pub turn-of : inTurn h p ≡ true → InTurn us p
@@ -221,15 +221,15 @@ module _ (h : Held) (us : List Update) (q : Accounts h us) (p : List ℕ) (w : F
       record {
         begun = and-fst (any isReset us) (not (spoiled us)) (clean r);
         unspoiled = not-true (spoiled us) (and-snd (any isReset us) (not (spoiled us)) (clean r));
-        next = eqb-true (placeIn p) (h .table .place) (t .1 .0) ∙ q .placed r;
+        next = eqb-true (placeIn p) (h .table .nextplace) (t .1 .0) ∙ q .placed r;
         alike = like-first (messages us) (h .table) p (q .first r) (t .1 .1 .0);
-        within = rw (reach r, q .long) at (leb-true (h .table .at + length (numbersIn p)) (length (h .entries)) (t .1 .1 .1 .0));
+        within = rw (reach r, q .long) at (leb-true (h .table .nextentry + length (numbersIn p)) (length (h .entries)) (t .1 .1 .1 .0));
         whole = λ e. sym (reach r) ∙ last e (t .1 .1 .1 .1 .0) ∙ q .long;
       }
     where
-      last : placeIn p ≡ sizeIn p → (not (isLast p) || eqb (h .table .at + length (numbersIn p)) (length (h .entries))) ≡ true
-          → h .table .at + length (numbersIn p) ≡ length (h .entries)
-      last e f = eqb-true (h .table .at + length (numbersIn p)) (length (h .entries)) (rw (eq-eqb (placeIn p) (sizeIn p) e) at f)
+      last : placeIn p ≡ sizeIn p → (not (isLast p) || eqb (h .table .nextentry + length (numbersIn p)) (length (h .entries))) ≡ true
+          → h .table .nextentry + length (numbersIn p) ≡ length (h .entries)
+      last e f = eqb-true (h .table .nextentry + length (numbersIn p)) (length (h .entries)) (rw (eq-eqb (placeIn p) (sizeIn p) e) at f)
 
   pub turn-is : InTurn us p → inTurn h p ≡ true
   unfolding inTurn
@@ -238,11 +238,11 @@ module _ (h : Held) (us : List Update) (q : Accounts h us) (p : List ℕ) (w : F
       every-of (turnTests h p) (
         r,
         (
-          eq-eqb (placeIn p) (h .table .place) (t .next ∙ sym (q .placed r)),
+          eq-eqb (placeIn p) (h .table .nextplace) (t .next ∙ sym (q .placed r)),
           (
             first-like (messages us) (h .table) p (q .first r) (t .alike),
             (
-              le-leb (h .table .at + length (numbersIn p)) (length (h .entries)) (rw (reach r, q .long) (t .within)),
+              le-leb (h .table .nextentry + length (numbersIn p)) (length (h .entries)) (rw (reach r, q .long) (t .within)),
               (last r (isLast p) refl, tt),
             ),
           ),
@@ -250,10 +250,10 @@ module _ (h : Held) (us : List Update) (q : Accounts h us) (p : List ℕ) (w : F
       )
     where
       last : ready (h .table .mark) ≡ true → (b : Bool) → isLast p ≡ b
-          → (not (isLast p) || eqb (h .table .at + length (numbersIn p)) (length (h .entries))) ≡ true
+          → (not (isLast p) || eqb (h .table .nextentry + length (numbersIn p)) (length (h .entries))) ≡ true
       last r true e =
           rw e
-          (eq-eqb (h .table .at + length (numbersIn p)) (length (h .entries))
+          (eq-eqb (h .table .nextentry + length (numbersIn p)) (length (h .entries))
           (reach r ∙ t .whole (eqb-true (placeIn p) (sizeIn p) e) ∙ sym (q .long)))
       last r false e = rw e
 
@@ -298,7 +298,7 @@ module _ (h : Held) (us : List Update) (q : Accounts h us) (p : List ℕ) where
     r : ready (h .table .mark) ≡ true
     r = turn-ready h us q p w turn
 
-    grown : length (brought (messages us ++ (p ∷ []))) ≡ h .table .at + length (numbersIn p)
+    grown : length (brought (messages us ++ (p ∷ []))) ≡ h .table .nextentry + length (numbersIn p)
     grown =
         ap length (brought-more (messages us) p)
         ∙ length-append (underWay us) (carried p)
@@ -311,9 +311,9 @@ module _ (h : Held) (us : List Update) (q : Accounts h us) (p : List ℕ) where
     unfolding patchBy inRange
     sums-patch j l =
         let k : j < length (h .entries) = subst (λ (n : ℕ). j < n) (patched-length h p) l in
-        let g : given (map (signed (bitsIn p)) (numbersIn p)) (h .table .at) j ≡ given (carried p) (length (underWay us)) j
+        let g : given (map (signed (bitsIn p)) (numbersIn p)) (h .table .nextentry) j ≡ given (carried p) (length (underWay us)) j
         = ap₂ (λ c n. given c n j) (sym (carried-is p w)) (q .reached r) in
-        added-from (h .table .at) (bitsIn p) (h .table .infinity) (numbersIn p) (h .entries) j range k
+        added-from (h .table .nextentry) (bitsIn p) (h .table .infinity) (numbersIn p) (h .entries) j range k
         ∙ ap₂ (λ x y. x +ℤ y) (q .totals j k) g
         ∙ moved (pos (h .table .infinity)) (getD (underWay us) j (pos 0)) (total j (wholeRuns us)) (given (carried p) (length (underWay us)) j)
         ∙ ap (λ x. pos (h .table .infinity) +ℤ (x +ℤ total j (wholeRuns us)))

@@ -86,21 +86,21 @@ module _ (t : Table) (part : List ℕ) (ttl hops : ℕ) (p : List ℕ) where
 
 -- ---- a PATCH leaves the entries before and behind its data as they are
 
-pub patched-before : (h : Held) (p : List ℕ) → h .table .at ≤ length (h .entries) → take (h .table .at) (patchBy h p .entries) ≡ take (h .table .at) (h .entries)
+pub patched-before : (h : Held) (p : List ℕ) → h .table .nextentry ≤ length (h .entries) → take (h .table .nextentry) (patchBy h p .entries) ≡ take (h .table .nextentry) (h .entries)
 unfolding patchBy
 patched-before h p w =
     take-at
-    (take (h .table .at) (h .entries))
-    (added (bitsIn p) (numbersIn p) (drop (h .table .at) (h .entries)))
-    (h .table .at)
-    (length-take-le (h .table .at) (h .entries) w)
+    (take (h .table .nextentry) (h .entries))
+    (added (bitsIn p) (numbersIn p) (drop (h .table .nextentry) (h .entries)))
+    (h .table .nextentry)
+    (length-take-le (h .table .nextentry) (h .entries) w)
 
-pub patched-behind : (h : Held) (p : List ℕ) → h .table .at ≤ length (h .entries)
-    → drop (h .table .at + length (numbersIn p)) (patchBy h p .entries) ≡ drop (h .table .at + length (numbersIn p)) (h .entries)
+pub patched-behind : (h : Held) (p : List ℕ) → h .table .nextentry ≤ length (h .entries)
+    → drop (h .table .nextentry + length (numbersIn p)) (patchBy h p .entries) ≡ drop (h .table .nextentry + length (numbersIn p)) (h .entries)
 unfolding patchBy
 patched-behind h p w =
     let es = h .entries in
-    let at = h .table .at in
+    let at = h .table .nextentry in
     let k = length (numbersIn p) in
     sym (drop-drop k at (take at es ++ added (bitsIn p) (numbersIn p) (drop at es)))
     ∙ ap (drop k) (drop-at (take at es) (added (bitsIn p) (numbersIn p) (drop at es)) at (length-take-le at es w))

@@ -65,7 +65,7 @@ module _ (room : ℕ) (t : Table) (part : List ℕ) (ttl hops : ℕ) (p : List �
             le-leb 2 (placeIn p + 1) (omega arith),
             le-leb (placeIn p + 1) (sizeIn p) (omega arith),
             f .width,
-            le-leb (t .at + length (numbersIn p)) (t .length) (omega (arith, turn-within t p part u, length-take (t .length) part)),
+            le-leb (t .nextentry + length (numbersIn p)) (t .length) (omega (arith, turn-within t p part u, length-take (t .length) part)),
           )
 
   pub keeps-order : tableInOrder room (updated room (heldIn t part) ttl hops p .table) ≡ true

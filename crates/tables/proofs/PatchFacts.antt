@@ -192,11 +192,11 @@ abbrev pub fitAt : ℕ → ℕ → ℕ → List ℕ → List ℕ → Bool
 fitAt bits infinity at vs es = allFit bits infinity vs (drop at es)
 
 -- .. as an accepted PATCH adds them and as they are tested
-pub patched : (h : Held) (p : List ℕ) → patchBy h p .entries ≡ addedAt (bitsIn p) (h .table .at) (numbersIn p) (h .entries)
+pub patched : (h : Held) (p : List ℕ) → patchBy h p .entries ≡ addedAt (bitsIn p) (h .table .nextentry) (numbersIn p) (h .entries)
 unfolding patchBy
 patched h p = refl
 
-pub tested : (h : Held) (p : List ℕ) → inRange h p ≡ fitAt (bitsIn p) (h .table .infinity) (h .table .at) (numbersIn p) (h .entries)
+pub tested : (h : Held) (p : List ℕ) → inRange h p ≡ fitAt (bitsIn p) (h .table .infinity) (h .table .nextentry) (numbersIn p) (h .entries)
 unfolding inRange
 tested h p = refl
 

@@ -35,14 +35,14 @@ patch-fields p h =
     }
 
 -- the data of a PATCH in turn ends within the table
-pub turn-within : (t : Table) (p part : List ℕ) → inTurn (heldIn t part) p ≡ true → t .at + length (numbersIn p) ≤ length (take (t .length) part)
+pub turn-within : (t : Table) (p part : List ℕ) → inTurn (heldIn t part) p ≡ true → t .nextentry + length (numbersIn p) ≤ length (take (t .length) part)
 unfolding inTurn
 turn-within t p part h = leb-true _ _ (every-true (turnTests (heldIn t part) p) h .1 .1 .1 .0)
 
 -- what a PATCH has that is as it must be and in turn
 pub record Awaited (t : Table) (p part : List ℕ) : Type 0 where
   pub fields : PatchFields p
-  pub within : t .at + length (numbersIn p) ≤ length (take (t .length) part)
+  pub within : t .nextentry + length (numbersIn p) ≤ length (take (t .length) part)
   pub end : length (take (t .length) part) ≡ min (t .length) (length part)
 
 pub awaited : (t : Table) (p part : List ℕ) → goodPatch p ≡ true → inTurn (heldIn t part) p ≡ true → Awaited t p part
@@ -56,11 +56,11 @@ count-in p = numbers-length (bitsIn p) (drop 5 p) ∙ ap (numberCount (bitsIn p)
 -- the last test, after the others held
 pub turn-last : (t : Table) (p part : List ℕ) (r : Bool) (n end : ℕ)
     → ready (t .mark) ≡ true
-    → placeIn p ≡ t .place
-    → (not (eqb (t .mark) running) || (eqb (sizeIn p) (t .size) && eqb (bitsIn p) (t .bits))) ≡ true
+    → placeIn p ≡ t .nextplace
+    → (not (eqb (t .mark) running) || (eqb (sizeIn p) (t .runsize) && eqb (bitsIn p) (t .runbits))) ≡ true
     → n ≡ numberCount (bitsIn p) (length p - 5)
     → end ≡ min (t .length) (length part)
-    → r ≡ (leb (t .at + n) end && (not (isLast p) || eqb (t .at + n) end))
+    → r ≡ (leb (t .nextentry + n) end && (not (isLast p) || eqb (t .nextentry + n) end))
     → r ≡ inTurn (heldIn t part) p
 unfolding inTurn
 turn-last t p part r n end a b c d e f =
@@ -70,18 +70,18 @@ turn-last t p part r n end a b c d e f =
 
 -- the payload's data and the entries from the next one on, as the code lends them
 module _ (t : Table) (p part : List ℕ) (end : ℕ) (e : end ≡ min (t .length) (length part)) where
-  pub lent-entries : take (end - t .at) (drop (t .at) part) ≡ drop (t .at) (take (t .length) part)
+  pub lent-entries : take (end - t .nextentry) (drop (t .nextentry) part) ≡ drop (t .nextentry) (take (t .length) part)
   lent-entries =
-      ap (λ k. take (k - t .at) (drop (t .at) part)) (e ∙ sym (length-take (t .length) part))
-      ∙ rest-front part (t .at) (t .length)
+      ap (λ k. take (k - t .nextentry) (drop (t .nextentry) part)) (e ∙ sym (length-take (t .length) part))
+      ∙ rest-front part (t .nextentry) (t .length)
 
-  pub lent-range : allFit (bitsIn p) (t .infinity) (numbers (bitsIn p) (take (length p - 5) (drop 5 p))) (take (end - t .at) (drop (t .at) part))
+  pub lent-range : allFit (bitsIn p) (t .infinity) (numbers (bitsIn p) (take (length p - 5) (drop 5 p))) (take (end - t .nextentry) (drop (t .nextentry) part))
       ≡ inRange (heldIn t part) p
   unfolding inRange
   lent-range = rw (lent-entries, part-tail 5 p)
 
   pub lent-room : inTurn (heldIn t part) p ≡ true
-      → numberCount (bitsIn p) (length (take (length p - 5) (drop 5 p))) ≤ length (take (end - t .at) (drop (t .at) part))
+      → numberCount (bitsIn p) (length (take (length p - 5) (drop 5 p))) ≤ length (take (end - t .nextentry) (drop (t .nextentry) part))
   lent-room h =
       rw (lent-entries, part-tail 5 p)
       (simp length-drop (rw (← count-in p) (omega (arith, turn-within t p part h))))

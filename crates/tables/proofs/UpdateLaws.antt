@@ -82,35 +82,35 @@ module _ (t : Table) (p part : List ℕ) (n : ℕ) (e : n ≡ patchAnswer (heldI
 
   pub patch-taken : n ≡ 0 → (end : ℕ) (ys : List ℕ) (next : Table)
       → end ≡ min (t .length) (length part)
-      → ys ≡ added (bitsIn p) (numbers (bitsIn p) (take (length p - 5) (drop 5 p))) (take (end - t .at) (drop (t .at) part))
+      → ys ≡ added (bitsIn p) (numbers (bitsIn p) (take (length p - 5) (drop 5 p))) (take (end - t .nextentry) (drop (t .nextentry) part))
       → next ≡ movedOn t p
       → Done part (patchAnswer (heldIn t part) p) (patchedHeld (heldIn t part) p)
       (record { answer = 0; table = next })
-      (putMid (t .at) (end - t .at) part ys)
+      (putMid (t .nextentry) (end - t .nextentry) part ys)
   unfolding patchedHeld patchBy
   patch-taken z end ys next m a b =
       let k : end ≡ length (take (t .length) part) = m ∙ sym (length-take (t .length) part) in
       let w = turn-within t p part (taken (heldIn t part) p (sym e ∙ z) .turn) in
-      let y : ys ≡ added (bitsIn p) (numbersIn p) (drop (t .at) (take (t .length) part)) = rw (lent-entries t p part end m, part-tail 5 p) at a in
+      let y : ys ≡ added (bitsIn p) (numbersIn p) (drop (t .nextentry) (take (t .length) part)) = rw (lent-entries t p part end m, part-tail 5 p) at a in
       rw (← e, z)
       (record {
         result = rw b refl;
         entries =
             rw (k, y)
-            (over-lent (t .at) (t .length) part
-            (added (bitsIn p) (numbersIn p) (drop (t .at) (take (t .length) part)))
+            (over-lent (t .nextentry) (t .length) part
+            (added (bitsIn p) (numbersIn p) (drop (t .nextentry) (take (t .length) part)))
             (omega arith)
-            (added-length (bitsIn p) (numbersIn p) (drop (t .at) (take (t .length) part)) ∙ length-drop (t .at) (take (t .length) part)));
+            (added-length (bitsIn p) (numbersIn p) (drop (t .nextentry) (take (t .length) part)) ∙ length-drop (t .nextentry) (take (t .length) part)));
       })
 
 -- the numbers that the code adds fit a byte
 pub lent-fit : (t : Table) (p part : List ℕ) (end : ℕ) → end ≡ min (t .length) (length part) → t .infinity ≤ 255
     → inRange (heldIn t part) p ≡ true
-    → allFit (bitsIn p) 255 (numbers (bitsIn p) (take (length p - 5) (drop 5 p))) (take (end - t .at) (drop (t .at) part)) ≡ true
+    → allFit (bitsIn p) 255 (numbers (bitsIn p) (take (length p - 5) (drop 5 p))) (take (end - t .nextentry) (drop (t .nextentry) part)) ≡ true
 lent-fit t p part end e i r =
     fit-wider (bitsIn p) (t .infinity) 255
     (numbers (bitsIn p) (take (length p - 5) (drop 5 p)))
-    (take (end - t .at) (drop (t .at) part))
+    (take (end - t .nextentry) (drop (t .nextentry) part))
     i
     (lent-range t p part end e ∙ r)
 

@@ -121,8 +121,8 @@ pub record Filled (p : List ℕ) (h : Held) : Type 0 where
   pub long : h .table .length ≡ lengthBytes p
   pub infinity : h .table .infinity ≡ byte p 5
   pub mark : h .table .mark ≡ 1
-  pub place : h .table .place ≡ 1
-  pub next : h .table .at ≡ 0
+  pub place : h .table .nextplace ≡ 1
+  pub next : h .table .nextentry ≡ 0
 
 -- one that may be is accepted by any table and makes that one of it, whatever was there
 abbrev pub EveryReset : Type 0

@@ -35,15 +35,24 @@ heldIn t part = record { table = t; entries = take (t .length) part }
 
 -- no table
 abbrev pub noTable : Table
-noTable = record { mark = none; length = 0; infinity = 0; place = 0; size = 0; bits = 0; at = 0 }
+noTable = record { mark = none; length = 0; infinity = 0; nextplace = 0; runsize = 0; runbits = 0; nextentry = 0 }
 
 -- a table between runs: place 1 and the first entry are next
 abbrev pub atRest : ℕ → ℕ → ℕ → Table
-atRest k n i = record { mark = k; length = n; infinity = i; place = 1; size = 0; bits = 0; at = 0 }
+atRest k n i = record { mark = k; length = n; infinity = i; nextplace = 1; runsize = 0; runbits = 0; nextentry = 0 }
 
 -- only the mark is another
 abbrev pub marked : ℕ → Table → Table
-marked k t = record { mark = k; length = t .length; infinity = t .infinity; place = t .place; size = t .size; bits = t .bits; at = t .at }
+marked k t =
+    record {
+      mark = k;
+      length = t .length;
+      infinity = t .infinity;
+      nextplace = t .nextplace;
+      runsize = t .runsize;
+      runbits = t .runbits;
+      nextentry = t .nextentry;
+    }
 
 -- a length that a RESET may carry: a power of two, 4 to 65,536
 abbrev pub lengths : List ℕ
@@ -62,10 +71,10 @@ ready k = eqb k waiting || (eqb k running || eqb k settled)
 
 -- the run position: inside a run the next place, the run's size and bits and the next entry; else place 1 and entry 0 are next
 abbrev pub insideRun : Table → Bool
-insideRun t = every (leb 2 (t .place) ∷ leb (t .place) (t .size) ∷ goodBits (t .bits) ∷ leb (t .at) (t .length) ∷ [])
+insideRun t = every (leb 2 (t .nextplace) ∷ leb (t .nextplace) (t .runsize) ∷ goodBits (t .runbits) ∷ leb (t .nextentry) (t .length) ∷ [])
 
 abbrev pub betweenRuns : Table → Bool
-betweenRuns t = eqb (t .place) 1 && eqb (t .at) 0
+betweenRuns t = eqb (t .nextplace) 1 && eqb (t .nextentry) 0
 
 -- the limits of a table that is waiting, running or settled, in a room of `room` entries
 abbrev pub withinLimits : ℕ → Table → Bool

@@ -68,10 +68,10 @@ goodPatch p = every (patchTests p)
 abbrev pub turnTests : Held → List ℕ → List Bool
 turnTests h p =
     ready (h .table .mark)
-    ∷ eqb (placeIn p) (h .table .place)
-    ∷ (not (eqb (h .table .mark) running) || (eqb (sizeIn p) (h .table .size) && eqb (bitsIn p) (h .table .bits)))
-    ∷ leb (h .table .at + length (numbersIn p)) (length (h .entries))
-    ∷ (not (isLast p) || eqb (h .table .at + length (numbersIn p)) (length (h .entries)))
+    ∷ eqb (placeIn p) (h .table .nextplace)
+    ∷ (not (eqb (h .table .mark) running) || (eqb (sizeIn p) (h .table .runsize) && eqb (bitsIn p) (h .table .runbits)))
+    ∷ leb (h .table .nextentry + length (numbersIn p)) (length (h .entries))
+    ∷ (not (isLast p) || eqb (h .table .nextentry + length (numbersIn p)) (length (h .entries)))
     ∷ []
 
 unfoldable pub inTurn : Held → List ℕ → Bool
@@ -79,7 +79,7 @@ inTurn h p = every (turnTests h p)
 
 -- every entry that the data covers stays in 1..Infinity
 unfoldable pub inRange : Held → List ℕ → Bool
-inRange h p = allFit (bitsIn p) (h .table .infinity) (numbersIn p) (drop (h .table .at) (h .entries))
+inRange h p = allFit (bitsIn p) (h .table .infinity) (numbersIn p) (drop (h .table .nextentry) (h .entries))
 
 -- what each kind is answered
 abbrev pub resetAnswer : ℕ → List ℕ → ℕ
@@ -112,10 +112,10 @@ onward t p =
       mark = running;
       length = t .length;
       infinity = t .infinity;
-      place = placeIn p + 1;
-      size = sizeIn p;
-      bits = bitsIn p;
-      at = t .at + length (numbersIn p);
+      nextplace = placeIn p + 1;
+      runsize = sizeIn p;
+      runbits = bitsIn p;
+      nextentry = t .nextentry + length (numbersIn p);
     }
 
 unfoldable pub movedOn : Table → List ℕ → Table
@@ -125,7 +125,7 @@ unfoldable pub patchBy : Held → List ℕ → Held
 patchBy h p =
     record {
       table = movedOn (h .table) p;
-      entries = take (h .table .at) (h .entries) ++ added (bitsIn p) (numbersIn p) (drop (h .table .at) (h .entries));
+      entries = take (h .table .nextentry) (h .entries) ++ added (bitsIn p) (numbersIn p) (drop (h .table .nextentry) (h .entries));
     }
 
 -- refused: only the mark changes

@@ -17,10 +17,10 @@ pub struct Table {
     pub mark: u8,
     pub length: u32,
     pub infinity: u8,
-    pub place: u8,
-    pub size: u8,
-    pub bits: u8,
-    pub at: u32,
+    pub nextplace: u8,
+    pub runsize: u8,
+    pub runbits: u8,
+    pub nextentry: u32,
 }
 
 // The answer to an update, and the table after it.

@@ -71,7 +71,7 @@ read-none room h = record { answers = refl; held = refl }
 abbrev pub resetTo : ℕ → ℕ → Held
 resetTo n infinity =
     record {
-      table = record { mark = waiting; length = n; infinity = infinity; place = 1; size = 0; bits = 0; at = 0 };
+      table = record { mark = waiting; length = n; infinity = infinity; nextplace = 1; runsize = 0; runbits = 0; nextentry = 0 };
       entries = replicate n infinity;
     }
 
@@ -94,8 +94,8 @@ module _ (room n infinity : ℕ) (small : n < 4294967296) where
 -- the table awaits this place of a run of this size and bits
 pub record Awaits (t : Table) (place size bits : ℕ) : Type 0 where
   pub open-to : ready (t .mark) ≡ true
-  pub next : t .place ≡ place
-  pub alike : (not (eqb (t .mark) running) || (eqb size (t .size) && eqb bits (t .bits))) ≡ true
+  pub next : t .nextplace ≡ place
+  pub alike : (not (eqb (t .mark) running) || (eqb size (t .runsize) && eqb bits (t .runbits))) ≡ true
 
 -- what a PATCH leaves: before the last of its run, and the last
 abbrev pub movedTo : ℕ → ℕ → ℕ → List ℕ → Held → Held
@@ -105,19 +105,19 @@ movedTo place size bits d h =
         mark = running;
         length = h .table .length;
         infinity = h .table .infinity;
-        place = place + 1;
-        size = size;
-        bits = bits;
-        at = h .table .at + length (numbers bits d);
+        nextplace = place + 1;
+        runsize = size;
+        runbits = bits;
+        nextentry = h .table .nextentry + length (numbers bits d);
       };
-      entries = addedAt bits (h .table .at) (numbers bits d) (h .entries);
+      entries = addedAt bits (h .table .nextentry) (numbers bits d) (h .entries);
     }
 
 abbrev pub settledTo : ℕ → List ℕ → Held → Held
 settledTo bits d h =
     record {
       table = settledTable (h .table .length) (h .table .infinity);
-      entries = addedAt bits (h .table .at) (numbers bits d) (h .entries);
+      entries = addedAt bits (h .table .nextentry) (numbers bits d) (h .entries);
     }
 
 width-test : {bits : ℕ} → Width bits → (eqb bits 4 || eqb bits 8) ≡ true
@@ -132,16 +132,16 @@ module _ {bits : ℕ} (w : Width bits) (size place : ℕ) (d : List ℕ) (h : He
       (le-leb 5 (length (patchPayload place size bits d)) (omega arith))
       (and-both (le-leb 1 place low) (and-both (le-leb place size high) (and-both (width-test w) refl)))
 
-  patch-turn : Awaits (h .table) place size bits → h .table .at + length (numbers bits d) ≤ length (h .entries)
-      → (place ≡ size → h .table .at + length (numbers bits d) ≡ length (h .entries)) → inTurn h (patchPayload place size bits d) ≡ true
+  patch-turn : Awaits (h .table) place size bits → h .table .nextentry + length (numbers bits d) ≤ length (h .entries)
+      → (place ≡ size → h .table .nextentry + length (numbers bits d) ≡ length (h .entries)) → inTurn h (patchPayload place size bits d) ≡ true
   unfolding inTurn
   patch-turn a within last =
-      let sum : ℕ = h .table .at + length (numbers bits d) in
+      let sum : ℕ = h .table .nextentry + length (numbers bits d) in
       let all : ℕ = length (h .entries) in
       and-both
       (a .open-to)
       (and-both
-      (eq-eqb place (h .table .place) (sym (a .next)))
+      (eq-eqb place (h .table .nextplace) (sym (a .next)))
       (and-both
       (a .alike)
       (and-both
@@ -149,9 +149,9 @@ module _ {bits : ℕ} (w : Width bits) (size place : ℕ) (d : List ℕ) (h : He
       (and-both (implied (eqb place size) (eqb sum all) (λ e. eq-eqb sum all (last (eqb-true place size e)))) refl))))
 
   pub patch-taken : (room : ℕ) (number : List ℕ) → length number ≡ 16 → Short (patchPayload place size bits d)
-      → Awaits (h .table) place size bits → 1 ≤ place → place ≤ size → h .table .at + length (numbers bits d) ≤ length (h .entries)
-      → (place ≡ size → h .table .at + length (numbers bits d) ≡ length (h .entries))
-      → fitAt bits (h .table .infinity) (h .table .at) (numbers bits d) (h .entries) ≡ true
+      → Awaits (h .table) place size bits → 1 ≤ place → place ≤ size → h .table .nextentry + length (numbers bits d) ≤ length (h .entries)
+      → (place ≡ size → h .table .nextentry + length (numbers bits d) ≡ length (h .entries))
+      → fitAt bits (h .table .infinity) (h .table .nextentry) (numbers bits d) (h .entries) ≡ true
       → Taken room h (update number (patchPayload place size bits d)) (patchBy h (patchPayload place size bits d))
   unfolding inRange
   patch-taken room number sixteen short a low high within last fit =
@@ -170,8 +170,8 @@ module _ {bits : ℕ} (w : Width bits) (size place : ℕ) (d : List ℕ) (h : He
 -- what a run of these parts needs of what is held, from `place` on: its numbers reach exactly to the end, and every sum fits
 pub record RunFits (bits size place : ℕ) (ds : List (List ℕ)) (h : Held) : Type 0 where
   pub awaits : Awaits (h .table) place size bits
-  pub long : h .table .at + length (numbers bits (joined ds)) ≡ length (h .entries)
-  pub fit : fitAt bits (h .table .infinity) (h .table .at) (numbers bits (joined ds)) (h .entries) ≡ true
+  pub long : h .table .nextentry + length (numbers bits (joined ds)) ≡ length (h .entries)
+  pub fit : fitAt bits (h .table .infinity) (h .table .nextentry) (numbers bits (joined ds)) (h .entries) ≡ true
 
 module _ {bits : ℕ} (w : Width bits) (room size : ℕ) (number : List ℕ) (sixteen : length number ≡ 16) where
   -- the last message
@@ -179,8 +179,8 @@ module _ {bits : ℕ} (w : Width bits) (room size : ℕ) (number : List ℕ) (si
       → RunFits bits size place (d ∷ []) h → Taken room h (update number (patchPayload place size bits d)) (settledTo bits (joined (d ∷ [])) h)
   unfolding joined
   run-last place d h low e short r =
-      let long : h .table .at + length (numbers bits d) ≡ length (h .entries) = rw (append-nil d) at (r .long) in
-      let fit : fitAt bits (h .table .infinity) (h .table .at) (numbers bits d) (h .entries) ≡ true = rw (append-nil d) at (r .fit) in
+      let long : h .table .nextentry + length (numbers bits d) ≡ length (h .entries) = rw (append-nil d) at (r .long) in
+      let fit : fitAt bits (h .table .infinity) (h .table .nextentry) (numbers bits d) (h .entries) ≡ true = rw (append-nil d) at (r .fit) in
       rw
       (append-nil d, ← patch-settles w size place d h e)
       (patch-taken w size place d h room number sixteen short (r .awaits) low (omega arith) (omega arith) (λ e. long) fit)
@@ -191,31 +191,31 @@ module _ {bits : ℕ} (w : Width bits) (room size : ℕ) (number : List ℕ) (si
     unfolding joined
     run-numbers = numbers-append w d (joined (e ∷ ds))
 
-    run-long : h .table .at + length (numbers bits d) + length (numbers bits (joined (e ∷ ds))) ≡ length (h .entries)
+    run-long : h .table .nextentry + length (numbers bits d) + length (numbers bits (joined (e ∷ ds))) ≡ length (h .entries)
     run-long =
-        let long : h .table .at + (length (numbers bits d) + length (numbers bits (joined (e ∷ ds)))) ≡ length (h .entries)
+        let long : h .table .nextentry + (length (numbers bits d) + length (numbers bits (joined (e ∷ ds)))) ≡ length (h .entries)
         = rw (run-numbers, length-append (numbers bits d) (numbers bits (joined (e ∷ ds)))) at (r .long) in
         omega arith
 
-    run-within : h .table .at + length (numbers bits d) ≤ length (h .entries)
-    run-within = let long : h .table .at + length (numbers bits d) + length (numbers bits (joined (e ∷ ds))) ≡ length (h .entries) = run-long in omega arith
+    run-within : h .table .nextentry + length (numbers bits d) ≤ length (h .entries)
+    run-within = let long : h .table .nextentry + length (numbers bits d) + length (numbers bits (joined (e ∷ ds))) ≡ length (h .entries) = run-long in omega arith
 
     -- what is left to add fits just as it did before this message
-    run-fit : (fitAt bits (h .table .infinity) (h .table .at) (numbers bits d) (h .entries)
-        && fitAt bits (h .table .infinity) (h .table .at + length (numbers bits d)) (numbers bits (joined (e ∷ ds))) (addedAt bits (h .table .at) (numbers bits d) (h .entries)))
+    run-fit : (fitAt bits (h .table .infinity) (h .table .nextentry) (numbers bits d) (h .entries)
+        && fitAt bits (h .table .infinity) (h .table .nextentry + length (numbers bits d)) (numbers bits (joined (e ∷ ds))) (addedAt bits (h .table .nextentry) (numbers bits d) (h .entries)))
         ≡ true
     run-fit =
-        fit-twice bits (h .table .at) (numbers bits d) (h .entries) run-within (h .table .infinity) (numbers bits (joined (e ∷ ds)))
+        fit-twice bits (h .table .nextentry) (numbers bits d) (h .entries) run-within (h .table .infinity) (numbers bits (joined (e ∷ ds)))
         ∙ (rw run-numbers at (r .fit))
 
     run-on : RunFits bits size (suc place) (e ∷ ds) (movedTo place size bits d h)
     run-on =
         record {
           awaits = record { open-to = refl; next = add-one place; alike = and-both (eq-eqb size size refl) (eq-eqb bits bits refl) };
-          long = rw (addedAt-length bits (h .table .at) (numbers bits d) (h .entries) run-within) run-long;
+          long = rw (addedAt-length bits (h .table .nextentry) (numbers bits d) (h .entries) run-within) run-long;
           fit = and-second
-              (fitAt bits (h .table .infinity) (h .table .at) (numbers bits d) (h .entries))
-              (fitAt bits (h .table .infinity) (h .table .at + length (numbers bits d)) (numbers bits (joined (e ∷ ds))) (addedAt bits (h .table .at) (numbers bits d) (h .entries)))
+              (fitAt bits (h .table .infinity) (h .table .nextentry) (numbers bits d) (h .entries))
+              (fitAt bits (h .table .infinity) (h .table .nextentry + length (numbers bits d)) (numbers bits (joined (e ∷ ds))) (addedAt bits (h .table .nextentry) (numbers bits d) (h .entries)))
               run-fit;
         }
 
@@ -240,13 +240,13 @@ module _ {bits : ℕ} (w : Width bits) (room size : ℕ) (number : List ℕ) (si
         run-within
         (λ q. absurd (omega arith))
         (and-first
-        (fitAt bits (h .table .infinity) (h .table .at) (numbers bits d) (h .entries))
-        (fitAt bits (h .table .infinity) (h .table .at + length (numbers bits d)) (numbers bits (joined (e ∷ ds))) (addedAt bits (h .table .at) (numbers bits d) (h .entries)))
+        (fitAt bits (h .table .infinity) (h .table .nextentry) (numbers bits d) (h .entries))
+        (fitAt bits (h .table .infinity) (h .table .nextentry + length (numbers bits d)) (numbers bits (joined (e ∷ ds))) (addedAt bits (h .table .nextentry) (numbers bits d) (h .entries)))
         run-fit))
 
     -- and it comes to the same
     run-same : settledTo bits (joined (e ∷ ds)) (movedTo place size bits d h) ≡ settledTo bits (joined (d ∷ e ∷ ds)) h
-    run-same = rw (run-numbers, added-twice bits (h .table .at) (numbers bits d) (h .entries) run-within (numbers bits (joined (e ∷ ds))))
+    run-same = rw (run-numbers, added-twice bits (h .table .nextentry) (numbers bits d) (h .entries) run-within (numbers bits (joined (e ∷ ds))))
 
   -- the messages of a run in turn: the table is settled, with all numbers of the run added
   pub run-read : (place : ℕ) (d : List ℕ) (ds : List (List ℕ)) (h : Held) → 1 ≤ place → place + length ds ≡ size

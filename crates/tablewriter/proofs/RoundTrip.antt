@@ -24,7 +24,7 @@ pub record From (h : Held) (base : List ℕ) (infinity : ℕ) : Type 0 where
   pub awaits : (size bits : ℕ) → Awaits (h .table) 1 size bits
   pub long : h .table .length ≡ length base
   pub limit : h .table .infinity ≡ infinity
-  pub at : h .table .at ≡ 0
+  pub at : h .table .nextentry ≡ 0
   pub entries : h .entries ≡ base
 
 from-old : (h : Held) (old : List ℕ) (infinity : ℕ) → Stands h old infinity → From h old infinity

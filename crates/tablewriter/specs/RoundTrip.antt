@@ -52,7 +52,7 @@ payloadsOf had old new infinity size =
 
 -- a settled table of these entries
 abbrev pub settledTable : ℕ → ℕ → Table
-settledTable n infinity = record { mark = settled; length = n; infinity = infinity; place = 1; size = 0; bits = 0; at = 0 }
+settledTable n infinity = record { mark = settled; length = n; infinity = infinity; nextplace = 1; runsize = 0; runbits = 0; nextentry = 0 }
 
 abbrev pub settledAs : List ℕ → ℕ → Held
 settledAs es infinity = record { table = settledTable (length es) infinity; entries = es }
@@ -62,8 +62,8 @@ pub record Stands (h : Held) (es : List ℕ) (infinity : ℕ) : Type 0 where
   pub mark : h .table .mark ≡ settled
   pub long : h .table .length ≡ length es
   pub limit : h .table .infinity ≡ infinity
-  pub place : h .table .place ≡ 1
-  pub at : h .table .at ≡ 0
+  pub place : h .table .nextplace ≡ 1
+  pub at : h .table .nextentry ≡ 0
   pub entries : h .entries ≡ es
 
 -- every message is answered 0, and this is held at last

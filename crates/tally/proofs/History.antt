@@ -36,7 +36,7 @@ bump-length counts a = by (ltb a answerCount)
 
 bump-sized : (counts : List ℕ) (a : ℕ) → Sized counts → Sized (bump counts a)
 unfolding oneMore
-bump-sized counts a s = record { nineteen = bump-length counts a ∙ s .nineteen; small = λ k h. rw (count-after counts a k (s .nineteen) h) (by (eqb a k) k h) }
+bump-sized counts a s = record { long = bump-length counts a ∙ s .long; small = λ k h. rw (count-after counts a k (s .long) h) (by (eqb a k) k h) }
   where
     by : (same : Bool) (k : ℕ) → k < answerCount → cond same (oneMore (getD counts k 0)) (getD counts k 0) ≤ full
     by true k h = omega arith
@@ -46,7 +46,7 @@ pub counts-exactly : CountsExactly
 unfolding bumps occurrences oneMore
 counts-exactly [] counts s k h = let c : getD counts k 0 ≤ full = s .small k h in omega arith
 counts-exactly (a ∷ ns) counts s k h =
-    counts-exactly ns (bump counts a) (bump-sized counts a s) k h ∙ rw (count-after counts a k (s .nineteen) h) (by (eqb a k))
+    counts-exactly ns (bump counts a) (bump-sized counts a s) k h ∙ rw (count-after counts a k (s .long) h) (by (eqb a k))
   where
     by : (same : Bool)
         → min full (cond same (oneMore (getD counts k 0)) (getD counts k 0) + occurrences k ns)
@@ -81,7 +81,7 @@ pub sum-grows : SumGrows
 unfolding bumps answers occurrences
 sum-grows [] counts s f = omega arith
 sum-grows (a ∷ ns) counts s f =
-    sum-grows ns (bump counts a) (bump-sized counts a s) f ∙ rw (sum-after counts a (s .nineteen) room) (by (ltb a answerCount))
+    sum-grows ns (bump counts a) (bump-sized counts a s) f ∙ rw (sum-after counts a (s .long) room) (by (ltb a answerCount))
   where
     room : a < answerCount → getD counts a 0 < full
     room h =
@@ -100,7 +100,7 @@ all-answers (a ∷ ns) h =
     rw (and-first (ltb a answerCount) (all (λ n. ltb n answerCount) ns) h) (ap suc (all-answers ns (and-second (ltb a answerCount) (all (λ n. ltb n answerCount) ns) h)))
 
 pub zeros-sized : Sized zeros
-zeros-sized = record { nineteen = refl; small = λ k h. rw (getD-replicate {A = ℕ} answerCount k 0 0 h) (omega arith) }
+zeros-sized = record { long = refl; small = λ k h. rw (getD-replicate {A = ℕ} answerCount k 0 0 h) (omega arith) }
 
 pub sum-is-messages : SumIsMessages
 unfolding sum

@@ -1,16 +1,20 @@
 -- Counts by computation.
 use mathlib.Core.Path.{_≡_, refl}
-use mathlib.Core.List.{[], _∷_, _++_, map}
+use Prim.Native.Nat.{ℕ, _-_}
+use mathlib.Core.List.{List, [], _∷_, _++_, map}
 use lib.ListN.{replicate}
-use Rattle.tally.specs.Counts.{full, oneMore, bump, bumps, sum}
+use Rattle.tally.specs.Counts.{answerCount, full, oneMore, bump, bumps, sum}
 use Rattle.tally.specs.History.{zeros}
 
--- the last number counts; 19 and 255 count nothing
-counts-few : bumps zeros (0 ∷ 18 ∷ 9 ∷ 0 ∷ 19 ∷ 255 ∷ 0 ∷ []) ≡ 3 ∷ (replicate 8 0 ++ (1 ∷ (replicate 8 0 ++ (1 ∷ []))))
+abbrev few : List ℕ
+few = 0 ∷ (answerCount - 1) ∷ 9 ∷ 0 ∷ answerCount ∷ 255 ∷ 0 ∷ []
+
+-- the last number counts; the one after it and 255 count nothing
+counts-few : bumps zeros few ≡ 3 ∷ (replicate 8 0 ++ (1 ∷ (replicate (answerCount - 11) 0 ++ (1 ∷ []))))
 unfolding oneMore bump bumps
 counts-few = refl
 
-sums-few : sum (bumps zeros (0 ∷ 18 ∷ 9 ∷ 0 ∷ 19 ∷ 255 ∷ 0 ∷ [])) ≡ 5
+sums-few : sum (bumps zeros few) ≡ 5
 unfolding oneMore bump bumps sum
 sums-few = refl
 

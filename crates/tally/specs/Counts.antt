@@ -6,7 +6,7 @@ use lib.Dec.{eqb, ltb}
 use lib.ListN.{getD, set}
 use Rattle.tally.specs.declared.Tally.{Tally}
 
--- how many answer numbers there are: 0 to 18
+-- how many answer numbers there are; the first is 0
 abbrev pub answerCount : ℕ
 answerCount = 19
 

@@ -8,9 +8,9 @@ use lib.ListN.{length, getD, replicate}
 use Rattle.laws.specs.Tests.{all}
 use Rattle.tally.specs.Counts.{answerCount, full, bumps, occurrences, answers, sum}
 
--- counts as the type has them: nineteen numbers of 32 bits
+-- counts as the type has them: one for each answer number, of 32 bits
 pub record Sized (counts : List ℕ) : Type 0 where
-  pub nineteen : length counts ≡ answerCount
+  pub long : length counts ≡ answerCount
   pub small : (k : ℕ) → k < answerCount → getD counts k 0 ≤ full
 
 abbrev pub NoneFull : List ℕ → Type 0

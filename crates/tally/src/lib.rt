@@ -1,29 +1,35 @@
-// The tally: one count for each of the answer numbers 0 to 18 (RULES 16). It stands beside the state.
+// The tally: one count for each answer number (RULES 16). It stands beside the state.
 ghost use mathlib.Core.Path.{_≡_};
 ghost use Rattle.tally.specs.Counts.{oneMore, counted as countedBy};
 
+// How many answer numbers there are; the first is 0.
+pub const ANSWERS: usize = 19;
+
+// A count that is full.
+const FULL: u32 = 4294967295;
+
 #[repr(C)]
 pub struct Tally {
-    pub counts: [u32; 19],
+    pub counts: [u32; ANSWERS],
 }
 
 // A count that is full stays.
 fn one_more(n: u32) -> u32
     ensures { λ r. ⌜ r ≡ oneMore n ⌝ }
 {
-    if n < 4294967295 {
+    if n < FULL {
         return n + 1;
     }
     n
 }
 
-// The tally after one more message with this answer. A number above 18 counts nothing.
+// The tally after one more message with this answer. A number that is no answer counts nothing.
 pub fn counted(t: Tally, answer: u8) -> Tally
     ensures { λ r. ⌜ r ≡ countedBy t answer ⌝ }
 {
     let mut new = t;
     let i = answer as usize;
-    if i < 19 {
+    if i < ANSWERS {
         let n = new.counts[i];
         new.counts[i] = one_more(n);
     }

@@ -60,10 +60,10 @@ fn table(v: [u32; 14]) -> Table {
         mark: byte(v[7]),
         length: v[8],
         infinity: byte(v[9]),
-        place: byte(v[10]),
-        size: byte(v[11]),
-        bits: byte(v[12]),
-        at: v[13],
+        nextplace: byte(v[10]),
+        runsize: byte(v[11]),
+        runbits: byte(v[12]),
+        nextentry: v[13],
     }
 }
 

@@ -11,10 +11,10 @@ fn none() -> Updated {
         mark: 0,
         length: 0,
         infinity: 0,
-        place: 0,
-        size: 0,
-        bits: 0,
-        at: 0,
+        nextplace: 0,
+        runsize: 0,
+        runbits: 0,
+        nextentry: 0,
     };
     Updated { answer: 0, table }
 }
@@ -51,10 +51,10 @@ fn run(line: &[u8], from: usize, ttl: u8, hops: u8, part: &mut [u8]) -> Updated 
 }
 
 fn run_position(t: Table) {
-    print::number(t.place as u64);
-    print::number(t.size as u64);
-    print::number(t.bits as u64);
-    print::number(t.at as u64);
+    print::number(t.nextplace as u64);
+    print::number(t.runsize as u64);
+    print::number(t.runbits as u64);
+    print::number(t.nextentry as u64);
 }
 
 fn table_words(t: Table) {

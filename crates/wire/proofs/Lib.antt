@@ -1,3 +1,4 @@
--- The laws of headers, and cases by computation.
+-- The laws of numbers and headers, and cases by computation.
+pub mod NumberLaws
 pub mod HeaderLaws
 pub mod Vectors

@@ -1,5 +1,5 @@
 -- The header of a message (RULES 6.1): number 16 bytes, type, TTL, Hops, payload length 4 bytes, little-endian; the payload from byte 23.
-use Prim.Native.Nat.{ℕ}
+use Prim.Native.Nat.{ℕ, _+_}
 use mathlib.Core.Bool.{cond}
 use mathlib.Core.List.{List, _∷_, _++_}
 use lib.Dec.{leb}
@@ -7,6 +7,32 @@ use lib.ListN.{length, getD, take, drop}
 use Rattle.laws.specs.Bytes.{little, littleBytes}
 use Rattle.laws.specs.Parts.{over}
 use Rattle.wire.specs.declared.Header.{Header}
+
+-- the types of messages
+abbrev pub pingType : ℕ
+pingType = 0x00
+
+abbrev pub pongType : ℕ
+pongType = 0x01
+
+abbrev pub routeUpdate : ℕ
+routeUpdate = 0x30
+
+abbrev pub queryType : ℕ
+queryType = 0x80
+
+abbrev pub hitType : ℕ
+hitType = 0x81
+
+-- how many bytes a header, the largest payload and the largest message have
+abbrev pub headerSize : ℕ
+headerSize = 23
+
+abbrev pub largestPayload : ℕ
+largestPayload = 4096
+
+abbrev pub largestMessage : ℕ
+largestMessage = headerSize + largestPayload
 
 -- read off a message
 abbrev pub numberOf : List ℕ → List ℕ
@@ -25,9 +51,9 @@ abbrev pub sizeOf : List ℕ → ℕ
 sizeOf m = little (take 4 (drop 19 m))
 
 abbrev pub payloadOf : List ℕ → List ℕ
-payloadOf m = take (sizeOf m) (drop 23 m)
+payloadOf m = take (sizeOf m) (drop headerSize m)
 
--- the header as it is read: the number as two little-endian halves, and the rest
+-- the whole header, the number as two little-endian halves; a byte that is not there counts 0
 abbrev pub headerIn : List ℕ → Header
 headerIn m =
     record {
@@ -39,32 +65,6 @@ headerIn m =
       size = sizeOf m;
     }
 
--- sizes: a header, the largest payload, and the two together
-abbrev pub headerSize : ℕ
-headerSize = 23
-
-abbrev pub largestPayload : ℕ
-largestPayload = 4096
-
-abbrev pub largestMessage : ℕ
-largestMessage = 4119
-
--- the types of messages
-abbrev pub pingType : ℕ
-pingType = 0x00
-
-abbrev pub pongType : ℕ
-pongType = 0x01
-
-abbrev pub routeUpdate : ℕ
-routeUpdate = 0x30
-
-abbrev pub queryType : ℕ
-queryType = 0x80
-
-abbrev pub hitType : ℕ
-hitType = 0x81
-
 -- written: the header of a payload of n bytes, and a whole message
 abbrev pub header : List ℕ → ℕ → ℕ → ℕ → ℕ → List ℕ
 header number kind ttl hops n = number ++ (kind ∷ ttl ∷ hops ∷ littleBytes 4 n)
@@ -74,4 +74,4 @@ message number kind ttl hops payload = header number kind ttl hops (length paylo
 
 -- an area with a header written at its front; one that has no room for it stays as it is
 unfoldable pub withHeader : List ℕ → ℕ → ℕ → ℕ → ℕ → List ℕ → List ℕ
-withHeader number kind ttl hops n out = cond (leb 23 (length out)) (over 0 (header number kind ttl hops n) out) out
+withHeader number kind ttl hops n out = cond (leb headerSize (length out)) (over 0 (header number kind ttl hops n) out) out

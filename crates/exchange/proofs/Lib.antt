@@ -1,5 +1,0 @@
--- The round trip through the station, and a session by computation.
-pub mod Feeding
-pub mod InTurn
-pub mod Exchange
-pub mod Session

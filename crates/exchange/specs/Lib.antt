@@ -1,3 +1,0 @@
--- Bytes handed to the station's message call, and the writer's bytes among them.
-pub mod Feeding
-pub mod Exchange

@@ -1,3 +1,0 @@
--- The tally over lists of calls: each count, and the sum of all.
-pub mod Tallied
-pub mod Vectors

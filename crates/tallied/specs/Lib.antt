@@ -1,2 +1,0 @@
--- The tally over lists of calls.
-pub mod Tallied

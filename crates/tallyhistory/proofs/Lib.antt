@@ -1,0 +1,3 @@
+-- The tally over lists of calls: each count, and the sum of all.
+pub mod Calls
+pub mod Vectors

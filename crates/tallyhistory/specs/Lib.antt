@@ -1,0 +1,2 @@
+-- The tally over lists of calls.
+pub mod Calls
