@@ -58,7 +58,7 @@ updateRules room h ttl hops p =
 -- the refusals of a message of each type: Ping 0x00, Pong 0x01, route update 0x30, Query 0x80, Query Hit 0x81
 abbrev pub typeRules : Station → ℕ → ℕ → List ℕ → List ℕ → List (Bool × ℕ)
 typeRules s l clock m route =
-    cond (eqb (kindOf m) 0x00) (pingRules (lineAt s l) clock (headerIn m))
+    cond (eqb (kindOf m) 0x00) (pingRules (lineAt s l .pinged) (lineAt s l .pingtime) clock (headerIn m))
     (cond (eqb (kindOf m) 0x01) (pongRules (headerIn m))
     (cond (eqb (kindOf m) 0x30) (updateRules (s .room) (heldAt s l route) (ttlOf m) (hopsOf m) (payloadOf m))
     (cond (eqb (kindOf m) 0x80) (queryRules usualLimit (headerIn m) (hasText (payloadOf m)) (lookedUp s (numberIn m)))

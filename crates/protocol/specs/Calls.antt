@@ -29,7 +29,7 @@ use Rattle.protocol.specs.Lines.{lineCount, emptyLine, withTable, heldBy
 use Rattle.protocol.specs.State.{Station, Change, stationOf, lineAt, withLine, withMemory, lookedUp}
 use Rattle.protocol.specs.Order.{inOrder}
 use Rattle.protocol.specs.Outcomes.{Terms, Outcome, Step, quiet, sends, refusedOr, writtenFor, pickResult, stored, reportOf, usedOf}
-use Rattle.protocol.specs.Queries.{usualLimit, queryStep, ownTo, ownBytes}
+use Rattle.protocol.specs.Queries.{usualLimit, queryStep, ownLines, ownBytes}
 use Rattle.protocol.specs.Hits.{hitStep}
 use Rattle.protocol.specs.Pings.{pingStep, pongStep}
 
@@ -145,7 +145,8 @@ ownAnswer s number text out route =
 
 abbrev pub ownTaken : ℕ → Station → List ℕ → List ℕ → List ℕ → Outcome
 ownTaken limit s number text route =
-    sends (ownTo limit (s .room) (s .lines) text route) (writtenFor (ownTo limit (s .room) (s .lines) text route) (ownBytes limit number text))
+    sends (ownLines limit (s .room) (s .lines) text route)
+    (writtenFor (ownLines limit (s .room) (s .lines) text route) (ownBytes limit number text))
     (quiet 0 (withMemory s (remember capacity (s .memory) (numberIn number) here)) route)
 
 unfoldable pub asking : ℕ → Station → List ℕ → List ℕ → ℕ → List ℕ → Outcome

@@ -15,7 +15,7 @@ abbrev pub emptyWhenClosed : Line → Bool
 emptyWhenClosed x = x .live || (eqb (x .table .mark) none && (eqb (x .pongcount) 0 && not (x .pinged)))
 
 -- the kept pongs have allowed Hops
-unfoldable pub lowHops : Line → Bool
+abbrev pub lowHops : Line → Bool
 lowHops x = all (λ p. leb (p .hops) pongHops) (storedPongs x)
 
 unfoldable pub lineInOrder : ℕ → Line → Bool

@@ -20,11 +20,12 @@ abbrev pub isProbe : Header → Bool
 isProbe h = eqb (h .ttl) 1 && leb (h .hops) 1
 
 -- too soon after the last accepted ping of the line
-abbrev pub tooSoon : Line → ℕ → Bool
-tooSoon x clock = x .pinged && ltb (elapsed clock (x .pingtime)) 1000
+abbrev pub tooSoon : Bool → ℕ → ℕ → Bool
+tooSoon pinged time clock = pinged && ltb (elapsed clock time) 1000
 
-abbrev pub pingRules : Line → ℕ → Header → List (Bool × ℕ)
-pingRules x clock h = (eqb (h .ttl) 0, 8) ∷ (not (isProbe h) && tooSoon x clock, 13) ∷ []
+-- given whether a ping of the line was accepted, and when
+abbrev pub pingRules : Bool → ℕ → ℕ → Header → List (Bool × ℕ)
+pingRules pinged time clock h = (eqb (h .ttl) 0, 8) ∷ (not (isProbe h) && tooSoon pinged time clock, 13) ∷ []
 
 -- the pong at this rank of a newest-first list, if there is one
 abbrev pub ranked : ℕ → List Pong → List Pong
@@ -99,7 +100,8 @@ pingTaken lines l t m route =
 -- a ping by line l
 unfoldable pub pingStep : List Line → ℕ → Terms → List ℕ → List ℕ → Step
 pingStep lines l t m route =
-    refusedOr (firstOf (pingRules (lineIn lines l) (t .clock) (headerIn m))) (record { line = lineIn lines l; taken = false }) route
+    refusedOr (firstOf (pingRules (lineIn lines l .pinged) (lineIn lines l .pingtime) (t .clock) (headerIn m)))
+    (record { line = lineIn lines l; taken = false }) route
     (pingTaken lines l t m route)
 
 -- an arriving pong: its first 14 bytes are stored; the eleventh takes the oldest's place

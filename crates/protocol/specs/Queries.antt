@@ -60,15 +60,17 @@ passes live t text ttl = live && not (withholds t (keywordsOf text) ttl)
 abbrev pub goesOn : ℕ → ℕ → ℕ → Bool → Held → List ℕ → Bool
 goesOn life l k live t text = isOther l k && (leb 2 life && passes live t text (life - 1))
 
-abbrev pub queryTo : ℕ → ℕ → List Line → ℕ → List ℕ → List ℕ → List Bool
-queryTo life room lines l text route = eachLine (λ k. goesOn life l k (lineIn lines k .live) (heldFor room lines k route) text)
+-- the lines it goes on to, given which are open, and their tables
+abbrev pub queryTo : ℕ → ℕ → (ℕ → Bool) → (ℕ → Held) → List ℕ → List Bool
+queryTo life l live tables text = eachLine (λ k. goesOn life l k (live k) (tables k) text)
 
 abbrev pub queryOn : ℕ → List ℕ → List ℕ
 queryOn limit m = message (numberOf m) queryType (lifeOf limit (headerIn m) - 1) (headerIn m .hops + 1) (payloadOf m)
 
 -- the lines that an arriving query goes on to
 abbrev pub queryLines : ℕ → ℕ → List Line → ℕ → List ℕ → List ℕ → List Bool
-queryLines limit room lines l m route = queryTo (lifeOf limit (headerIn m)) room lines l (textIn (payloadOf m)) route
+queryLines limit room lines l m route =
+    queryTo (lifeOf limit (headerIn m)) l (λ k. lineIn lines k .live) (λ k. heldFor room lines k route) (textIn (payloadOf m))
 
 -- a taken query is remembered with its line and offered to the local search; the text begins after the header and the speed
 abbrev pub queryTaken : ℕ → ℕ → List Line → ℕ → List ℕ → List ℕ → Step
@@ -90,5 +92,8 @@ ownPayload text = 0 ∷ 0 ∷ (text ++ (0 ∷ []))
 abbrev pub ownBytes : ℕ → List ℕ → List ℕ → List ℕ
 ownBytes limit number text = message number queryType limit 0 (ownPayload text)
 
-abbrev pub ownTo : ℕ → ℕ → List Line → List ℕ → List ℕ → List Bool
-ownTo limit room lines text route = eachLine (λ k. passes (lineIn lines k .live) (heldFor room lines k route) text limit)
+abbrev pub ownTo : ℕ → (ℕ → Bool) → (ℕ → Held) → List ℕ → List Bool
+ownTo limit live tables text = eachLine (λ k. passes (live k) (tables k) text limit)
+
+abbrev pub ownLines : ℕ → ℕ → List Line → List ℕ → List ℕ → List Bool
+ownLines limit room lines text route = ownTo limit (λ k. lineIn lines k .live) (λ k. heldFor room lines k route) text
