@@ -43,17 +43,17 @@ module _ (L room : ℕ) (o : Outcome) (e : Expected) (us : List Update) (q : Acc
       go : (b : Bool) → unsent (o .answer) ≡ b → Accounts (feed L room (closes l) (unsent (o .answer)) e .held) (noted L (Close l) (o .answer) us)
       go true z = rw (z, unsent-refused (o .answer) z, and-false) q
       go false z = rw (z, h z) (anew l false)
-  account-call (Message l clock own m out a) h = go (unsent (o .answer)) refl (isUpdateOf L l m) refl
+  account-call (Message l m t a) h = go (unsent (o .answer)) refl (isUpdateOf L l m) refl
     where
       go : (b : Bool) → unsent (o .answer) ≡ b → (u : Bool) → isUpdateOf L l m ≡ u
-          → Accounts (feed L room (brings l m) (unsent (o .answer)) e .held) (noted L (Message l clock own m out a) (o .answer) us)
+          → Accounts (feed L room (brings l m) (unsent (o .answer)) e .held) (noted L (Message l m t a) (o .answer) us)
       go true z u i = rw (z, and-false) q
       go false z false i = rw (z, i) q
       go false z true i =
           rw (z, i)
           (subst (λ (n : ℕ). Accounts (updated room (e .held) (ttlOf m) (hopsOf m) (payloadOf m)) (update (payloadOf m) n ∷ us)) (sym (h .0 z i .0))
           (after-update (e .held) us q (payloadOf m) room (ttlOf m) (hopsOf m)))
-  account-call (Ask number text out a) h = go (unsent (o .answer))
+  account-call (Ask number text t a) h = go (unsent (o .answer))
     where
       go : (b : Bool) → Accounts (feed L room asks b e .held) us
       go true = q

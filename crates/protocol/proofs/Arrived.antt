@@ -86,7 +86,7 @@ module _ (s : Station) (o : inOrder s ≡ true) (l : ℕ) (m : List ℕ) (out : 
   rules = earlyRules s l m out (length route)
 
   abbrev refusal : ℕ
-  refusal = early s l m out (length route)
+  refusal = early s l m (t .out) (length route)
 
   pub arrived-of : refusal ≡ 0 → Arrived s l m out route
   unfolding early
@@ -114,10 +114,10 @@ module _ (s : Station) (o : inOrder s ≡ true) (l : ℕ) (m : List ℕ) (out : 
 
   module _ (clock : ℕ) (own : Own) where
     abbrev outcome : Outcome
-    outcome = messageOutcome s l clock own m out route
+    outcome = messageOutcome s l m t route
 
     abbrev byItsType : Outcome
-    byItsType = byType usualLimit s l clock own m route
+    byItsType = arrived usualLimit s l m t route
 
     pub by-type : Arrived s l m out route → outcome ≡ byItsType
     unfolding arriving

@@ -31,8 +31,8 @@ Taking n shut log x l e = (shut l ≡ false) × Brought n log x l e
 took-unclosed : (c : Call) (n l : ℕ) → took c n ≡ true → closed c n l ≡ false
 took-unclosed (Open k) n l t = refl
 took-unclosed (Close k) n l t = absurd (clash t refl)
-took-unclosed (Message k clock own m out a) n l t = refl
-took-unclosed (Ask number text out a) n l t = refl
+took-unclosed (Message k m t a) n l t = refl
+took-unclosed (Ask number text t a) n l t = refl
 
 module _ (d : Made) (ds : List Made) (shut : ℕ → Bool) (x : Number) (l e : ℕ) where
   abbrev brought : Past
@@ -153,7 +153,7 @@ module _ (w : World) (v : Invariant [] w) where
 
   back-only : BackOnly w
   back-only l clock own m out a k kind h t =
-      let q = routed-to l m out (lent a (w .area)) (outcomeOf w (Message l clock own m out a)) k (message-routed [] w v l clock own m out (lent a (w .area))) kind h t in
+      let q = routed-to l m out (lent a (w .area)) (outcomeOf w (Message l m t a)) k (message-routed [] w v l clock own m out (lent a (w .area))) kind h t in
       back-from (numberIn m) k (q .0) (q .1)
 
 -- from a fresh state

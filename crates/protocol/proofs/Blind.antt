@@ -17,7 +17,7 @@ use Rattle.protocol.specs.State.{Station, lineAt, withLine, heldAt}
 use Rattle.protocol.specs.declared.Own.{Own}
 use Rattle.protocol.specs.Memory.{Found, numberIn}
 use Rattle.protocol.specs.Lines.{withPong}
-use Rattle.protocol.specs.Outcomes.{Outcome, quiet, refusedOr, pickOutcome}
+use Rattle.protocol.specs.Outcomes.{Outcome, quiet, refusedOr, pickResult}
 use Rattle.protocol.specs.Queries.{usualLimit, queryRules, queryTaken, queryOutcome}
 use Rattle.protocol.specs.Hits.{hitRules, hitFound, hitTaken, hitOutcome}
 use Rattle.protocol.specs.Pings.{pingRules, pingTaken, pingOutcome, pongRules, arrivedPong, pongOutcome}
@@ -143,7 +143,7 @@ first-append (c ∷ cs) ds p = go (first-append cs ds (and-snd (leb 1 (c .1)) (a
 refused-answer : (n : ℕ) (s : Station) (route : List ℕ) (o : Outcome) → refusedOr n s route o .answer ≡ cond (eqb n 0) (o .answer) n
 refused-answer n s route o = go (eqb n 0)
   where
-    go : (b : Bool) → pickOutcome b o (quiet n s route) .answer ≡ cond b (o .answer) n
+    go : (b : Bool) → pickResult b o (quiet n s route) .answer ≡ cond b (o .answer) n
     go true = refl
     go false = refl
 
@@ -153,7 +153,7 @@ refused-taken n s route o e =
 
 -- one type or the others
 one-type : (b : Bool) (x y : Outcome) (t : Bool) (cs ds : List (Bool × ℕ)) → x .answer ≡ firstOf cs → y .answer ≡ firstOf ((not t, 7) ∷ ds)
-    → pickOutcome b x y .answer ≡ firstOf ((not (b || t), 7) ∷ cond b cs ds)
+    → pickResult b x y .answer ≡ firstOf ((not (b || t), 7) ∷ cond b cs ds)
 one-type true x y t cs ds e f = e
 one-type false x y t cs ds e f = f
 
@@ -178,7 +178,7 @@ module _ (s : Station) (l clock : ℕ) (own : Own) (m route : List ℕ) where
   unfolding hitOutcome
   hit-number = refused-taken (firstOf (hitRules (hitFound s m) m)) s route (hitTaken s (hitFound s m) m route) refl
 
-  pub type-number : byType usualLimit s l clock own m route .answer ≡ firstOf ((unnamed m, 7) ∷ typeRules s l clock m route)
+  pub type-number : arrived usualLimit s l m t route .answer ≡ firstOf ((unnamed m, 7) ∷ typeRules s l clock m route)
   unfolding byType
   type-number =
       one-type (eqb (kindOf m) pingType) _ _ _ _ _ ping-number
@@ -190,6 +190,6 @@ module _ (s : Station) (l clock : ℕ) (own : Own) (m route : List ℕ) where
 pub numbers : Numbers
 unfolding arriving early
 numbers s l clock own m out route =
-    refused-answer (firstOf (earlyRules s l m out (length route))) s route (byType usualLimit s l clock own m route)
+    refused-answer (firstOf (earlyRules s l m out (length route))) s route (arrived usualLimit s l m t route)
     ∙ ap (λ n. cond (eqb (firstOf (earlyRules s l m out (length route))) 0) n (firstOf (earlyRules s l m out (length route)))) (type-number s l clock own m route)
     ∙ sym (first-append (earlyRules s l m out (length route)) ((unnamed m, 7) ∷ typeRules s l clock m route) refl)

@@ -102,12 +102,12 @@ quiet-noHit kind n s route = record { sent = writes-none kind; delivered = refl 
 quiet-silent : (n : ℕ) (s : Station) (route : List ℕ) → Silent (quiet n s route)
 quiet-silent n s route = silent-of (quiet n s route) n s route refl
 
-module _ (s : Station) (l clock : ℕ) (own : Own) (m : List ℕ) (out : ℕ) (route : List ℕ) where
+module _ (s : Station) (l : ℕ) (m : List ℕ) (t : Terms) (route : List ℕ) where
   abbrev refusal : ℕ
-  refusal = early s l m out (length route)
+  refusal = early s l m (t .out) (length route)
 
   -- pongs, updates and unnamed types
-  types-silent : (kindOf m ≡ 0x00 → ⊥) → (kindOf m ≡ 0x80 → ⊥) → (kindOf m ≡ 0x81 → ⊥) → Silent (byType usualLimit s l clock own m route)
+  types-silent : (kindOf m ≡ 0x00 → ⊥) → (kindOf m ≡ 0x80 → ⊥) → (kindOf m ≡ 0x81 → ⊥) → Silent (arrived usualLimit s l m t route)
   unfolding byType pongOutcome updateOutcome
   types-silent np nq nh =
       of-pick Silent (eqb (kindOf m) pingType) _ _
@@ -124,10 +124,10 @@ module _ (s : Station) (l clock : ℕ) (own : Own) (m : List ℕ) (out : ℕ) (r
       (λ k. absurd (nh (eqb-true (kindOf m) hitType k)))
       (λ _. quiet-silent 7 s route)))))
 
-  message-silent : (kindOf m ≡ 0x00 → ⊥) → (kindOf m ≡ 0x80 → ⊥) → (kindOf m ≡ 0x81 → ⊥) → Silent (messageOutcome s l clock own m out route)
+  message-silent : (kindOf m ≡ 0x00 → ⊥) → (kindOf m ≡ 0x80 → ⊥) → (kindOf m ≡ 0x81 → ⊥) → Silent (messageOutcome s l m t route)
   unfolding arriving
   message-silent np nq nh =
-      of-refused Silent refusal s route (byType usualLimit s l clock own m route)
+      of-refused Silent refusal s route (arrived usualLimit s l m t route)
       (λ _. types-silent np nq nh)
       (λ _. quiet-silent refusal s route)
 
@@ -151,18 +151,18 @@ module _ (s : Station) (l clock : ℕ) (own : Own) (m : List ℕ) (out : ℕ) (r
       })
       (λ _. quiet-noHit 0x80 (firstOf (queryRules usualLimit s m)) s route)
 
-  queries-noHit : inOrder s ≡ true → kindOf m ≡ 0x80 → NoHit 0x80 (messageOutcome s l clock own m out route)
+  queries-noHit : inOrder s ≡ true → kindOf m ≡ 0x80 → NoHit 0x80 (messageOutcome s l m t route)
   unfolding arriving
   queries-noHit o k =
-      of-refused (NoHit 0x80) refusal s route (byType usualLimit s l clock own m route)
+      of-refused (NoHit 0x80) refusal s route (arrived usualLimit s l m t route)
       (λ e. rw (by-query s o l m out route clock own k) (query-noHit (let-in s l m out (length route) e)))
       (λ _. quiet-noHit 0x80 refusal s route)
 
   -- a ping writes pongs or nothing
-  pings-noHit : Sized s → inOrder s ≡ true → kindOf m ≡ 0x00 → length (own .address) ≡ 4 → NoHit 0x01 (messageOutcome s l clock own m out route)
+  pings-noHit : Sized s → inOrder s ≡ true → kindOf m ≡ 0x00 → length (own .address) ≡ 4 → NoHit 0x01 (messageOutcome s l m t route)
   unfolding arriving
   pings-noHit z o k four =
-      of-refused (NoHit 0x01) refusal s route (byType usualLimit s l clock own m route)
+      of-refused (NoHit 0x01) refusal s route (arrived usualLimit s l m t route)
       (λ e. rw (by-ping s o l m out route clock own k) (ping-noHit s z m (number-length (let-in s l m out (length route) e)) l clock own route four))
       (λ _. quiet-noHit 0x01 refusal s route)
 
@@ -190,7 +190,7 @@ module _ (s : Station) (o : inOrder s ≡ true) (l : ℕ) (m : List ℕ) (out : 
   badLife = eqb (ttlOf m) 0 || (ltb 15 (ttlOf m) || leb usualLimit (hopsOf m))
 
   record Tests : Type 0 where
-    pub early′ : early s l m out (length route) ≡ 0
+    pub early′ : early s l m (t .out) (length route) ≡ 0
     pub text : badText ≡ false
     pub life : badLife ≡ false
 
@@ -217,26 +217,26 @@ module _ (s : Station) (o : inOrder s ≡ true) (l : ℕ) (m : List ℕ) (out : 
 
   -- the answer of an arriving query
   answer-query : (clock : ℕ) (own : Own) → kindOf m ≡ 0x80
-      → messageOutcome s l clock own m out route .answer ≡ cond (eqb (early s l m out (length route)) 0) (firstOf (queryRules usualLimit s m)) (early s l m out (length route))
+      → messageOutcome s l m t route .answer ≡ cond (eqb (early s l m (t .out) (length route)) 0) (firstOf (queryRules usualLimit s m)) (early s l m (t .out) (length route))
   unfolding arriving queryOutcome
   answer-query clock own k =
-      let n : ℕ = early s l m out (length route) in
-      of-refused (λ (r : Outcome). r .answer ≡ cond (eqb n 0) (firstOf (queryRules usualLimit s m)) n) n s route (byType usualLimit s l clock own m route)
+      let n : ℕ = early s l m (t .out) (length route) in
+      of-refused (λ (r : Outcome). r .answer ≡ cond (eqb n 0) (firstOf (queryRules usualLimit s m)) n) n s route (arrived usualLimit s l m t route)
       (λ e. ap (λ (r : Outcome). r .answer) (by-query s o l m out route clock own k)
       ∙ answer-taken (firstOf (queryRules usualLimit s m)) s route (queryTaken usualLimit s l m route) refl
       ∙ sym (ap (λ b. cond b (firstOf (queryRules usualLimit s m)) n) (eq-eqb n 0 e)))
       (λ ne. sym (ap (λ b. cond b (firstOf (queryRules usualLimit s m)) n) (ne-eqb n 0 ne)))
 
   -- an answer that no early refusal gives
-  let-through : (r k : ℕ) → unsent k ≡ false → cond (eqb (early s l m out (length route)) 0) r (early s l m out (length route)) ≡ k → (early s l m out (length route) ≡ 0) × (r ≡ k)
-  let-through r k u e = go (eqb (early s l m out (length route)) 0) refl
+  let-through : (r k : ℕ) → unsent k ≡ false → cond (eqb (early s l m (t .out) (length route)) 0) r (early s l m (t .out) (length route)) ≡ k → (early s l m (t .out) (length route) ≡ 0) × (r ≡ k)
+  let-through r k u e = go (eqb (early s l m (t .out) (length route)) 0) refl
     where
-      go : (b : Bool) → eqb (early s l m out (length route)) 0 ≡ b → (early s l m out (length route) ≡ 0) × (r ≡ k)
-      go true z = (eqb-true (early s l m out (length route)) 0 z, rw z at e)
-      go false z = absurd (clash (early-unsent s l m out (length route) (eqb-false (early s l m out (length route)) 0 z)) (ap unsent (rw z at e) ∙ u))
+      go : (b : Bool) → eqb (early s l m (t .out) (length route)) 0 ≡ b → (early s l m (t .out) (length route) ≡ 0) × (r ≡ k)
+      go true z = (eqb-true (early s l m (t .out) (length route)) 0 z, rw z at e)
+      go false z = absurd (clash (early-unsent s l m out (length route) (eqb-false (early s l m (t .out) (length route)) 0 z)) (ap unsent (rw z at e) ∙ u))
 
   query-answered : (clock : ℕ) (own : Own) (from : Origin) → seen s (numberIn m) ≡ known from → kindOf m ≡ 0x80
-      → Answered (Acceptable s l m out route) from (messageOutcome s l clock own m out route)
+      → Answered (Acceptable s l m out route) from (messageOutcome s l m t route)
   query-answered clock own from v k =
       record {
         taken = (
@@ -245,7 +245,7 @@ module _ (s : Station) (o : inOrder s ≡ true) (l : ℕ) (m : List ℕ) (out : 
               (acceptable-of (record { early′ = p .0; text = q .0; life = q .1 .0 }), unknown-of from (sym v ∙ q .1 .1 .0))),
           (λ a. let t = tests-of (a .0) in
               answer-query clock own k
-              ∙ ap (λ b. cond b (firstOf (queryRules usualLimit s m)) (early s l m out (length route))) (eq-eqb (early s l m out (length route)) 0 (t .early′))
+              ∙ ap (λ b. cond b (firstOf (queryRules usualLimit s m)) (early s l m (t .out) (length route))) (eq-eqb (early s l m (t .out) (length route)) 0 (t .early′))
               ∙ none-refused (queryRules usualLimit s m) (t .text, (t .life, (v ∙ ap known (a .1), (rises (a .0), tt))))),
         );
         repeats = (
@@ -256,7 +256,7 @@ module _ (s : Station) (o : inOrder s ≡ true) (l : ℕ) (m : List ℕ) (out : 
               (acceptable-of (record { early′ = p .0; text = a .0; life = b .0 }), λ z. clash (sym v ∙ c) (ap known z))),
           (λ a. let t = tests-of (a .0) in
               answer-query clock own k
-              ∙ ap (λ b. cond b (firstOf (queryRules usualLimit s m)) (early s l m out (length route))) (eq-eqb (early s l m out (length route)) 0 (t .early′))
+              ∙ ap (λ b. cond b (firstOf (queryRules usualLimit s m)) (early s l m (t .out) (length route))) (eq-eqb (early s l m (t .out) (length route)) 0 (t .early′))
               ∙ rw (t .text, t .life, v, known-if from (a .1))),
         );
       }
@@ -268,10 +268,10 @@ module _ (s : Station) (o : inOrder s ≡ true) (l : ℕ) (m : List ℕ) (out : 
       last true z = absurd (omega arith)
       last false z = absurd (omega arith)
 
-  goes-to : (clock : ℕ) (own : Own) → kindOf m ≡ 0x80 → messageOutcome s l clock own m out route .answer ≡ 0 → QueryTo s route l m (messageOutcome s l clock own m out route)
+  goes-to : (clock : ℕ) (own : Own) → kindOf m ≡ 0x80 → messageOutcome s l m t route .answer ≡ 0 → QueryTo s route l m (messageOutcome s l m t route)
   unfolding arriving queryOutcome
   goes-to clock own k =
-      of-refused (λ r. r .answer ≡ 0 → QueryTo s route l m r) (early s l m out (length route)) s route (byType usualLimit s l clock own m route)
+      of-refused (λ r. r .answer ≡ 0 → QueryTo s route l m r) (early s l m (t .out) (length route)) s route (arrived usualLimit s l m t route)
       (λ _. rw (by-query s o l m out route clock own k)
       (of-refused (λ r. r .answer ≡ 0 → QueryTo s route l m r) (firstOf (queryRules usualLimit s m)) s route (queryTaken usualLimit s l m route)
       (λ _ _. query-to s route l m)
@@ -352,24 +352,24 @@ module _ (w : World) (m route : List ℕ) (f : Found) where
 
 -- Every call, and every list
 module _ (base : List Query) (w : World) (v : Invariant base w) where
-  module _ (l clock : ℕ) (own : Own) (m : List ℕ) (out : ℕ) (route : List ℕ) where
-    message-hit : kindOf m ≡ 0x81 → Arrived (w .state) l m out route → HitRouted (origin (w .log) base (numberIn m)) w m (messageOutcome (w .state) l clock own m out route)
+  module _ (l : ℕ) (m : List ℕ) (t : Terms) (route : List ℕ) where
+    message-hit : kindOf m ≡ 0x81 → Arrived (w .state) l m out route → HitRouted (origin (w .log) base (numberIn m)) w m (messageOutcome (w .state) l m t route)
     unfolding hitOutcome
     message-hit k a =
         rw (by-type (w .state) (v .order) l m out route clock own a ∙ by-hit (w .state) (v .order) l m out route clock own k)
         (hit-routed w m route (hitFound (w .state) m) (origin (w .log) base (numberIn m)) (looked-up base w v (numberIn m)) (λ l n. v .since (λ _. false) capacity (numberIn m) l n))
 
-    message-ping : kindOf m ≡ 0x00 → Arrived (w .state) l m out route → PingRouted (w .state) l clock own m (messageOutcome (w .state) l clock own m out route)
+    message-ping : kindOf m ≡ 0x00 → Arrived (w .state) l m out route → PingRouted (w .state) l clock own m (messageOutcome (w .state) l m t route)
     message-ping k a =
         rw (by-type (w .state) (v .order) l m out route clock own a ∙ by-ping (w .state) (v .order) l m out route clock own k)
         (ping-routed (w .state) (v .sized) l (a .line) clock own m route)
 
-    message-pong : kindOf m ≡ 0x01 → Arrived (w .state) l m out route → PongRouted (w .state) l clock m (messageOutcome (w .state) l clock own m out route)
+    message-pong : kindOf m ≡ 0x01 → Arrived (w .state) l m out route → PongRouted (w .state) l clock m (messageOutcome (w .state) l m t route)
     message-pong k a =
         rw (by-type (w .state) (v .order) l m out route clock own a ∙ by-pong (w .state) (v .order) l m out route clock own k)
         (pong-routed (w .state) (v .sized) (v .order) l (a .line) clock m route)
 
-    pub message-routed : MessageRouted base w l m out route (messageOutcome (w .state) l clock own m out route)
+    pub message-routed : MessageRouted base w l m out route (messageOutcome (w .state) l m t route)
     message-routed =
         record {
           arrives = sent-if-arrived (w .state) (v .order) l m out route clock own;
@@ -388,7 +388,7 @@ module _ (base : List Query) (w : World) (v : Invariant base w) where
           refused = λ ne. silent-of _ _ _ _ (refusal-frame .calls (w .state) .message l clock own m out route ne);
         }
 
-    pings-routed : PingsRouted (w .state) l clock own m out route (messageOutcome (w .state) l clock own m out route)
+    pings-routed : PingsRouted (w .state) l clock own m out route (messageOutcome (w .state) l m t route)
     pings-routed =
         record {
           ping = message-ping;
@@ -399,8 +399,8 @@ module _ (base : List Query) (w : World) (v : Invariant base w) where
   routed : (c : Call) → Routed base w c (outcomeOf w c)
   routed (Open l) = open-routed (w .state) (v .sized) (v .order) l
   routed (Close l) = close-routed (w .state) (v .sized) (v .order) l
-  routed (Message l clock own m out a) = (message-routed l clock own m out (lent a (w .area)), pings-routed l clock own m out (lent a (w .area)))
-  routed (Ask number text out a) =
+  routed (Message l m t a) = (message-routed l clock own m out (lent a (w .area)), pings-routed l clock own m out (lent a (w .area)))
+  routed (Ask number text t a) =
       let route : List ℕ = lent a (w .area) in
       record {
         query = own-answered (w .state) (v .order) number text out route (origin (w .log) base (numberIn number)) (looked-up base w v (numberIn number) .found);

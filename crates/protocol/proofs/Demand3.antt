@@ -228,7 +228,7 @@ module _ (L room : ℕ) (seven : L ≤ 7) (e : Expected) (us : List Update) (t :
 
   -- an arriving message
   types-good : (l clock : ℕ) (own : Own) (m : List ℕ) (out : ℕ) → LetIn s l m (length area)
-      → Good L room (Message l clock own m out Same) e us area (byType usualLimit s l clock own m area)
+      → Good L room (Message l clock own m out Same) e us area (arrived usualLimit s l m t area)
   unfolding byType
   types-good l clock own m out d =
       of-pick (λ o. Good L room (Message l clock own m out Same) e us area o) (eqb (kindOf m) pingType) _ _
@@ -244,19 +244,19 @@ module _ (L room : ℕ) (seven : L ≤ 7) (e : Expected) (us : List Update) (t :
       (λ _. unknown-good l clock own m out u)))))
 
   -- an area of another room is refused
-  passed-good : (l clock : ℕ) (own : Own) (m : List ℕ) (out : ℕ) (a : Area) → FairArea room a → early s l m out (length (lent a area)) ≡ 0
-      → Good L room (Message l clock own m out a) e us area (byType usualLimit s l clock own m (lent a area))
+  passed-good : (l : ℕ) (m : List ℕ) (t : Terms) (a : Area) → FairArea room a → early s l m out (length (lent a area)) ≡ 0
+      → Good L room (Message l m t a) e us area (byType usualLimit s l clock own m (lent a area))
   passed-good l clock own m out Same f z = types-good l clock own m out (let-in s l m out (length area) z)
   passed-good l clock own m out (Other x) f z = absurd (f (let-in s l m out (length x) z .room ∙ q .sameRoom))
 
-  message-good : (l clock : ℕ) (own : Own) (m : List ℕ) (out : ℕ) (a : Area) → FairArea room a
-      → Good L room (Message l clock own m out a) e us area (messageOutcome s l clock own m out (lent a area))
+  message-good : (l : ℕ) (m : List ℕ) (t : Terms) (a : Area) → FairArea room a
+      → Good L room (Message l m t a) e us area (messageOutcome s l m t (lent a area))
   unfolding arriving
   message-good l clock own m out a f =
-      of-refused (λ o. Good L room (Message l clock own m out a) e us area o) (early s l m out (length (lent a area))) s (lent a area) (byType usualLimit s l clock own m (lent a area))
+      of-refused (λ o. Good L room (Message l m t a) e us area o) (early s l m out (length (lent a area))) s (lent a area) (byType usualLimit s l clock own m (lent a area))
       (λ z. passed-good l clock own m out a f z)
       (λ n. let u : unsent (early s l m out (length (lent a area))) ≡ true = early-unsent s l m out (length (lent a area)) n in (
-        rw (feed-unsent L room (Message l clock own m out a) (early s l m out (length (lent a area))) e u, kept-lent a area) q,
+        rw (feed-unsent L room (Message l m t a) (early s l m out (length (lent a area))) e u, kept-lent a area) q,
         ((λ v. absurd (clash u v)), (λ z. absurd (n z))),
       ))
 
@@ -265,7 +265,7 @@ module _ (L room : ℕ) (seven : L ≤ 7) (e : Expected) (us : List Update) (t :
   own-same text = read-same (λ b h. passes b h text usualLimit) (λ h. refl)
 
   asked-good : (number text : List ℕ) (out : ℕ) (a : Area) → FairArea room a → firstOf (ownRules s number text out (length (lent a area))) ≡ 0
-      → Good L room (Ask number text out a) e us area (ownTaken usualLimit s number text (lent a area))
+      → Good L room (Ask number text t a) e us area (ownTaken usualLimit s number text (lent a area))
   unfolding remember
   asked-good number text out Same f z = (
     rw (feed-ask L room false e) (left-alone q (record { room = refl; count = refl; live = refl; table = refl; part = refl })),
@@ -274,10 +274,10 @@ module _ (L room : ℕ) (seven : L ≤ 7) (e : Expected) (us : List Update) (t :
   )
   asked-good number text out (Other x) f z = absurd (f (asked-in s number text out (length x) z .room ∙ q .sameRoom))
 
-  ask-good : (number text : List ℕ) (out : ℕ) (a : Area) → FairArea room a → Good L room (Ask number text out a) e us area (ownOutcome s number text out (lent a area))
+  ask-good : (number text : List ℕ) (out : ℕ) (a : Area) → FairArea room a → Good L room (Ask number text t a) e us area (ownOutcome s number text out (lent a area))
   unfolding asking
   ask-good number text out a f =
-      of-refused (λ o. Good L room (Ask number text out a) e us area o) (firstOf (ownRules s number text out (length (lent a area)))) s (lent a area) (ownTaken usualLimit s number text (lent a area))
+      of-refused (λ o. Good L room (Ask number text t a) e us area o) (firstOf (ownRules s number text out (length (lent a area)))) s (lent a area) (ownTaken usualLimit s number text (lent a area))
       (λ z. asked-good number text out a f z)
       (λ n. (rw (feed-ask L room (unsent (firstOf (ownRules s number text out (length (lent a area))))) e, kept-lent a area) q, (λ z. absurd (n z))))
 
@@ -323,8 +323,8 @@ module _ (L room : ℕ) (seven : L ≤ 7) (e : Expected) (us : List Update) (t :
   call-good : (c : Call) → FairCall room c → Good L room c e us (w .area) (outcomeOf w c)
   call-good (Open l) f = opening-good L room seven e us t (w .state) (w .area) q l
   call-good (Close l) f = closing-good L room seven e us t (w .state) (w .area) q l
-  call-good (Message l clock own m out a) f = message-good L room seven e us t (w .state) (w .area) q l clock own m out a f
-  call-good (Ask number text out a) f = ask-good L room seven e us t (w .state) (w .area) q number text out a f
+  call-good (Message l m t a) f = message-good L room seven e us t (w .state) (w .area) q l clock own m out a f
+  call-good (Ask number text t a) f = ask-good L room seven e us t (w .state) (w .area) q number text out a f
 
 -- what is known of line L at a place of a list: the invariant, and what its updates come to
 record Known (L room : ℕ) (w : World) : Type 0 where

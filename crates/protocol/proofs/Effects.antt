@@ -62,20 +62,20 @@ pub record Effect (s : Station) (c : Call) (o : Outcome) : Type 0 where
 took-not : (c : Call) (n : ℕ) → eqb n 0 ≡ false → took c n ≡ false
 took-not (Open k) n e = refl
 took-not (Close k) n e = refl
-took-not (Message k clock own m out a) n e = ap (λ b. eqb (kindOf m) 0x80 && b) e ∙ and-false (eqb (kindOf m) 0x80)
-took-not (Ask number text out a) n e = e
+took-not (Message k m t a) n e = ap (λ b. eqb (kindOf m) 0x80 && b) e ∙ and-false (eqb (kindOf m) 0x80)
+took-not (Ask number text t a) n e = e
 
 closed-not : (c : Call) (n l : ℕ) → eqb n 0 ≡ false → closed c n l ≡ false
 closed-not (Open k) n l e = refl
 closed-not (Close k) n l e = ap (λ b. eqb l k && b) e ∙ and-false (eqb l k)
-closed-not (Message k clock own m out a) n l e = refl
-closed-not (Ask number text out a) n l e = refl
+closed-not (Message k m t a) n l e = refl
+closed-not (Ask number text t a) n l e = refl
 
 opened-not : (c : Call) (n l : ℕ) → eqb n 0 ≡ false → opened c n l ≡ false
 opened-not (Open k) n l e = ap (λ b. eqb l k && b) e ∙ and-false (eqb l k)
 opened-not (Close k) n l e = refl
-opened-not (Message k clock own m out a) n l e = refl
-opened-not (Ask number text out a) n l e = refl
+opened-not (Message k m t a) n l e = refl
+opened-not (Ask number text t a) n l e = refl
 
 refused-effect : (s : Station) (c : Call) (n : ℕ) (route : List ℕ) → (n ≡ 0 → ⊥) → Effect s c (quiet n s route)
 refused-effect s c n route ne =
@@ -86,9 +86,9 @@ refused-effect s c n route ne =
     }
 
 -- an arriving message that was let in
-module _ (s : Station) (z : Sized s) (o : inOrder s ≡ true) (l clock : ℕ) (own : Own) (m : List ℕ) (out : ℕ) (a : Area) (route : List ℕ) (d : LetIn s l m (length route)) where
+module _ (s : Station) (z : Sized s) (o : inOrder s ≡ true) (l : ℕ) (m : List ℕ) (t : Terms) (a : Area) (route : List ℕ) (d : LetIn s l m (length route)) where
   abbrev c : Call
-  c = Message l clock own m out a
+  c = Message l m t a
 
   -- no query: the line's record is set
   passes-line : eqb (kindOf m) queryType ≡ false → (r : Outcome) (x : Line) → r .state ≡ withLine s l x → (lineAt s l .live ≡ true → x .live ≡ true) → Effect s c r
@@ -146,7 +146,7 @@ module _ (s : Station) (z : Sized s) (o : inOrder s ≡ true) (l clock : ℕ) (o
         does = inl (record {
           taken = ap (λ b. b && eqb 0 0) k;
           unclosed = λ _. refl;
-          memory = remembered-newest s (numberIn m) l z (leb-true (s .count) capacity (f .count)) (ltb-true (s .next) capacity (f .next));
+          memory = remembered-newest s (numberIn m) l z (leb-true (s .memory .count) capacity (f .count)) (ltb-true (s .memory .next) capacity (f .next));
           unseen = no-refusal (queryRules usualLimit s m) refl e .1 .1 .0;
           fits = rw (lt-ltb l lineCount b, d .live);
         });
@@ -154,7 +154,7 @@ module _ (s : Station) (z : Sized s) (o : inOrder s ≡ true) (l clock : ℕ) (o
       })
       (refused (firstOf (queryRules usualLimit s m)))
 
-  types-effect : Effect s c (byType usualLimit s l clock own m route)
+  types-effect : Effect s c (arrived usualLimit s l m t route)
   unfolding byType
   types-effect =
       of-pick (Effect s c) (eqb (kindOf m) pingType) _ _ (λ k. ping-effect (other-type m pingType queryType k refl))
@@ -165,30 +165,30 @@ module _ (s : Station) (z : Sized s) (o : inOrder s ≡ true) (l clock : ℕ) (o
 
 -- the four calls
 module _ (s : Station) (z : Sized s) (o : inOrder s ≡ true) where
-  message-effect : (l clock : ℕ) (own : Own) (m : List ℕ) (out : ℕ) (a : Area) (route : List ℕ)
-      → Effect s (Message l clock own m out a) (messageOutcome s l clock own m out route)
+  message-effect : (l : ℕ) (m : List ℕ) (t : Terms) (a : Area) (route : List ℕ)
+      → Effect s (Message l m t a) (messageOutcome s l m t route)
   unfolding arriving
   message-effect l clock own m out a route =
-      of-refused (Effect s (Message l clock own m out a)) (early s l m out (length route)) s route (byType usualLimit s l clock own m route)
+      of-refused (Effect s (Message l m t a)) (early s l m (t .out) (length route)) s route (arrived usualLimit s l m t route)
       (λ e. types-effect s z o l clock own m out a route (let-in s l m out (length route) e))
-      (refused-effect s (Message l clock own m out a) (early s l m out (length route)) route)
+      (refused-effect s (Message l m t a) (early s l m (t .out) (length route)) route)
 
-  ask-effect : (number text : List ℕ) (out : ℕ) (a : Area) (route : List ℕ) → Effect s (Ask number text out a) (ownOutcome s number text out route)
+  ask-effect : (number text : List ℕ) (out : ℕ) (a : Area) (route : List ℕ) → Effect s (Ask number text t a) (ownOutcome s number text out route)
   unfolding asking remember
   ask-effect number text out a route =
-      of-refused (Effect s (Ask number text out a)) (firstOf (ownRules s number text out (length route))) s route (ownTaken usualLimit s number text route)
+      of-refused (Effect s (Ask number text t a)) (firstOf (ownRules s number text out (length route))) s route (ownTaken usualLimit s number text route)
       (λ e. let f : StateFacts s = state-facts s o in
       record {
         does = inl (record {
           taken = refl;
           unclosed = λ _. refl;
-          memory = remembered-newest s (numberIn number) here z (leb-true (s .count) capacity (f .count)) (ltb-true (s .next) capacity (f .next));
+          memory = remembered-newest s (numberIn number) here z (leb-true (s .memory .count) capacity (f .count)) (ltb-true (s .memory .next) capacity (f .next));
           unseen = asked-in s number text out (length route) e .unseen;
           fits = refl;
         });
         stays = λ j w _. (refl, w);
       })
-      (refused-effect s (Ask number text out a) (firstOf (ownRules s number text out (length route))) route)
+      (refused-effect s (Ask number text t a) (firstOf (ownRules s number text out (length route))) route)
 
   opening-effect : (l : ℕ) → Effect s (Open l) (opening s l)
   unfolding opening remembered
@@ -221,5 +221,5 @@ module _ (s : Station) (z : Sized s) (o : inOrder s ≡ true) where
 pub call-effect : (w : World) → Sized (w .state) → inOrder (w .state) ≡ true → (c : Call) → Effect (w .state) c (outcomeOf w c)
 call-effect w z o (Open l) = opening-effect (w .state) z o l
 call-effect w z o (Close l) = closing-effect (w .state) z o l
-call-effect w z o (Message l clock own m out a) = message-effect (w .state) z o l clock own m out a (lent a (w .area))
-call-effect w z o (Ask number text out a) = ask-effect (w .state) z o number text out a (lent a (w .area))
+call-effect w z o (Message l m t a) = message-effect (w .state) z o l clock own m out a (lent a (w .area))
+call-effect w z o (Ask number text t a) = ask-effect (w .state) z o number text out a (lent a (w .area))

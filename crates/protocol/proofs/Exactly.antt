@@ -154,7 +154,7 @@ beyond n f g r h false true c z = g z
 beyond n f g r h false false true z = f z
 beyond n f g r h false false false z = h z
 
-module _ (s : Station) (l clock : ℕ) (own : Own) (m : List ℕ) (out : ℕ) (route : List ℕ) where
+module _ (s : Station) (l : ℕ) (m : List ℕ) (t : Terms) (route : List ℕ) where
   abbrev byItsType : ℕ
   byItsType = firstOf ((unnamed m, 7) ∷ typeRules s l clock m route)
 
@@ -173,7 +173,7 @@ module _ (s : Station) (l clock : ℕ) (own : Own) (m : List ℕ) (out : ℕ) (r
   abbrev fromAreas : ℕ
   fromAreas = cond (badAreas s out route) 2 fromLine
 
-  early-exactly : EarlyExactly s l out route (messageOutcome s l clock own m out route .answer)
+  early-exactly : EarlyExactly s l out route (messageOutcome s l m t route .answer)
   early-exactly =
       rw (numbers s l clock own m out route)
       (record {
@@ -198,9 +198,9 @@ module _ (s : Station) (l clock : ℕ) (own : Own) (m : List ℕ) (out : ℕ) (r
 
   -- 7, and 6 and 8 of a query, of a message that has arrived
   module _ (o : inOrder s ≡ true) (a : Arrived s l m out route) where
-    seven-exactly : (messageOutcome s l clock own m out route .answer ≡ 7) ↔ (Named m → ⊥)
+    seven-exactly : (messageOutcome s l m t route .answer ≡ 7) ↔ (Named m → ⊥)
     seven-exactly =
-        let is : messageOutcome s l clock own m out route .answer ≡ byItsType
+        let is : messageOutcome s l m t route .answer ≡ byItsType
         = ap (λ (r : Outcome). r .answer) (by-type s o l m out route clock own a) ∙ type-number s l clock own m route in
         let first = here 7 (unnamed m) (firstOf (typeRules s l clock m route)) (behind 7 (typeRules s l clock m route) none refl) in
         rw is (Iff·trans first (none-iff _ (named-iff m)))
@@ -209,7 +209,7 @@ module _ (s : Station) (l clock : ℕ) (own : Own) (m : List ℕ) (out : ℕ) (r
         none = types-all s l clock m route (λ c. not (eqb (c .1) 7)) refl refl refl refl refl
 
     module _ (k : kindOf m ≡ 0x80) where
-      query-answer : messageOutcome s l clock own m out route .answer ≡ firstOf (queryRules usualLimit s m)
+      query-answer : messageOutcome s l m t route .answer ≡ firstOf (queryRules usualLimit s m)
       unfolding queryOutcome
       query-answer =
           ap (λ (r : Outcome). r .answer) (by-type s o l m out route clock own a ∙ by-query s o l m out route clock own k)
@@ -221,7 +221,7 @@ module _ (s : Station) (l clock : ℕ) (own : Own) (m : List ℕ) (out : ℕ) (r
       abbrev last : List (Bool × ℕ)
       last = (seen s (numberIn m), 9) ∷ (eqb (hopsOf m) 255, 12) ∷ []
 
-      query-exactly : QueryExactly m (messageOutcome s l clock own m out route .answer)
+      query-exactly : QueryExactly m (messageOutcome s l m t route .answer)
       query-exactly =
           rw query-answer
           (record {

@@ -103,7 +103,7 @@ extent-exactly s l clock own m out route o a d e =
     let rest : ℕ = firstOf ((unnamed m, 7) ∷ typeRules s l clock m route) in
     let u : unsent rest ≡ false = none-unsent ((unnamed m, 7) ∷ typeRules s l clock m route) (types-sent s l clock m route) in
     let below : l < 8 = omega arith in
-    let is : messageOutcome s l clock own m out route .answer ≡ three (length m) (sizeOf m) rest
+    let is : messageOutcome s l m t route .answer ≡ three (length m) (sizeOf m) rest
     = numbers s l clock own m out route
     ∙ rw (o, le-ltb out 4119 (a .output), le-ltb (length route) 32 (a .long), eq-eqb (length route / 8) (s .room) (a .room), lt-ltb l 8 below, e) refl in
     let t : Three (length m) (sizeOf m) (three (length m) (sizeOf m) rest)

@@ -31,7 +31,7 @@ all-handed =
     record {
       opens = λ s l. change-handed (opening s l);
       closes = λ s l. change-handed (closing s l);
-      message = λ s l clock own m out route. (let o : Outcome = messageOutcome s l clock own m out route in handed o (usedAfter (o .answer) m));
+      message = λ s l clock own m out route. (let o : Outcome = messageOutcome s l m t route in handed o (usedAfter (o .answer) m));
       asks = λ s number text out route. handed (ownOutcome s number text out route) 0;
     }
 

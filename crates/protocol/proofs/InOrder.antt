@@ -7,22 +7,24 @@ use mathlib.Core.List.{List, [], _∷_}
 use lib.Dec.{eqb, leb, ltb}
 use lib.ListN.{length}
 use borrow.Author.Tests.{eqb-true}
-use Rattle.laws.specs.Tests.{all}
-use Rattle.laws.proofs.Refusals.{and-fst, or-rest, each, every-of, all-getD}
+use Rattle.laws.specs.Tests.{all, every}
+use Rattle.laws.proofs.Refusals.{and-fst, and-snd, and-intro, or-rest, each, every-of, all-getD}
 use Rattle.tables.specs.Tables.{none, tableInOrder}
 use Rattle.protocol.specs.declared.Line.{Line}
 use Rattle.protocol.specs.State.{Station, remembered, lineAt}
-use Rattle.protocol.specs.Memory.{capacity, noTwice}
+use Rattle.protocol.specs.Memory.{capacity, noTwice, askerFits, memoryInOrder}
 use Rattle.protocol.specs.Lines.{nowhere, pongCapacity, storedPongs}
-use Rattle.protocol.specs.Order.{askerFits, emptyWhenClosed, lineInOrder, inOrder}
+use Rattle.protocol.specs.Order.{emptyWhenClosed, lowHops, lineInOrder, linesInOrder, inOrder}
 
-abbrev stateTests : Station → List Bool
-stateTests s =
-    leb (s .count) capacity
-    ∷ ltb (s .next) capacity
+abbrev live : Station → ℕ → Bool
+live s k = lineAt s k .live
+
+abbrev memoryTests : Station → List Bool
+memoryTests s =
+    leb (s .memory .count) capacity
+    ∷ ltb (s .memory .next) capacity
     ∷ noTwice (remembered s)
-    ∷ all (λ q. askerFits (s .lines) (q .asker)) (remembered s)
-    ∷ all (lineInOrder (s .room)) (s .lines)
+    ∷ all (λ q. askerFits (live s) (q .asker)) (remembered s)
     ∷ []
 
 abbrev lineTests : ℕ → Line → List Bool
@@ -30,33 +32,42 @@ lineTests room x =
     emptyWhenClosed x
     ∷ leb (x .pongcount) pongCapacity
     ∷ ltb (x .pongnext) pongCapacity
-    ∷ all (λ p. leb (p .hops) 7) (storedPongs x)
+    ∷ lowHops x
     ∷ tableInOrder room (x .table)
     ∷ []
 
 pub record StateFacts (s : Station) : Type 0 where
-  pub count : leb (s .count) capacity ≡ true
-  pub next : ltb (s .next) capacity ≡ true
+  pub count : leb (s .memory .count) capacity ≡ true
+  pub next : ltb (s .memory .next) capacity ≡ true
   pub twice : noTwice (remembered s) ≡ true
-  pub askers : all (λ q. askerFits (s .lines) (q .asker)) (remembered s) ≡ true
+  pub askers : all (λ q. askerFits (λ k. lineAt s k .live) (q .asker)) (remembered s) ≡ true
   pub lines : all (lineInOrder (s .room)) (s .lines) ≡ true
 
 pub record LineFacts (room : ℕ) (x : Line) : Type 0 where
   pub empty : emptyWhenClosed x ≡ true
   pub count : leb (x .pongcount) pongCapacity ≡ true
   pub next : ltb (x .pongnext) pongCapacity ≡ true
-  pub hops : all (λ p. leb (p .hops) 7) (storedPongs x) ≡ true
+  pub hops : lowHops x ≡ true
   pub table : tableInOrder room (x .table) ≡ true
 
 pub state-facts : (s : Station) → inOrder s ≡ true → StateFacts s
-unfolding inOrder
+unfolding inOrder memoryInOrder
 state-facts s e =
-    let h = each (stateTests s) e in
-    record { count = h .0; next = h .1 .0; twice = h .1 .1 .0; askers = h .1 .1 .1 .0; lines = h .1 .1 .1 .1 .0 }
+    let h = each (memoryTests s) (and-fst (every (memoryTests s)) (linesInOrder (s .room) (s .lines)) e) in
+    record {
+      count = h .0;
+      next = h .1 .0;
+      twice = h .1 .1 .0;
+      askers = h .1 .1 .1 .0;
+      lines = and-snd (every (memoryTests s)) (linesInOrder (s .room) (s .lines)) e;
+    }
 
 pub state-order : (s : Station) → StateFacts s → inOrder s ≡ true
-unfolding inOrder
-state-order s h = every-of (stateTests s) (h .count, (h .next, (h .twice, (h .askers, (h .lines, tt)))))
+unfolding inOrder memoryInOrder
+state-order s h =
+    and-intro (every (memoryTests s)) (linesInOrder (s .room) (s .lines))
+    (every-of (memoryTests s) (h .count, (h .next, (h .twice, (h .askers, tt)))))
+    (h .lines)
 
 pub line-facts : (room : ℕ) (x : Line) → lineInOrder room x ≡ true → LineFacts room x
 unfolding lineInOrder

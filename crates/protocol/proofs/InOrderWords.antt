@@ -348,15 +348,15 @@ module _ (s : Station) (hp : s .next < 512) (hn : s .count ≤ 512) where
   past = queryAt s 512
 
   abbrev place : ℕ → ℕ
-  place i = queryPlace (s .next) i
+  place i = queryPlace (s .memory .next) i
 
   many : length (remembered s) ≡ s .count
   unfolding remembered
-  many = kept-length 512 (queryAt s) past (s .next) (s .count) hp hn
+  many = kept-length 512 (queryAt s) past (s .memory .next) (s .memory .count) hp hn
 
   query-at : (i : ℕ) → i < s .count → getD (remembered s) i past ≡ queryAt s (place i)
   unfolding remembered
-  query-at i l = kept-at 512 (queryAt s) past (s .next) (s .count) hp hn i l
+  query-at i l = kept-at 512 (queryAt s) past (s .memory .next) (s .memory .count) hp hn i l
 
   -- the numbers of the i-th and the j-th
   abbrev same : ℕ → ℕ → Bool
@@ -370,44 +370,44 @@ module _ (s : Station) (hp : s .next < 512) (hn : s .count ≤ 512) where
       let a : same i j ≡ false = apart-at past (remembered s) e i j l (omega (arith, many)) in
       clash
       (and-intro _ _
-      (eq-eqb (getD (s .lo) (place j) 0) (getD (s .lo) (place i) 0) (sym (w .0)))
-      (eq-eqb (getD (s .hi) (place j) 0) (getD (s .hi) (place i) 0) (sym (w .1))))
+      (eq-eqb (getD (s .memory .lo) (place j) 0) (getD (s .memory .lo) (place i) 0) (sym (w .0)))
+      (eq-eqb (getD (s .memory .hi) (place j) 0) (getD (s .memory .hi) (place i) 0) (sym (w .1))))
       (sym (same-places i j (omega arith) m) ∙ a)
 
   once-is : ((i j : ℕ) → i < j → j < s .count → OneNumber s (place i) (place j) → ⊥) → noTwice (remembered s) ≡ true
   once-is h =
       apart-all past (remembered s)
       (λ i j l m. let k : j < s .count = omega (arith, many) in
-      let a : Bool = eqb (getD (s .lo) (place j) 0) (getD (s .lo) (place i) 0) in
-      let b : Bool = eqb (getD (s .hi) (place j) 0) (getD (s .hi) (place i) 0) in
+      let a : Bool = eqb (getD (s .memory .lo) (place j) 0) (getD (s .memory .lo) (place i) 0) in
+      let b : Bool = eqb (getD (s .memory .hi) (place j) 0) (getD (s .memory .hi) (place i) 0) in
       same-places i j (omega arith) k
       ∙ failed (a && b)
       (λ e. h i j l k (
-        sym (eqb-true (getD (s .lo) (place j) 0) (getD (s .lo) (place i) 0) (and-fst a b e)),
-        sym (eqb-true (getD (s .hi) (place j) 0) (getD (s .hi) (place i) 0) (and-snd a b e)),
+        sym (eqb-true (getD (s .memory .lo) (place j) 0) (getD (s .memory .lo) (place i) 0) (and-fst a b e)),
+        sym (eqb-true (getD (s .memory .hi) (place j) 0) (getD (s .memory .hi) (place i) 0) (and-snd a b e)),
       )))
 
   askers-words : all (λ q. askerFits (s .lines) (q .asker)) (remembered s) ≡ true
-      → (i : ℕ) → i < s .count → AskerWords s (getD (s .asker) (place i) 0)
+      → (i : ℕ) → i < s .count → AskerWords s (getD (s .memory .asker) (place i) 0)
   unfolding remembered
   askers-words e i l =
-      asker-words s (getD (s .asker) (place i) 0)
-      (each-kept 512 (queryAt s) past (s .next) (s .count) hp hn (λ (q : Query). askerFits (s .lines) (q .asker)) e i l)
+      asker-words s (getD (s .memory .asker) (place i) 0)
+      (each-kept 512 (queryAt s) past (s .memory .next) (s .memory .count) hp hn (λ (q : Query). askerFits (s .lines) (q .asker)) e i l)
 
-  askers-are : ((i : ℕ) → i < s .count → AskerWords s (getD (s .asker) (place i) 0))
+  askers-are : ((i : ℕ) → i < s .count → AskerWords s (getD (s .memory .asker) (place i) 0))
       → all (λ q. askerFits (s .lines) (q .asker)) (remembered s) ≡ true
   unfolding remembered
   askers-are h =
-      all-kept 512 (queryAt s) past (s .next) (s .count) hp hn (λ (q : Query). askerFits (s .lines) (q .asker))
-      (λ i l. asker-is s (getD (s .asker) (place i) 0) (h i l))
+      all-kept 512 (queryAt s) past (s .memory .next) (s .memory .count) hp hn (λ (q : Query). askerFits (s .lines) (q .asker))
+      (λ i l. asker-is s (getD (s .memory .asker) (place i) 0) (h i l))
 
 -- ---- the state
 
 words-of : (s : Station) → Sized s → inOrder s ≡ true → InOrderWords s
 words-of s z e =
     let f = state-facts s e in
-    let c : s .count ≤ 512 = leb-true (s .count) 512 (f .count) in
-    let n : s .next < 512 = ltb-true (s .next) 512 (f .next) in
+    let c : s .count ≤ 512 = leb-true (s .memory .count) 512 (f .count) in
+    let n : s .next < 512 = ltb-true (s .memory .next) 512 (f .next) in
     record {
       count = c;
       next = n;
@@ -422,8 +422,8 @@ order-of : (s : Station) → Sized s → InOrderWords s → inOrder s ≡ true
 order-of s z w =
     state-order s
     (record {
-      count = le-leb (s .count) 512 (w .count);
-      next = lt-ltb (s .next) 512 (w .next);
+      count = le-leb (s .memory .count) 512 (w .count);
+      next = lt-ltb (s .memory .next) 512 (w .next);
       twice = once-is s (w .next) (w .count) (w .once);
       askers = askers-are s (w .next) (w .count) (w .askers);
       lines =

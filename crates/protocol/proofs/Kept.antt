@@ -82,7 +82,7 @@ pub kept-remember : (s : Station) → Sized s → inOrder s ≡ true → (n : Nu
 unfolding remember
 kept-remember s z o n who u f =
     let h : StateFacts s = state-facts s o in
-    let e = remembered-newest s n who z (leb-true (s .count) capacity (h .count)) (ltb-true (s .next) capacity (h .next)) in
+    let e = remembered-newest s n who z (leb-true (s .memory .count) capacity (h .count)) (ltb-true (s .memory .next) capacity (h .next)) in
     let a : any (λ q. sameNumber (q .number) n) (remembered s) ≡ false = sym (seen-any s n) ∙ u in
     record {
       order = state-order (remember s n who) (record {
@@ -96,9 +96,9 @@ kept-remember s z o n who u f =
       });
       sized = record {
         eight = z .eight;
-        lo = length-set (s .lo) (s .next) (n .lo) ∙ z .lo;
-        hi = length-set (s .hi) (s .next) (n .hi) ∙ z .hi;
-        asker = length-set (s .asker) (s .next) who ∙ z .asker;
+        lo = length-set (s .memory .lo) (s .memory .next) (n .lo) ∙ z .lo;
+        hi = length-set (s .memory .hi) (s .memory .next) (n .hi) ∙ z .hi;
+        asker = length-set (s .memory .asker) (s .memory .next) who ∙ z .asker;
         pongs = z .pongs;
       };
       room = refl;
@@ -129,7 +129,7 @@ kept-closed s z o l =
         eight = length-set (s .lines) l (emptyLine false) ∙ z .eight;
         lo = z .lo;
         hi = z .hi;
-        asker = length-map (s .asker) (left l) ∙ z .asker;
+        asker = length-map (s .memory .asker) (left l) ∙ z .asker;
         pongs = all-set sizedLine (s .lines) l (emptyLine false) (z .pongs) refl;
       };
       room = refl;
@@ -225,7 +225,7 @@ module _ (s : Station) (z : Sized s) (o : inOrder s ≡ true) (l : ℕ) (m route
   kept-hit =
       of-refused (λ r. Kept s (r .state)) (firstOf (hitRules (hitFound s m) m)) s route (hitTaken s (hitFound s m) m route) (λ _. unchanged s z o) (λ _. unchanged s z o)
 
-  kept-types : (clock : ℕ) (own : Own) → Kept s (byType usualLimit s l clock own m route .state)
+  kept-types : (clock : ℕ) (own : Own) → Kept s (arrived usualLimit s l m t route .state)
   unfolding byType
   kept-types clock own =
       of-pick (λ r. Kept s (r .state)) (eqb (kindOf m) pingType) _ _ (λ _. kept-ping clock own)
@@ -250,10 +250,10 @@ module _ (s : Station) (z : Sized s) (o : inOrder s ≡ true) where
   kept-closing l =
       of-refused (λ r. Kept s (r .state)) (firstOf (closingRules s l)) s [] (quiet 0 (closedState s l) []) (λ _. kept-closed s z o l) (λ _. unchanged s z o)
 
-  kept-message : (l clock : ℕ) (own : Own) (m : List ℕ) (out : ℕ) (route : List ℕ) → Kept s (messageOutcome s l clock own m out route .state)
+  kept-message : (l : ℕ) (m : List ℕ) (t : Terms) (route : List ℕ) → Kept s (messageOutcome s l m t route .state)
   unfolding arriving
   kept-message l clock own m out route =
-      of-refused (λ r. Kept s (r .state)) (early s l m out (length route)) s route (byType usualLimit s l clock own m route)
+      of-refused (λ r. Kept s (r .state)) (early s l m (t .out) (length route)) s route (arrived usualLimit s l m t route)
       (λ e. kept-types s z o l m route (let-in s l m out (length route) e) clock own)
       (λ _. unchanged s z o)
 
@@ -278,8 +278,8 @@ order-kept-by-lists w (c ∷ cs) z o =
     one : (c : Call) → Kept (w .state) (outcomeOf w c .state)
     one (Open l) = order-kept (w .state) z o .opens l
     one (Close l) = order-kept (w .state) z o .closes l
-    one (Message l clock own m out a) = order-kept (w .state) z o .message l clock own m out (lent a (w .area))
-    one (Ask number text out a) = order-kept (w .state) z o .asks number text out (lent a (w .area))
+    one (Message l m t a) = order-kept (w .state) z o .message l clock own m out (lent a (w .area))
+    one (Ask number text t a) = order-kept (w .state) z o .asks number text out (lent a (w .area))
 
 -- a fresh state
 fresh-order : (room : ℕ) → inOrder (freshState room) ≡ true

@@ -1,6 +1,7 @@
 -- The remembered queries and the stored pongs as newest-first lists: one more goes in front, and closing a line marks its queries as gone.
 -- Assumes nothing.
-use Prim.Native.Nat.{ℕ, zero, suc, _<_}
+use Prim.Native.Nat.{ℕ, zero, suc, _%_, _<_}
+use native.Mathlib.Nat.{mod-eq-of-lt}
 use native.Mathlib.Omega.{arith}
 use mathlib.Core.Path.{_≡_, refl, sym, ap, ap₂, _∙_}
 use mathlib.Core.Bool.{Bool, true, false, not, _&&_, _||_}
@@ -14,39 +15,46 @@ use Rattle.laws.specs.Ring.{keptPlaces}
 use Rattle.laws.proofs.Refusals.{and-fst, and-snd, any-take}
 use Rattle.laws.proofs.Rings.{map-where, map-map, map-getD, kept-below, ring-push}
 use Rattle.protocol.specs.State.{Station, remembered, seen}
-use Rattle.protocol.specs.Memory.{capacity, Number, sameNumber, Query, queryAt, Found, Absent, At, later, pickFound, find, isFound, remember, noTwice, left}
+use Rattle.protocol.specs.Memory.{Memory, capacity, queriesIn, leftAll, Number, sameNumber, Query, queryAt, Found, Absent, At, later, pickFound, find, isFound, remember, noTwice, left}
 use Rattle.protocol.specs.Lines.{withPong, storedPongs}
 use Rattle.protocol.specs.Calls.{closedState}
 use Rattle.protocol.specs.Kept.{asked, leftBy, RemembersNewest, RemembersLeft, StoresNewest}
 
+-- the place at which a ring whose next place is within its capacity keeps the next
+at-next : (n next : ℕ) → next < suc n → next % suc n ≡ next
+at-next n next h = mod-eq-of-lt h
+
 pub remembered-newest : RemembersNewest
-unfolding remembered remember
+unfolding queriesIn remember
 remembered-newest s n who z hc hn =
-    ring-push 511 (s .next) (s .count) hn hc (queryAt (remember s n who)) (queryAt s) (asked n who)
-    (λ i. record {
+    ring-push 511 (q .next) (q .count) hn hc (queryAt (remember capacity q n who)) (queryAt q) (asked n who)
+    (rw (at-next 511 (q .next) hn) (λ i. record {
       number = record {
-        lo = getD-set-same (s .lo) (s .next) (n .lo) 0 (omega (arith, z .lo)) i;
-        hi = getD-set-same (s .hi) (s .next) (n .hi) 0 (omega (arith, z .hi)) i;
+        lo = getD-set-same (q .lo) (q .next) (n .lo) 0 (omega (arith, z .lo)) i;
+        hi = getD-set-same (q .hi) (q .next) (n .hi) 0 (omega (arith, z .hi)) i;
       };
-      asker = getD-set-same (s .asker) (s .next) who 0 (omega (arith, z .asker)) i;
-    })
-    (λ x ne i. record {
+      asker = getD-set-same (q .asker) (q .next) who 0 (omega (arith, z .asker)) i;
+    }))
+    (rw (at-next 511 (q .next) hn) (λ x ne i. record {
       number = record {
-        lo = getD-set-other (s .lo) (s .next) x (n .lo) 0 ne i;
-        hi = getD-set-other (s .hi) (s .next) x (n .hi) 0 ne i;
+        lo = getD-set-other (q .lo) (q .next) x (n .lo) 0 ne i;
+        hi = getD-set-other (q .hi) (q .next) x (n .hi) 0 ne i;
       };
-      asker = getD-set-other (s .asker) (s .next) x who 0 ne i;
-    })
+      asker = getD-set-other (q .asker) (q .next) x who 0 ne i;
+    }))
+  where
+    q : Memory
+    q = s .memory
 
 pub remembered-left : RemembersLeft
-unfolding remembered
+unfolding queriesIn
 remembered-left s l z =
-    map-where (λ x. ltb x capacity) (queryAt (closedState s l)) (λ x. leftBy l (queryAt s x))
+    map-where (λ x. ltb x capacity) (queryAt (leftAll l (s .memory))) (λ x. leftBy l (queryAt (s .memory) x))
     (λ x t i. let k : x < capacity = ltb-true x capacity t in
-    record { number = queryAt s x .number; asker = map-getD (left l) (s .asker) x 0 0 (omega (arith, z .asker)) i })
-    (keptPlaces capacity (s .next) (s .count))
-    (kept-below capacity (omega arith) (s .next) (s .count))
-    ∙ sym (map-map (queryAt s) (leftBy l) (keptPlaces capacity (s .next) (s .count)))
+    record { number = queryAt (s .memory) x .number; asker = map-getD (left l) (s .memory .asker) x 0 0 (omega (arith, z .asker)) i })
+    (keptPlaces capacity (s .memory .next) (s .memory .count))
+    (kept-below capacity (omega arith) (s .memory .next) (s .memory .count))
+    ∙ sym (map-map (queryAt (s .memory)) (leftBy l) (keptPlaces capacity (s .memory .next) (s .memory .count)))
 
 pub stored-newest : StoresNewest
 unfolding storedPongs
@@ -54,8 +62,8 @@ stored-newest x p z hc hn =
     ring-push 9 (x .pongnext) (x .pongcount) hn hc (λ i. getD (withPong x p .pongs) i (record { bytes = []; hops = 0; clock = 0 }))
     (λ i. getD (x .pongs) i (record { bytes = []; hops = 0; clock = 0 }))
     p
-    (getD-set-same (x .pongs) (x .pongnext) p (record { bytes = []; hops = 0; clock = 0 }) (omega (arith, z)))
-    (λ i ne. getD-set-other (x .pongs) (x .pongnext) i p (record { bytes = []; hops = 0; clock = 0 }) ne)
+    (rw (at-next 9 (x .pongnext) hn) (getD-set-same (x .pongs) (x .pongnext) p (record { bytes = []; hops = 0; clock = 0 }) (omega (arith, z))))
+    (rw (at-next 9 (x .pongnext) hn) (λ i ne. getD-set-other (x .pongs) (x .pongnext) i p (record { bytes = []; hops = 0; clock = 0 }) ne))
 
 -- a number is seen exactly if some remembered query has it
 find-any : (qs : List Query) (n : Number) → isFound (find qs n) ≡ any (λ q. sameNumber (q .number) n) qs

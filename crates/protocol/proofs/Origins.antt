@@ -254,8 +254,8 @@ standing-base (q ∷ qs) = ap₂ _∷_ (standing-now (q .number) (q .asker) 0) (
 remembered-length : (s : Station) → length (remembered s) ≤ capacity
 unfolding remembered keptPlaces
 remembered-length s =
-    of-choice (λ (ps : List ℕ). length (map (queryAt s) ps) ≤ capacity) (ringFits capacity (s .next) (s .count)) (placesBefore capacity (s .next) (s .count)) []
-    (λ e. let h : s .count ≤ capacity = leb-true (s .count) capacity (and-fst (leb (s .count) capacity) (ltb (s .next) capacity) e) in
+    of-choice (λ (ps : List ℕ). length (map (queryAt s) ps) ≤ capacity) (ringFits capacity (s .memory .next) (s .memory .count)) (placesBefore capacity (s .memory .next) (s .memory .count)) []
+    (λ e. let h : s .count ≤ capacity = leb-true (s .memory .count) capacity (and-fst (leb (s .memory .count) capacity) (ltb (s .memory .next) capacity) e) in
     rw (length-map, places-length) h)
     (λ _. omega arith)
 

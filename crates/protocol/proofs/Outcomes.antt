@@ -2,31 +2,45 @@
 -- Assumes nothing.
 use Prim.Native.Nat.{ℕ, zero, suc, _+_, _/_, _≤_, _<_}
 use native.Mathlib.Omega.{arith}
-use mathlib.Core.Path.{_≡_, refl, ap, _∙_}
+use mathlib.Core.Path.{_≡_, refl, sym, ap, subst, _∙_}
 use mathlib.Core.Bool.{Bool, true, false, not, _||_}
 use mathlib.Core.List.{List, [], _∷_}
 use lib.Dec.{eqb, ltb}
 use lib.ListN.{length, getD}
+use lib.Seq.{set-getD}
 use borrow.Author.Tests.{eqb-true, eqb-false, ltb-true, ltb-false, not-false, not-true}
-use Rattle.laws.specs.Tests.{firstOf, all}
+use Rattle.laws.specs.Tests.{firstOf, all, any}
 use Rattle.laws.proofs.Refusals.{or-fst, or-snd, no-refusal, NoRefusal, answer-in, refusal-in}
 use Rattle.laws.proofs.Rings.{map-getD}
-use Rattle.wire.specs.Header.{kindOf, sizeOf}
-use Rattle.protocol.specs.State.{Station, seen, lineAt}
-use Rattle.protocol.specs.Memory.{numberIn}
-use Rattle.protocol.specs.Lines.{lineNumbers, eachLine}
+use Rattle.wire.specs.Header.{largestMessage, kindOf, sizeOf}
+use Rattle.protocol.specs.State.{Station, seen, lookedUp, lineAt, withLine}
+use Rattle.protocol.specs.Memory.{Number, numberIn}
+use Rattle.protocol.specs.Lines.{lineNumbers, eachLine, nowhere}
 use Rattle.protocol.specs.Order.{inOrder}
-use Rattle.protocol.specs.Outcomes.{Outcome, quiet, pickOutcome, refusedOr}
-use Rattle.protocol.specs.Calls.{notOpen, shortOutput, otherRoom, earlyRules, early, ownRules}
-use Rattle.protocol.specs.Runs.{unsent}
+use Rattle.protocol.specs.Outcomes.{Result, Outcome, Step, quiet, pickResult, refusedOr, stored, unused}
+use Rattle.protocol.specs.Calls.{notOpen, shortRoute, otherRoom, unfitAreas, earlyRules, early, ownRules, ownAnswer}
 
-module _ (P : Outcome → Type 0) where
-  pub of-pick : (b : Bool) (x y : Outcome) → (b ≡ true → P x) → (b ≡ false → P y) → P (pickOutcome b x y)
+module _ {S : Type 0} (P : Result S → Type 0) where
+  pub of-pick : (b : Bool) (x y : Result S) → (b ≡ true → P x) → (b ≡ false → P y) → P (pickResult b x y)
   of-pick true x y f g = f refl
   of-pick false x y f g = g refl
 
-  pub of-refused : (n : ℕ) (s : Station) (route : List ℕ) (o : Outcome) → (n ≡ 0 → P o) → ((n ≡ 0 → ⊥) → P (quiet n s route)) → P (refusedOr n s route o)
+  pub of-refused : (n : ℕ) (s : S) (route : List ℕ) (o : Result S)
+      → (n ≡ 0 → P o) → ((n ≡ 0 → ⊥) → P (quiet n s route)) → P (refusedOr n s route o)
   of-refused n s route o f g = of-pick (eqb n 0) o (quiet n s route) (λ e. f (eqb-true n 0 e)) (λ e. g (eqb-false n 0 e))
+
+-- a state whose line is stored again as it stands is that state
+pub stored-again : (s : Station) (l : ℕ) → withLine s l (lineAt s l) ≡ s
+stored-again s l i = record { room = s .room; lines = set-getD (s .lines) l nowhere i; memory = s .memory }
+
+-- what a message does, stored: refused by n, which leaves the state, or else what follows
+module _ (P : Outcome → Type 0) (s : Station) (l : ℕ) (x : Number) where
+  pub of-stored : (n : ℕ) (route : List ℕ) (r : Step)
+      → (n ≡ 0 → P (stored s l x r)) → ((n ≡ 0 → ⊥) → P (quiet n s route))
+      → P (stored s l x (refusedOr n (record { line = lineAt s l; taken = false }) route r))
+  of-stored n route r f g =
+      of-refused (λ (r : Step). P (stored s l x r)) n _ route r f
+      (λ ne. subst (λ (y : Station). P (quiet n y route)) (sym (stored-again s l)) (g ne))
 
 -- n numbers, counted up from `from`: the one at a place; so the line's number at a place of the eight
 unfoldable pub counting : ℕ → ℕ → List ℕ
@@ -47,22 +61,33 @@ numbers-at k h = counted 8 0 k h ∙ omega arith
 pub eachLine-at : (f : ℕ → Bool) (k : ℕ) → k ≤ 7 → getD (eachLine f) k false ≡ f k
 eachLine-at f k h = map-getD f lineNumbers k 0 false (omega arith) ∙ ap f (numbers-at k (omega arith))
 
--- refusals that all count as unsent, and some that none do
-pub all-unsent : (cs : List (Bool × ℕ)) → all (λ c. unsent (c .1)) cs ≡ true → (firstOf cs ≡ 0 → ⊥) → unsent (firstOf cs) ≡ true
-all-unsent cs h n = refusal-in unsent cs h n
+-- refusals of which all use nothing, and some of which none do
+pub all-unused : (cs : List (Bool × ℕ)) → all (λ c. unused (c .1)) cs ≡ true → (firstOf cs ≡ 0 → ⊥) → unused (firstOf cs) ≡ true
+all-unused cs h n = refusal-in unused cs h n
 
-pub none-unsent : (cs : List (Bool × ℕ)) → all (λ c. not (unsent (c .1))) cs ≡ true → unsent (firstOf cs) ≡ false
-none-unsent cs h = not-true (unsent (firstOf cs)) (answer-in (λ n. not (unsent n)) cs refl h)
+pub none-unused : (cs : List (Bool × ℕ)) → all (λ c. not (unused (c .1))) cs ≡ true → unused (firstOf cs) ≡ false
+none-unused cs h = not-true (unused (firstOf cs)) (answer-in (λ n. not (unused n)) cs refl h)
 
 -- an open line
-pub is-open : (s : Station) (l : ℕ) → notOpen s l ≡ false → (l ≤ 7) × (lineAt s l .live ≡ true)
+pub is-open : (s : Station) (l : ℕ) → notOpen l (lineAt s l .live) ≡ false → (l ≤ 7) × (lineAt s l .live ≡ true)
 is-open s l e =
     let h : l < 8 = ltb-true l 8 (not-false (ltb l 8) (or-fst (not (ltb l 8)) (not (lineAt s l .live)) e)) in
     (omega arith, not-false (lineAt s l .live) (or-snd (not (ltb l 8)) (not (lineAt s l .live)) e))
 
-same-room : (s : Station) (out route : ℕ) → (shortOutput out || otherRoom s route) ≡ false → route / 8 ≡ s .room
-same-room s out route e =
-    eqb-true (route / 8) (s .room) (not-false (eqb (route / 8) (s .room)) (or-snd (ltb route 32) (not (eqb (route / 8) (s .room))) (or-snd (shortOutput out) (otherRoom s route) e)))
+same-room : (room out route : ℕ) → unfitAreas room out route ≡ false → route / 8 ≡ room
+same-room room out route e =
+    let f : not (eqb (route / 8) room) ≡ false
+    = or-snd (shortRoute route) (not (eqb (route / 8) room)) (or-snd (ltb out largestMessage) (otherRoom room route) e) in
+    eqb-true (route / 8) room (not-false (eqb (route / 8) room) f)
+
+-- the refusals of a message before its type counts, of a state
+abbrev pub earlyIn : Station → ℕ → List ℕ → ℕ → ℕ → List (Bool × ℕ)
+earlyIn s l m out route = earlyRules (inOrder s) (s .room) out route l (lineAt s l .live) (length m) (sizeOf m)
+
+-- and those of an own query
+abbrev pub ownIn : Station → List ℕ → List ℕ → ℕ → ℕ → List (Bool × ℕ)
+ownIn s number text out route =
+    ownRules (inOrder s) (s .room) out route (length text) (any (eqb 0) text) (lookedUp s (numberIn number))
 
 -- a message that was let in: no early refusal
 pub record LetIn (s : Station) (l : ℕ) (m : List ℕ) (route : ℕ) : Type 0 where
@@ -76,20 +101,20 @@ pub record LetIn (s : Station) (l : ℕ) (m : List ℕ) (route : ℕ) : Type 0 w
 pub let-in : (s : Station) (l : ℕ) (m : List ℕ) (out route : ℕ) → early s l m out route ≡ 0 → LetIn s l m route
 unfolding early
 let-in s l m out route e =
-    let p : NoRefusal (earlyRules s l m out route) = no-refusal (earlyRules s l m out route) refl e in
+    let p : NoRefusal (earlyIn s l m out route) = no-refusal (earlyIn s l m out route) refl e in
     let o = is-open s l (p .1 .1 .0) in
     record {
       order = not-false (inOrder s) (p .0);
-      room = same-room s out route (p .1 .0);
+      room = same-room (s .room) out route (p .1 .0);
       line = o .0;
       live = o .1;
       size = ltb-false 4096 (sizeOf m) (p .1 .1 .1 .1 .0);
       whole = ltb-false (length m) (23 + sizeOf m) (p .1 .1 .1 .1 .1 .0);
     }
 
-pub early-unsent : (s : Station) (l : ℕ) (m : List ℕ) (out route : ℕ) → (early s l m out route ≡ 0 → ⊥) → unsent (early s l m out route) ≡ true
+pub early-unused : (s : Station) (l : ℕ) (m : List ℕ) (out route : ℕ) → (early s l m out route ≡ 0 → ⊥) → unused (early s l m out route) ≡ true
 unfolding early
-early-unsent s l m out route n = all-unsent (earlyRules s l m out route) refl n
+early-unused s l m out route n = all-unused (earlyIn s l m out route) refl n
 
 -- an own query that was taken
 pub record AskedIn (s : Station) (number text : List ℕ) (route : ℕ) : Type 0 where
@@ -97,10 +122,11 @@ pub record AskedIn (s : Station) (number text : List ℕ) (route : ℕ) : Type 0
   pub room : route / 8 ≡ s .room
   pub unseen : seen s (numberIn number) ≡ false
 
-pub asked-in : (s : Station) (number text : List ℕ) (out route : ℕ) → firstOf (ownRules s number text out route) ≡ 0 → AskedIn s number text route
+pub asked-in : (s : Station) (number text : List ℕ) (out route : ℕ) → ownAnswer s number text out route ≡ 0 → AskedIn s number text route
+unfolding ownAnswer
 asked-in s number text out route e =
-    let p : NoRefusal (ownRules s number text out route) = no-refusal (ownRules s number text out route) refl e in
-    record { order = not-false (inOrder s) (p .0); room = same-room s out route (p .1 .0); unseen = p .1 .1 .1 .1 .0 }
+    let p : NoRefusal (ownIn s number text out route) = no-refusal (ownIn s number text out route) refl e in
+    record { order = not-false (inOrder s) (p .0); room = same-room (s .room) out route (p .1 .0); unseen = p .1 .1 .1 .1 .0 }
 
 -- a message of one type is of no other
 pub other-type : (m : List ℕ) (n k : ℕ) → eqb (kindOf m) n ≡ true → eqb n k ≡ false → eqb (kindOf m) k ≡ false

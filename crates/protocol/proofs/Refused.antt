@@ -39,7 +39,7 @@ out-of-order s o =
     record {
       opens = λ l. rw o;
       closes = λ l. rw o;
-      message = λ l clock own m out route. rw o;
+      message = λ l m t route. rw o;
       asks = λ number text out route. rw o;
     }
 
@@ -78,7 +78,7 @@ module _ (s : Station) (l : ℕ) (m route : List ℕ) where
       ne
       ∙ ap (λ (x : Station). quiet n x route) (sym (ap (λ c. cond c (brokenAt s l) s) b))
 
-  types-leave : (clock : ℕ) (own : Own) → Leaves (byType usualLimit s l clock own m route)
+  types-leave : (clock : ℕ) (own : Own) → Leaves (arrived usualLimit s l m t route)
   unfolding byType pingOutcome pongOutcome queryOutcome hitOutcome
   types-leave clock own =
       of-pick Leaves (eqb (kindOf m) pingType) _ _
@@ -97,12 +97,12 @@ module _ (s : Station) (l : ℕ) (m route : List ℕ) where
       (rules-leave s route (firstOf (hitRules (hitFound s m) m)) (hitTaken s (hitFound s m) m route) refl))
       (λ _. unmarked (quiet 7 s route) (not-marked u) (λ _. refl))))))
 
-  message-leaves : (clock : ℕ) (own : Own) (out : ℕ) → Leaves (messageOutcome s l clock own m out route)
+  message-leaves : (clock : ℕ) (own : Own) (out : ℕ) → Leaves (messageOutcome s l m t route)
   unfolding arriving
   message-leaves clock own out =
-      of-refused Leaves (early s l m out (length route)) s route (byType usualLimit s l clock own m route)
+      of-refused Leaves (early s l m (t .out) (length route)) s route (arrived usualLimit s l m t route)
       (λ _. types-leave clock own)
-      (λ n. early-leaves (early s l m out (length route)) (early-unsent s l m out (length route) n))
+      (λ n. early-leaves (early s l m (t .out) (length route)) (early-unsent s l m out (length route) n))
 
 calls-leave : (s : Station) → RefusalsLeave s
 unfolding opening closing asking
@@ -110,7 +110,7 @@ calls-leave s =
     record {
       opens = λ l. rules-leave s [] (firstOf (openingRules s l)) (quiet 0 (withLine s l (emptyLine true)) []) refl;
       closes = λ l. rules-leave s [] (firstOf (closingRules s l)) (quiet 0 (closedState s l) []) refl;
-      message = λ l clock own m out route. message-leaves s l m route clock own out;
+      message = λ l m t route. message-leaves s l m route clock own out;
       asks = λ number text out route. rules-leave s route (firstOf (ownRules s number text out (length route))) (ownTaken usualLimit s number text route) refl;
     }
 

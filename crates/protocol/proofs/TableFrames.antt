@@ -107,7 +107,7 @@ module _ (s : Station) (z : Sized s) (o : inOrder s ≡ true) (l : ℕ) (m : Lis
   after = updated (s .room) before (ttlOf m) (hopsOf m) (payloadOf m)
 
   abbrev outcome : Outcome
-  outcome = messageOutcome s l clock own m out route
+  outcome = messageOutcome s l m t route
 
   as-update : outcome ≡ updateOutcome s l m route
   unfolding byType
@@ -167,14 +167,14 @@ module _ (s : Station) (z : Sized s) (o : inOrder s ≡ true) (l : ℕ) (m : Lis
 area-kept : (n : ℕ) (s : Station) (route : List ℕ) (o : Outcome) → o .route ≡ route → refusedOr n s route o .route ≡ route
 area-kept n s route o e = of-refused (λ (r : Outcome). r .route ≡ route) n s route o (λ _. e) (λ _. refl)
 
-module _ (s : Station) (l clock : ℕ) (own : Own) (m : List ℕ) (out : ℕ) (route : List ℕ) where
+module _ (s : Station) (l : ℕ) (m : List ℕ) (t : Terms) (route : List ℕ) where
   abbrev handled : Outcome
-  handled = messageOutcome s l clock own m out route
+  handled = messageOutcome s l m t route
 
   abbrev SameArea : Outcome → Type 0
   SameArea r = r .route ≡ route
 
-  types-area : (kindOf m ≡ 0x30 → ⊥) → SameArea (byType usualLimit s l clock own m route)
+  types-area : (kindOf m ≡ 0x30 → ⊥) → SameArea (arrived usualLimit s l m t route)
   unfolding byType pingOutcome pongOutcome queryOutcome hitOutcome
   types-area ne =
       of-pick SameArea (eqb (kindOf m) pingType) _ _
@@ -196,7 +196,7 @@ module _ (s : Station) (l clock : ℕ) (own : Own) (m : List ℕ) (out : ℕ) (r
     where
       go : (b : Bool) → eqb (handled .answer) 0 ≡ b → SameArea handled
       go true e =
-          of-refused SameArea (early s l m out (length route)) s route (byType usualLimit s l clock own m route)
+          of-refused SameArea (early s l m (t .out) (length route)) s route (arrived usualLimit s l m t route)
           (λ _. types-area (λ k. ne (k, eqb-true (handled .answer) 0 e)))
           (λ _. refl)
       go false e =
@@ -207,7 +207,7 @@ module _ (s : Station) (l clock : ℕ) (own : Own) (m : List ℕ) (out : ℕ) (r
   pub ping-search : inOrder s ≡ true → kindOf m ≡ 0x00 → NotSearched handled
   unfolding arriving pingOutcome
   ping-search o k =
-      of-refused NotSearched (early s l m out (length route)) s route (byType usualLimit s l clock own m route)
+      of-refused NotSearched (early s l m (t .out) (length route)) s route (arrived usualLimit s l m t route)
       (λ _. rw (by-ping s o l m out route clock own k)
       (of-refused NotSearched (firstOf (pingRules (lineAt s l) clock m)) s route (pingTaken s l clock own m route)
       (λ _. (refl, refl, refl))
