@@ -19,11 +19,15 @@ use Rattle.protocol.specs.History.{Update, noted}
 use Rattle.protocol.specs.Demand3.{Agrees}
 
 -- a call that is unsent is not accepted
-unsent-refused : (n : ℕ) → unsent n ≡ true → eqb n 0 ≡ false
-unsent-refused n e = ne-eqb n 0 (λ z. clash (subst (λ (k : ℕ). unsent k ≡ true) z e) refl)
+unsent-refused : (c : Call) (n : ℕ) → unsent c n ≡ true → eqb n 0 ≡ false
+unsent-refused c n e = ne-eqb n 0 (λ z. clash (subst (λ (k : ℕ). unsent c k ≡ true) z e) refl)
 
 -- one call: an opening or closing of the line begins anew, an update of the line is added, any other leaves both
-module _ (L room : ℕ) (o : Outcome) (e : Expected) (us : List Update) (q : Accounts (e .held) us) where
+module _ (limit L room : ℕ) (o : Outcome) (e : Expected) (us : List Update) (q : Accounts (e .held) us) where
+  -- what stands after a call that is unsent or not
+  abbrev After : Call → Bool → Type 0
+  After c b = Accounts (feed L room (brought c) b e .held) (noted L c (o .answer) us)
+
   anew : (l : ℕ) (live : Bool) → Accounts (cond (eqb l L) (wiped live) e .held) (cond (eqb l L && true) [] us)
   anew l live = go (eqb l L)
     where
@@ -31,30 +35,24 @@ module _ (L room : ℕ) (o : Outcome) (e : Expected) (us : List Update) (q : Acc
       go true = nothing-yet
       go false = q
 
-  pub account-call : (c : Call) → Agrees L room e us c o → Accounts (feed L room (brought c) (unsent (o .answer)) e .held) (noted L c (o .answer) us)
+  pub account-call : (c : Call) → Agrees limit L room e us c o → After c (unsent c (o .answer))
   unfolding feed
-  account-call (Open l) h = go (unsent (o .answer)) refl
+  account-call c h = go c h (unsent c (o .answer)) refl
     where
-      go : (b : Bool) → unsent (o .answer) ≡ b → Accounts (feed L room (opens l) (unsent (o .answer)) e .held) (noted L (Open l) (o .answer) us)
-      go true z = rw (z, unsent-refused (o .answer) z, and-false) q
-      go false z = rw (z, h z) (anew l true)
-  account-call (Close l) h = go (unsent (o .answer)) refl
-    where
-      go : (b : Bool) → unsent (o .answer) ≡ b → Accounts (feed L room (closes l) (unsent (o .answer)) e .held) (noted L (Close l) (o .answer) us)
-      go true z = rw (z, unsent-refused (o .answer) z, and-false) q
-      go false z = rw (z, h z) (anew l false)
-  account-call (Message l m t a) h = go (unsent (o .answer)) refl (isUpdateOf L l m) refl
-    where
-      go : (b : Bool) → unsent (o .answer) ≡ b → (u : Bool) → isUpdateOf L l m ≡ u
-          → Accounts (feed L room (brings l m) (unsent (o .answer)) e .held) (noted L (Message l m t a) (o .answer) us)
-      go true z u i = rw (z, and-false) q
-      go false z false i = rw (z, i) q
-      go false z true i =
-          rw (z, i)
-          (subst (λ (n : ℕ). Accounts (updated room (e .held) (ttlOf m) (hopsOf m) (payloadOf m)) (update (payloadOf m) n ∷ us)) (sym (h .0 z i .0))
-          (after-update (e .held) us q (payloadOf m) room (ttlOf m) (hopsOf m)))
-  account-call (Ask number text t a) h = go (unsent (o .answer))
-    where
-      go : (b : Bool) → Accounts (feed L room asks b e .held) us
-      go true = q
-      go false = q
+      go : (c : Call) → Agrees limit L room e us c o → (b : Bool) → unsent c (o .answer) ≡ b → After c b
+      go (Open l) h true z = rw (unsent-refused (Open l) (o .answer) z, and-false) q
+      go (Open l) h false z = rw (h z) (anew l true)
+      go (Close l) h true z = rw (unsent-refused (Close l) (o .answer) z, and-false) q
+      go (Close l) h false z = rw (h z) (anew l false)
+      go (Message l m t a) h true z = rw (z, and-false) q
+      go (Message l m t a) h false z = noting (isUpdateOf L l m) refl
+        where
+          noting : (u : Bool) → isUpdateOf L l m ≡ u → After (Message l m t a) false
+          noting false i = rw (z, i) q
+          noting true i =
+              rw (z, i)
+              (subst (λ (n : ℕ). Accounts (updated room (e .held) (ttlOf m) (hopsOf m) (payloadOf m)) (update (payloadOf m) n ∷ us))
+              (sym (h .0 z i .0))
+              (after-update (e .held) us q (payloadOf m) room (ttlOf m) (hopsOf m)))
+      go (Ask number text t a) h true z = q
+      go (Ask number text t a) h false z = q

@@ -16,7 +16,7 @@ use Rattle.tables.specs.Updates.{lengthIn, infinityIn, isPatch, resetTests, pat
 use Rattle.tables.proofs.AnswerLaws.{ways}
 use Rattle.tables.proofs.KeepLaws.{moved-length, patched-length}
 use Rattle.protocol.specs.Blind.{updateRules}
-use Rattle.protocol.specs.Runs.{unsent}
+use Rattle.protocol.specs.Outcomes.{unused}
 
 -- an accepted RESET, and an accepted PATCH
 pub record Resets (room : ℕ) (p : List ℕ) : Type 0 where
@@ -53,9 +53,9 @@ by-update P room h ttl hops p f g b =
     (ways room h ttl hops p)
 
 -- its answer is never 1 to 5
-pub update-sent : (room : ℕ) (h : Held) (ttl hops : ℕ) (p : List ℕ) → not (unsent (updateAnswer room h ttl hops p)) ≡ true
+pub update-sent : (room : ℕ) (h : Held) (ttl hops : ℕ) (p : List ℕ) → not (unused (updateAnswer room h ttl hops p)) ≡ true
 unfolding updateAnswer
-update-sent room h ttl hops p = answer-in (λ n. not (unsent n)) (updateRules room h ttl hops p) refl refl
+update-sent room h ttl hops p = answer-in (λ n. not (unused n)) (updateRules room h ttl hops p) refl refl
 
 -- and a refusal's is 14, 15 or 16
 pub update-range : (room : ℕ) (h : Held) (ttl hops : ℕ) (p : List ℕ) → (updateAnswer room h ttl hops p ≡ 0 → ⊥)
