@@ -3,6 +3,7 @@ pub mod Session
 pub mod Updates
 pub mod Account
 pub mod Forwarding
+pub mod ByType
 pub mod Outcomes
 pub mod InOrder
 pub mod InOrderWords

@@ -1,0 +1,162 @@
+-- What a message that was let in comes to, by its type: it is refused by its type's rules, which leaves what stands,
+-- or is taken. One law for all that is shown of every type.
+-- Assumes nothing.
+use Prim.Native.Nat.{ℕ, _*_}
+use native.Mathlib.Omega.{arith}
+use mathlib.Core.Path.{_≡_, refl, sym, subst}
+use mathlib.Core.Bool.{Bool, true, false, not}
+use mathlib.Core.List.{List}
+use lib.Dec.{eqb, leb}
+use lib.ListN.{length}
+use Rattle.laws.specs.Tests.{firstOf, all}
+use Rattle.laws.specs.Parts.{over}
+use Rattle.laws.proofs.Refusals.{no-refusal, NoRefusal}
+use Rattle.wire.specs.Header.{headerIn, kindOf, ttlOf, hopsOf, payloadOf}
+use Rattle.wire.specs.Header.{routeUpdate, queryType, hitType, pingType, pongType}
+use Rattle.tables.specs.Tables.{Held}
+use Rattle.tables.specs.Updates.{updateAnswer, updated}
+use Rattle.protocol.specs.declared.Line.{Line}
+use Rattle.protocol.specs.declared.Lookup.{Lookup}
+use Rattle.protocol.specs.Memory.{capacity, numberIn, remember}
+use Rattle.protocol.specs.State.{Station, lineAt, withLine, withMemory, heldAt, lookedUp}
+use Rattle.protocol.specs.Lines.{withTable, withPong}
+use Rattle.protocol.specs.Outcomes.{Terms, Outcome, Step, quiet, leaving, pickResult, refusedOr, stored, unused}
+use Rattle.protocol.specs.Queries.{hasText, queryRules, queryTaken, queryStep}
+use Rattle.protocol.specs.Hits.{hitRules, hitTaken, hitStep}
+use Rattle.protocol.specs.Pings.{isProbe, pingRules, timeKept, pingTaken, pingStep}
+use Rattle.protocol.specs.Pings.{pongRules, arrivedPong, pongStep}
+use Rattle.protocol.specs.Calls.{early, updateStep, byType, arrived, arriving}
+use Rattle.protocol.proofs.Outcomes.{of-pick, of-refused, of-stored, stored-again, other-type}
+use Rattle.protocol.proofs.Outcomes.{none-unused, early-unused, LetIn, let-in}
+
+-- the rules of each type, of a state
+abbrev pub pingIn : Station → ℕ → Terms → List ℕ → List (Bool × ℕ)
+pingIn s l t m = pingRules (lineAt s l .pinged) (lineAt s l .pingtime) (t .clock) (headerIn m)
+
+abbrev pub pongIn : List ℕ → List (Bool × ℕ)
+pongIn m = pongRules (headerIn m)
+
+abbrev pub queryIn : ℕ → Station → List ℕ → List (Bool × ℕ)
+queryIn limit s m = queryRules limit (headerIn m) (hasText (payloadOf m)) (lookedUp s (numberIn m))
+
+abbrev pub hitIn : Station → List ℕ → List (Bool × ℕ)
+hitIn s m = hitRules (headerIn m) (lookedUp s (numberIn m))
+
+-- the outcome of one that is taken: a ping or a pong sets its line's record, a query is remembered, a hit leaves all
+abbrev pub pingDone : Station → ℕ → Terms → List ℕ → List ℕ → Outcome
+pingDone s l t m route =
+    leaving (withLine s l (timeKept (lineAt s l) (isProbe (headerIn m)) (t .clock))) (pingTaken (s .lines) l t m route)
+
+abbrev pub pongDone : Station → ℕ → ℕ → List ℕ → List ℕ → Outcome
+pongDone s l clock m route = quiet 0 (withLine s l (withPong (lineAt s l) (arrivedPong clock m))) route
+
+abbrev pub queryDone : ℕ → Station → ℕ → List ℕ → List ℕ → Outcome
+queryDone limit s l m route =
+    leaving (withMemory s (remember capacity (s .memory) (numberIn m) l))
+    (queryTaken limit (s .room) (s .lines) l m route)
+
+abbrev pub hitDone : Station → ℕ → List ℕ → List ℕ → Outcome
+hitDone s l m route = leaving s (hitTaken (lineAt s l) (lookedUp s (numberIn m)) m route)
+
+-- an update, taken or refused: its answer, and what it leaves of the line's table
+abbrev pub updateNumber : Station → ℕ → List ℕ → List ℕ → ℕ
+updateNumber s l m route = updateAnswer (s .room) (heldAt s l route) (ttlOf m) (hopsOf m) (payloadOf m)
+
+abbrev pub heldAfter : Station → ℕ → List ℕ → List ℕ → Held
+heldAfter s l m route = updated (s .room) (heldAt s l route) (ttlOf m) (hopsOf m) (payloadOf m)
+
+abbrev pub updatedBy : Station → ℕ → List ℕ → ℕ → Held → Outcome
+updatedBy s l route n h =
+    quiet n (withLine s l (withTable (lineAt s l) (h .table))) (over (l * s .room) (h .entries) route)
+
+abbrev pub updateDone : Station → ℕ → List ℕ → List ℕ → Outcome
+updateDone s l m route = updatedBy s l route (updateNumber s l m route) (heldAfter s l m route)
+
+-- a message that is no update, refused by its type's rules
+pub record TypeRefuses (m : List ℕ) (n : ℕ) : Type 0 where
+  pub some : n ≡ 0 → ⊥
+  pub used : unused n ≡ false
+  pub type : eqb (kindOf m) routeUpdate ≡ false
+
+module _ (P : Outcome → Type 0) (s : Station) (l : ℕ) (m route : List ℕ) where
+  abbrev OfStep : Step → Type 0
+  OfStep r = P (stored s l (numberIn m) r)
+
+  abbrev line : Line
+  line = lineAt s l
+
+  abbrev looked : Lookup
+  looked = lookedUp s (numberIn m)
+
+  -- one that leaves the line's record
+  again : (f : Station → Outcome) → P (f s) → P (f (withLine s l line))
+  again f h = subst (λ (x : Station). P (f x)) (sym (stored-again s l)) h
+
+  module _ (refused : (n : ℕ) → TypeRefuses m n → P (quiet n s route)) where
+    -- one type, by its rules
+    of-rules : (k : ℕ) (cs : List (Bool × ℕ)) (r : Step) → eqb (kindOf m) k ≡ true → eqb k routeUpdate ≡ false
+        → all (λ c. not (unused (c .1))) cs ≡ true → all (λ c. leb 1 (c .1)) cs ≡ true → (NoRefusal cs → OfStep r)
+        → OfStep (refusedOr (firstOf cs) (record { line = line; taken = false }) route r)
+    of-rules k cs r e ne u p f =
+        of-stored P s l (numberIn m) (firstOf cs) route r (λ z. f (no-refusal cs p z))
+        (λ n. refused (firstOf cs)
+        (record { some = n; used = none-unused cs u; type = other-type m k routeUpdate e ne }))
+
+    pub of-ping : (t : Terms) → eqb (kindOf m) pingType ≡ true
+        → (NoRefusal (pingIn s l t m) → P (pingDone s l t m route)) → OfStep (pingStep (s .lines) l t m route)
+    unfolding pingStep
+    of-ping t k f = of-rules pingType (pingIn s l t m) _ k refl refl refl f
+
+    pub of-pong : (clock : ℕ) → eqb (kindOf m) pongType ≡ true
+        → (NoRefusal (pongIn m) → P (pongDone s l clock m route)) → OfStep (pongStep line clock m route)
+    unfolding pongStep
+    of-pong clock k f = of-rules pongType (pongIn m) _ k refl refl refl f
+
+    pub of-query : (limit : ℕ) → eqb (kindOf m) queryType ≡ true
+        → (NoRefusal (queryIn limit s m) → P (queryDone limit s l m route))
+        → OfStep (queryStep limit (s .room) (s .lines) l looked m route)
+    unfolding queryStep
+    of-query limit k f = of-rules queryType (queryIn limit s m) _ k refl refl refl (λ n. again done (f n))
+      where
+        done : Station → Outcome
+        done x =
+            leaving (withMemory x (remember capacity (s .memory) (numberIn m) l))
+            (queryTaken limit (s .room) (s .lines) l m route)
+
+    pub of-hit : eqb (kindOf m) hitType ≡ true → (NoRefusal (hitIn s m) → P (hitDone s l m route))
+        → OfStep (hitStep line looked m route)
+    unfolding hitStep
+    of-hit k f =
+        of-rules hitType (hitIn s m) _ k refl refl refl
+        (λ n. again (λ x. leaving x (hitTaken line looked m route)) (f n))
+
+    -- all of them
+    pub of-types : (limit : ℕ) (t : Terms)
+        → (eqb (kindOf m) pingType ≡ true → NoRefusal (pingIn s l t m) → P (pingDone s l t m route))
+        → (eqb (kindOf m) pongType ≡ true → NoRefusal (pongIn m) → P (pongDone s l (t .clock) m route))
+        → (eqb (kindOf m) routeUpdate ≡ true → P (updateDone s l m route))
+        → (eqb (kindOf m) queryType ≡ true → NoRefusal (queryIn limit s m) → P (queryDone limit s l m route))
+        → (eqb (kindOf m) hitType ≡ true → NoRefusal (hitIn s m) → P (hitDone s l m route))
+        → P (arrived limit s l m t route)
+    unfolding byType updateStep
+    of-types limit t ping pong update query hit =
+        by pingType _ _ (λ k. of-ping t k (ping k))
+        (λ _. by pongType _ _ (λ k. of-pong (t .clock) k (pong k))
+        (λ _. by routeUpdate _ _ update
+        (λ u. by queryType _ _ (λ k. of-query limit k (query k))
+        (λ _. by hitType _ _ (λ k. of-hit k (hit k))
+        (λ _. again (λ x. quiet 7 x route)
+        (refused 7 (record { some = λ e. absurd (omega arith); used = refl; type = u })))))))
+      where
+        by : (n : ℕ) (x y : Step) → (eqb (kindOf m) n ≡ true → OfStep x) → (eqb (kindOf m) n ≡ false → OfStep y)
+            → OfStep (pickResult (eqb (kindOf m) n) x y)
+        by n x y f g = of-pick OfStep (eqb (kindOf m) n) x y f g
+
+  -- a message, let in or not
+  pub of-message : (limit : ℕ) (t : Terms) → ((n : ℕ) → unused n ≡ true → P (quiet n s route))
+      → (LetIn s l m (length route) → P (arrived limit s l m t route)) → P (arriving limit s l m t route)
+  unfolding arriving
+  of-message limit t f g =
+      of-refused P (early s l m (t .out) (length route)) s route (arrived limit s l m t route)
+      (λ e. g (let-in s l m (t .out) (length route) e))
+      (λ ne. f (early s l m (t .out) (length route)) (early-unused s l m (t .out) (length route) ne))
