@@ -27,6 +27,9 @@ use Rattle.protocol.proofs.Blind.{type-number, types-sent}
 
 -- the test for answer 2
 module _ (s : Station) (out : ℕ) (route : List ℕ) where
+  abbrev under32 : Bool
+  under32 = ltb (length route) 32
+
   abbrev sameRoom : Bool
   sameRoom = eqb (length route / 8) (s .room)
 
@@ -38,9 +41,8 @@ module _ (s : Station) (out : ℕ) (route : List ℕ) where
       let r = or-snd (ltb out 4119) (otherRoom (s .room) (length route)) e in
       record {
         output = ltb-false out 4119 (or-fst (ltb out 4119) (otherRoom (s .room) (length route)) e);
-        long = ltb-false (length route) 32 (or-fst (ltb (length route) 32) (not sameRoom) r);
-        room =
-            eqb-true (length route / 8) (s .room) (not-false sameRoom (or-snd (ltb (length route) 32) (not sameRoom) r));
+        long = ltb-false (length route) 32 (or-fst under32 (not sameRoom) r);
+        room = eqb-true (length route / 8) (s .room) (not-false sameRoom (or-snd under32 (not sameRoom) r));
       }
 
   pub areas-fit : Areas s out route → badAreas ≡ false

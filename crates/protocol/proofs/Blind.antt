@@ -12,20 +12,21 @@ use lib.Seq.{take-append-le, drop-append-le, length-take-le}
 use borrow.Author.Tests.{le-ltb}
 use Rattle.laws.specs.Tests.{firstOf, all}
 use Rattle.laws.proofs.Refusals.{first-append}
-use Rattle.wire.specs.Header.{numberOf, headerIn, kindOf, ttlOf, hopsOf, sizeOf, payloadOf, routeUpdate, queryType}
+use Rattle.wire.specs.Header.{numberOf, kindOf, ttlOf, hopsOf, sizeOf, payloadOf, routeUpdate, queryType}
 use Rattle.wire.specs.Header.{hitType, pingType, pongType}
 use Rattle.tables.specs.Updates.{updateAnswer}
 use Rattle.protocol.specs.declared.Line.{Line}
 use Rattle.protocol.specs.declared.Lookup.{Lookup}
-use Rattle.protocol.specs.State.{Station, lineAt, lookedUp, heldAt}
+use Rattle.protocol.specs.State.{Station, lookedUp, heldAt}
 use Rattle.protocol.specs.Memory.{numberIn}
 use Rattle.protocol.specs.Outcomes.{Terms, Step, pickResult, unused}
-use Rattle.protocol.specs.Queries.{usualLimit, hasText, queryRules, queryStep}
-use Rattle.protocol.specs.Hits.{hitRules, hitStep}
-use Rattle.protocol.specs.Pings.{pingRules, pingStep, pongRules, pongStep}
+use Rattle.protocol.specs.Queries.{usualLimit, queryStep}
+use Rattle.protocol.specs.Hits.{hitStep}
+use Rattle.protocol.specs.Pings.{pingStep, pongStep}
 use Rattle.protocol.specs.Calls.{early, updateStep, byType, arrived, arriving}
 use Rattle.protocol.specs.Blind.{Whole, TakenAlike, Blind, UsedExact, updateRules, typeRules, unnamed, Numbers}
 use Rattle.protocol.proofs.Outcomes.{answer-refused, answer-taken, none-unused, earlyIn}
+use Rattle.protocol.proofs.ByType.{pingIn, pongIn, queryIn, hitIn}
 
 -- all that a message call reads
 pub record ReadsAlike (m′ m : List ℕ) : Type 0 where
@@ -143,28 +144,19 @@ either P true cs ds p q = p
 either P false cs ds p q = q
 
 module _ (s : Station) (l : ℕ) (m : List ℕ) (t : Terms) (route : List ℕ) where
-  abbrev ofPing : List (Bool × ℕ)
-  ofPing = pingRules (lineAt s l .pinged) (lineAt s l .pingtime) (t .clock) (headerIn m)
-
   abbrev ofUpdate : List (Bool × ℕ)
   ofUpdate = updateRules (s .room) (heldAt s l route) (ttlOf m) (hopsOf m) (payloadOf m)
 
-  abbrev ofQuery : List (Bool × ℕ)
-  ofQuery = queryRules usualLimit (headerIn m) (hasText (payloadOf m)) (lookedUp s (numberIn m))
-
-  abbrev ofHit : List (Bool × ℕ)
-  ofHit = hitRules (headerIn m) (lookedUp s (numberIn m))
-
   pub types-all : (P : Bool × ℕ → Bool)
-      → all P ofPing ≡ true → all P (pongRules (headerIn m)) ≡ true → all P ofUpdate ≡ true
-      → all P ofQuery ≡ true → all P ofHit ≡ true
+      → all P (pingIn s l t m) ≡ true → all P (pongIn m) ≡ true → all P ofUpdate ≡ true
+      → all P (queryIn usualLimit s m) ≡ true → all P (hitIn s m) ≡ true
       → all P (typeRules s l (t .clock) m route) ≡ true
   types-all P a b c d e =
-      either P (eqb (kindOf m) pingType) ofPing _ a
-      (either P (eqb (kindOf m) pongType) (pongRules (headerIn m)) _ b
+      either P (eqb (kindOf m) pingType) (pingIn s l t m) _ a
+      (either P (eqb (kindOf m) pongType) (pongIn m) _ b
       (either P (eqb (kindOf m) routeUpdate) ofUpdate _ c
-      (either P (eqb (kindOf m) queryType) ofQuery _ d
-      (either P (eqb (kindOf m) hitType) ofHit [] e refl))))
+      (either P (eqb (kindOf m) queryType) (queryIn usualLimit s m) _ d
+      (either P (eqb (kindOf m) hitType) (hitIn s m) [] e refl))))
 
   -- they are none of 1 to 5
   pub types-sent : unused (firstOf (afterEarly s l m t route)) ≡ false
