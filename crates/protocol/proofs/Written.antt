@@ -12,7 +12,8 @@ use borrow.Author.Tests.{eqb-true, leb-true, eq-eqb, le-leb}
 use Rattle.laws.specs.Tests.{any, all}
 use Rattle.laws.proofs.Refusals.{clash, and-fst, and-snd, and-intro, or-left, or-right, of-choice}
 use Rattle.wire.specs.Header.{numberOf, kindOf, ttlOf, hopsOf, sizeOf, payloadOf, message}
-use Rattle.wire.proofs.HeaderLaws.{message-length, message-number, message-kind, message-ttl, message-hops, message-size, message-payload}
+use Rattle.wire.proofs.HeaderLaws.{message-length, message-number, message-kind, message-ttl, message-hops}
+use Rattle.wire.proofs.HeaderLaws.{message-size, message-payload}
 use Rattle.protocol.specs.Written.{Part, wellCut, written, CutOnce, Writes, WrittenFor}
 use Rattle.protocol.specs.Outcomes.{writtenFor}
 use Rattle.protocol.proofs.Blind.{ReadsAlike, reads-more}
@@ -51,7 +52,8 @@ module _ (p : Part) (c : wellCut p ≡ true) (rest : List ℕ) where
 
   reads-payload : payloadOf (first ++ rest) ≡ p .payload
   reads-payload =
-      alike .payload ∙ message-payload (p .number) (p .kind) (p .ttl) (p .hops) (p .payload) sixteen (omega (arith, most))
+      alike .payload
+      ∙ message-payload (p .number) (p .kind) (p .ttl) (p .hops) (p .payload) sixteen (omega (arith, most))
 
   reads-rest : drop (23 + length (p .payload)) (first ++ rest) ≡ rest
   reads-rest = drop-at first rest (23 + length (p .payload)) long
