@@ -5,10 +5,10 @@ use native.Mathlib.Omega.{arith}
 use mathlib.Core.Path.{_≡_, refl, sym, ap, _∙_}
 use mathlib.Core.Bool.{Bool, true, false, cond, not, _&&_, _||_}
 use mathlib.Core.Logic.{_⊎_, inl, inr}
-use mathlib.Core.List.{List, [], _∷_, map}
-use lib.Dec.{leb}
+use mathlib.Core.List.{List, [], _∷_, _++_, map}
+use lib.Dec.{eqb, leb}
 use lib.ListN.{length, getD, set, take}
-use borrow.Author.Tests.{leb-true}
+use borrow.Author.Tests.{leb-true, ne-eqb}
 use Rattle.laws.specs.Tests.{firstOf, every, any, all}
 
 -- bools
@@ -89,6 +89,24 @@ no-refusal (c ∷ cs) p e =
     let here : 0 < c .1 = leb-true 1 (c .1) (and-fst (leb 1 (c .1)) (all (λ c. leb 1 (c .1)) cs) p) in
     let q : (c .0 ≡ false) × (firstOf cs ≡ 0) = one-refusal (c .0) (c .1) (firstOf cs) here e in
     (q .0, no-refusal cs (and-snd (leb 1 (c .1)) (all (λ c. leb 1 (c .1)) cs) p) (q .1))
+
+pub none-refused : (cs : List (Bool × ℕ)) → NoRefusal cs → firstOf cs ≡ 0
+none-refused [] h = refl
+none-refused (c ∷ cs) h = ap (λ b. cond b (c .1) (firstOf cs)) (h .0) ∙ none-refused cs (h .1)
+
+-- two lists, one behind the other
+pub first-append : (cs ds : List (Bool × ℕ)) → all (λ c. leb 1 (c .1)) cs ≡ true
+    → firstOf (cs ++ ds) ≡ cond (eqb (firstOf cs) 0) (firstOf ds) (firstOf cs)
+first-append [] ds p = refl
+first-append (c ∷ cs) ds p = go (first-append cs ds (and-snd (leb 1 (c .1)) (all (λ c. leb 1 (c .1)) cs) p)) (c .0)
+  where
+    some : 0 < c .1
+    some = leb-true 1 (c .1) (and-fst (leb 1 (c .1)) (all (λ c. leb 1 (c .1)) cs) p)
+
+    go : firstOf (cs ++ ds) ≡ cond (eqb (firstOf cs) 0) (firstOf ds) (firstOf cs) → (b : Bool)
+        → cond b (c .1) (firstOf (cs ++ ds)) ≡ cond (eqb (cond b (c .1) (firstOf cs)) 0) (firstOf ds) (cond b (c .1) (firstOf cs))
+    go e true = rw (ne-eqb (c .1) 0 (λ z. let h : 0 < c .1 = some in omega arith))
+    go e false = e
 
 -- what holds of 0 and of each number of the list holds of the answer
 pub answer-in : (P : ℕ → Bool) (cs : List (Bool × ℕ)) → P 0 ≡ true → all (λ c. P (c .1)) cs ≡ true → P (firstOf cs) ≡ true

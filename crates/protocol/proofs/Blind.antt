@@ -1,29 +1,32 @@
--- A message call reads the message at the front of its bytes alone: two lists of bytes that read alike are taken alike.
+-- A message call reads the message at the front of its bytes alone: two lists of bytes that read alike are taken
+-- alike. And its answer is the first refusal of one ordered list.
 -- Assumes nothing.
 use Prim.Native.Nat.{ℕ, _+_, _≤_}
 use native.Mathlib.Omega.{arith}
 use mathlib.Core.Path.{_≡_, refl, sym, ap, _∙_, subst}
 use mathlib.Core.Bool.{Bool, true, false, cond, not, _||_}
 use mathlib.Core.List.{List, [], _∷_, _++_}
-use lib.Dec.{eqb, leb, ltb}
+use lib.Dec.{eqb, ltb}
 use lib.ListN.{length, take, drop, length-append, length-drop, List·getD-append, take-append-drop}
 use lib.Seq.{take-append-le, drop-append-le, length-take-le}
-use borrow.Author.Tests.{le-ltb, leb-true, ne-eqb}
+use borrow.Author.Tests.{le-ltb}
 use Rattle.laws.specs.Tests.{firstOf, all}
-use Rattle.laws.proofs.Refusals.{and-fst, and-snd}
-use Rattle.wire.specs.Header.{numberOf, kindOf, ttlOf, hopsOf, sizeOf, payloadOf, routeUpdate, queryType, hitType, pingType, pongType}
+use Rattle.laws.proofs.Refusals.{first-append}
+use Rattle.wire.specs.Header.{numberOf, kindOf, ttlOf, hopsOf, sizeOf, payloadOf, routeUpdate, queryType}
+use Rattle.wire.specs.Header.{hitType, pingType, pongType}
 use Rattle.tables.specs.Updates.{updateAnswer}
-use Rattle.protocol.specs.State.{Station, lineAt, withLine, heldAt}
-use Rattle.protocol.specs.declared.Own.{Own}
-use Rattle.protocol.specs.Memory.{Found, numberIn}
-use Rattle.protocol.specs.Lines.{withPong}
-use Rattle.protocol.specs.Outcomes.{Outcome, quiet, refusedOr, pickResult}
-use Rattle.protocol.specs.Queries.{usualLimit, queryRules, queryTaken, queryOutcome}
-use Rattle.protocol.specs.Hits.{hitRules, hitFound, hitTaken, hitOutcome}
-use Rattle.protocol.specs.Pings.{pingRules, pingTaken, pingOutcome, pongRules, arrivedPong, pongOutcome}
-use Rattle.protocol.specs.Calls.{earlyRules, early, updateOutcome, byType, arriving}
+use Rattle.protocol.specs.declared.Line.{Line}
+use Rattle.protocol.specs.declared.Lookup.{Lookup}
+use Rattle.protocol.specs.State.{Station, lookedUp, heldAt}
+use Rattle.protocol.specs.Memory.{numberIn}
+use Rattle.protocol.specs.Outcomes.{Terms, Step, pickResult, unused}
+use Rattle.protocol.specs.Queries.{usualLimit, queryStep}
+use Rattle.protocol.specs.Hits.{hitStep}
+use Rattle.protocol.specs.Pings.{pingStep, pongStep}
+use Rattle.protocol.specs.Calls.{early, updateStep, byType, arrived, arriving}
 use Rattle.protocol.specs.Blind.{Whole, TakenAlike, Blind, UsedExact, updateRules, typeRules, unnamed, Numbers}
-use Rattle.protocol.proofs.Outcomes.{of-refused}
+use Rattle.protocol.proofs.Outcomes.{answer-refused, answer-taken, none-unused, earlyIn}
+use Rattle.protocol.proofs.ByType.{pingIn, pongIn, queryIn, hitIn}
 
 -- all that a message call reads
 pub record ReadsAlike (m′ m : List ℕ) : Type 0 where
@@ -37,48 +40,25 @@ pub record ReadsAlike (m′ m : List ℕ) : Type 0 where
   pub header : ltb (length m′) 23 ≡ ltb (length m) 23
   pub whole : ltb (length m′) (23 + sizeOf m) ≡ ltb (length m) (23 + sizeOf m)
 
-module _ (m′ m : List ℕ) (r : ReadsAlike m′ m) (s : Station) (l : ℕ) where
-  same-early : (out route : ℕ) → early s l m′ out route ≡ early s l m out route
-  unfolding early
-  same-early out route = rw (r .size, r .header, r .whole)
+module _ (m′ m : List ℕ) (r : ReadsAlike m′ m) where
+  same-types : (limit room : ℕ) (lines : List Line) (l : ℕ) (k : Lookup) (t : Terms) (route : List ℕ)
+      → byType limit room lines l k m′ t route ≡ byType limit room lines l k m t route
+  unfolding byType pingStep pongStep updateStep queryStep hitStep
+  same-types limit room lines l k t route = rw (r .payload, r .kind, r .size, r .ttl, r .hops, r .number)
 
-  same-ping : (clock : ℕ) (own : Own) (route : List ℕ) → pingOutcome s l clock own m′ route ≡ pingOutcome s l clock own m route
-  unfolding pingOutcome
-  same-ping clock own route = rw (r .ttl, r .hops, r .number)
+  same-arriving : (limit : ℕ) (s : Station) (l : ℕ) (t : Terms) (route : List ℕ)
+      → arriving limit s l m′ t route ≡ arriving limit s l m t route
+  unfolding arriving early
+  same-arriving limit s l t route =
+      let same = same-types limit (s .room) (s .lines) l (lookedUp s (numberIn m)) t route in
+      rw (r .halves, same, r .size, r .header, r .whole)
 
-  same-pong : (clock : ℕ) (route : List ℕ) → pongOutcome s l clock m′ route ≡ pongOutcome s l clock m route
-  unfolding pongOutcome
-  same-pong clock route = rw (r .payload, r .size, r .ttl, r .hops)
-
-  same-update : (route : List ℕ) → updateOutcome s l m′ route ≡ updateOutcome s l m route
-  unfolding updateOutcome
-  same-update route = rw (r .payload, r .ttl, r .hops)
-
-  same-query : (limit : ℕ) (route : List ℕ) → queryOutcome limit s l m′ route ≡ queryOutcome limit s l m route
-  unfolding queryOutcome
-  same-query limit route = rw (r .payload, r .ttl, r .hops, r .halves, r .number)
-
-  same-hit-rules : (f : Found) → firstOf (hitRules f m′) ≡ firstOf (hitRules f m)
-  same-hit-rules f = simp (r .size, r .ttl, r .hops)
-
-  same-hit : (route : List ℕ) → hitOutcome s m′ route ≡ hitOutcome s m route
-  unfolding hitOutcome
-  same-hit route = rw (r .halves, same-hit-rules (hitFound s m), r .payload, r .ttl, r .hops, r .number)
-
-  same-types : (limit clock : ℕ) (own : Own) (route : List ℕ) → byType limit s l clock own m′ route ≡ byType limit s l clock own m route
-  unfolding byType
-  same-types limit clock own route = rw (r .kind, same-ping clock own route, same-pong clock route, same-update route, same-query limit route, same-hit route)
-
-  same-arriving : (limit clock : ℕ) (own : Own) (out : ℕ) (route : List ℕ) → arriving limit s l clock own m′ out route ≡ arriving limit s l clock own m out route
-  unfolding arriving
-  same-arriving limit clock own out route = rw (same-early out (length route), same-types limit clock own route)
-
-taken-alike : (m′ m : List ℕ) → ReadsAlike m′ m → TakenAlike m′ m
-taken-alike m′ m r =
-    record {
-      outcome = λ s l clock own out route. same-arriving m′ m r s l usualLimit clock own out route;
-      result = λ s l clock own out route. simp (same-arriving m′ m r s l usualLimit clock own out route, r .size);
-    }
+  taken-alike : TakenAlike m′ m
+  taken-alike =
+      record {
+        outcome = λ s l t route. same-arriving usualLimit s l t route;
+        report = λ s l t route. simp (same-arriving usualLimit s l t route, r .size);
+      }
 
 -- a whole message reads alike, whatever follows it
 pub reads-more : (m x : List ℕ) → 23 + sizeOf m ≤ length m → ReadsAlike (m ++ x) m
@@ -86,7 +66,8 @@ reads-more m x w =
     let low : 8 ≤ length m = omega arith in
     let high : 8 ≤ length (drop 8 m) = rw (length-drop 8 m) (omega arith) in
     let four : 4 ≤ length (drop 19 m) = rw (length-drop 19 m) (omega arith) in
-    let size : sizeOf (m ++ x) ≡ sizeOf m = rw (drop-append-le 19 m x (omega arith), take-append-le 4 (drop 19 m) x four) in
+    let size : sizeOf (m ++ x) ≡ sizeOf m
+    = rw (drop-append-le 19 m x (omega arith), take-append-le 4 (drop 19 m) x four) in
     let body : sizeOf m ≤ length (drop 23 m) = rw (length-drop 23 m) (omega arith) in
     let long : length m ≤ length (m ++ x) = rw (length-append m x) (omega arith) in
     record {
@@ -112,84 +93,71 @@ taken-alone m w =
     let back : f ++ drop n m ≡ m = take-append-drop n m in
     let long : length f ≡ n = length-take-le n m w in
     let four : 4 ≤ length (drop 19 f) = rw (length-drop 19 f, long) (omega arith) in
-    let size : sizeOf (f ++ drop n m) ≡ sizeOf f = rw (drop-append-le 19 f (drop n m) (rw long (omega arith)), take-append-le 4 (drop 19 f) (drop n m) four) in
+    let size : sizeOf (f ++ drop n m) ≡ sizeOf f
+    = rw (drop-append-le 19 f (drop n m) (rw long (omega arith)), take-append-le 4 (drop 19 f) (drop n m) four) in
     let same : sizeOf m ≡ sizeOf f = ap sizeOf (sym back) ∙ size in
     let whole : 23 + sizeOf f ≤ length f = omega arith in
     let t : TakenAlike m f = subst (λ (z : List ℕ). TakenAlike z f) back (taken-before f (drop n m) whole) in
     record {
-      outcome = λ s l clock own out route. sym (t .outcome s l clock own out route);
-      result = λ s l clock own out route. sym (t .result s l clock own out route);
+      outcome = λ s l t′ route. sym (t .outcome s l t′ route);
+      report = λ s l t′ route. sym (t .report s l t′ route);
     }
 
 pub blind : Blind
 blind m w = record { more = λ x. taken-before m x w; less = taken-alone m w }
 
 pub used-exact : UsedExact
-used-exact s l clock own m out route = refl
-
--- ordered lists one after the other
-first-append : (cs ds : List (Bool × ℕ)) → all (λ c. leb 1 (c .1)) cs ≡ true → firstOf (cs ++ ds) ≡ cond (eqb (firstOf cs) 0) (firstOf ds) (firstOf cs)
-first-append [] ds p = refl
-first-append (c ∷ cs) ds p = go (first-append cs ds (and-snd (leb 1 (c .1)) (all (λ c. leb 1 (c .1)) cs) p)) (c .0)
-  where
-    some : 1 ≤ c .1
-    some = leb-true 1 (c .1) (and-fst (leb 1 (c .1)) (all (λ c. leb 1 (c .1)) cs) p)
-
-    go : firstOf (cs ++ ds) ≡ cond (eqb (firstOf cs) 0) (firstOf ds) (firstOf cs) → (b : Bool) → cond b (c .1) (firstOf (cs ++ ds)) ≡ cond (eqb (cond b (c .1) (firstOf cs)) 0) (firstOf ds) (cond b (c .1) (firstOf cs))
-    go e true = rw (ne-eqb (c .1) 0 (λ z. let h : 1 ≤ c .1 = some in omega arith))
-    go e false = e
-
--- refused by a list, or else an outcome that some rules answer
-refused-answer : (n : ℕ) (s : Station) (route : List ℕ) (o : Outcome) → refusedOr n s route o .answer ≡ cond (eqb n 0) (o .answer) n
-refused-answer n s route o = go (eqb n 0)
-  where
-    go : (b : Bool) → pickResult b o (quiet n s route) .answer ≡ cond b (o .answer) n
-    go true = refl
-    go false = refl
-
-refused-taken : (n : ℕ) (s : Station) (route : List ℕ) (o : Outcome) → o .answer ≡ 0 → refusedOr n s route o .answer ≡ n
-refused-taken n s route o e =
-    of-refused (λ r. r .answer ≡ n) n s route o (λ z. e ∙ sym z) (λ _. refl)
+used-exact s l m t route = refl
 
 -- one type or the others
-one-type : (b : Bool) (x y : Outcome) (t : Bool) (cs ds : List (Bool × ℕ)) → x .answer ≡ firstOf cs → y .answer ≡ firstOf ((not t, 7) ∷ ds)
+one-type : (b : Bool) (x y : Step) (t : Bool) (cs ds : List (Bool × ℕ))
+    → x .answer ≡ firstOf cs → y .answer ≡ firstOf ((not t, 7) ∷ ds)
     → pickResult b x y .answer ≡ firstOf ((not (b || t), 7) ∷ cond b cs ds)
 one-type true x y t cs ds e f = e
 one-type false x y t cs ds e f = f
 
-module _ (s : Station) (l clock : ℕ) (own : Own) (m route : List ℕ) where
-  ping-number : pingOutcome s l clock own m route .answer ≡ firstOf (pingRules (lineAt s l) clock m)
-  unfolding pingOutcome
-  ping-number = refused-taken (firstOf (pingRules (lineAt s l) clock m)) s route (pingTaken s l clock own m route) refl
+module _ (s : Station) (l : ℕ) (m : List ℕ) (t : Terms) (route : List ℕ) where
+  abbrev pub afterEarly : List (Bool × ℕ)
+  afterEarly = (unnamed m, 7) ∷ typeRules s l (t .clock) m route
 
-  pong-number : pongOutcome s l clock m route .answer ≡ firstOf (pongRules m)
-  unfolding pongOutcome
-  pong-number = refused-taken (firstOf (pongRules m)) s route (quiet 0 (withLine s l (withPong (lineAt s l) (arrivedPong clock m))) route) refl
-
-  update-number : updateOutcome s l m route .answer ≡ firstOf (updateRules (s .room) (heldAt s l route) (ttlOf m) (hopsOf m) (payloadOf m))
-  unfolding updateOutcome updateAnswer
-  update-number = refl
-
-  query-number : queryOutcome usualLimit s l m route .answer ≡ firstOf (queryRules usualLimit s m)
-  unfolding queryOutcome
-  query-number = refused-taken (firstOf (queryRules usualLimit s m)) s route (queryTaken usualLimit s l m route) refl
-
-  hit-number : hitOutcome s m route .answer ≡ firstOf (hitRules (hitFound s m) m)
-  unfolding hitOutcome
-  hit-number = refused-taken (firstOf (hitRules (hitFound s m) m)) s route (hitTaken s (hitFound s m) m route) refl
-
-  pub type-number : arrived usualLimit s l m t route .answer ≡ firstOf ((unnamed m, 7) ∷ typeRules s l clock m route)
-  unfolding byType
+  pub type-number : arrived usualLimit s l m t route .answer ≡ firstOf afterEarly
+  unfolding byType pingStep pongStep updateStep updateAnswer queryStep hitStep
   type-number =
-      one-type (eqb (kindOf m) pingType) _ _ _ _ _ ping-number
-      (one-type (eqb (kindOf m) pongType) _ _ _ _ _ pong-number
-      (one-type (eqb (kindOf m) routeUpdate) _ _ _ _ _ update-number
-      (one-type (eqb (kindOf m) queryType) _ _ _ _ _ query-number
-      (one-type (eqb (kindOf m) hitType) _ (quiet 7 s route) false _ [] hit-number refl))))
+      one-type (eqb (kindOf m) pingType) _ _ _ _ _ (answer-taken _ _ _ _ refl)
+      (one-type (eqb (kindOf m) pongType) _ _ _ _ _ (answer-taken _ _ _ _ refl)
+      (one-type (eqb (kindOf m) routeUpdate) _ _ _ _ _ refl
+      (one-type (eqb (kindOf m) queryType) _ _ _ _ _ (answer-taken _ _ _ _ refl)
+      (one-type (eqb (kindOf m) hitType) _ _ false _ [] (answer-taken _ _ _ _ refl) refl))))
 
 pub numbers : Numbers
 unfolding arriving early
-numbers s l clock own m out route =
-    refused-answer (firstOf (earlyRules s l m out (length route))) s route (arrived usualLimit s l m t route)
-    ∙ ap (λ n. cond (eqb (firstOf (earlyRules s l m out (length route))) 0) n (firstOf (earlyRules s l m out (length route)))) (type-number s l clock own m route)
-    ∙ sym (first-append (earlyRules s l m out (length route)) ((unnamed m, 7) ∷ typeRules s l clock m route) refl)
+numbers s l m t route =
+    let cs : List (Bool × ℕ) = earlyIn s l m (t .out) (length route) in
+    answer-refused (firstOf cs) s route (arrived usualLimit s l m t route)
+    ∙ ap (λ n. cond (eqb (firstOf cs) 0) n (firstOf cs)) (type-number s l m t route)
+    ∙ sym (first-append cs (afterEarly s l m t route) refl)
+
+-- what holds of the refusals of each type holds of a message's
+either : (P : Bool × ℕ → Bool) (b : Bool) (cs ds : List (Bool × ℕ))
+    → all P cs ≡ true → all P ds ≡ true → all P (cond b cs ds) ≡ true
+either P true cs ds p q = p
+either P false cs ds p q = q
+
+module _ (s : Station) (l : ℕ) (m : List ℕ) (t : Terms) (route : List ℕ) where
+  abbrev ofUpdate : List (Bool × ℕ)
+  ofUpdate = updateRules (s .room) (heldAt s l route) (ttlOf m) (hopsOf m) (payloadOf m)
+
+  pub types-all : (P : Bool × ℕ → Bool)
+      → all P (pingIn s l t m) ≡ true → all P (pongIn m) ≡ true → all P ofUpdate ≡ true
+      → all P (queryIn usualLimit s m) ≡ true → all P (hitIn s m) ≡ true
+      → all P (typeRules s l (t .clock) m route) ≡ true
+  types-all P a b c d e =
+      either P (eqb (kindOf m) pingType) (pingIn s l t m) _ a
+      (either P (eqb (kindOf m) pongType) (pongIn m) _ b
+      (either P (eqb (kindOf m) routeUpdate) ofUpdate _ c
+      (either P (eqb (kindOf m) queryType) (queryIn usualLimit s m) _ d
+      (either P (eqb (kindOf m) hitType) (hitIn s m) [] e refl))))
+
+  -- they are none of 1 to 5
+  pub types-sent : unused (firstOf (afterEarly s l m t route)) ≡ false
+  types-sent = none-unused (afterEarly s l m t route) (types-all (λ c. not (unused (c .1))) refl refl refl refl refl)

@@ -16,26 +16,26 @@ use Rattle.protocol.specs.declared.Line.{Line}
 use Rattle.protocol.specs.State.{Station, remembered, lineAt, withLine}
 use Rattle.protocol.specs.Lines.{lineCount, emptyLine, storedPongs}
 use Rattle.protocol.specs.Order.{inOrder}
-use Rattle.protocol.specs.Outcomes.{Outcome, quiet}
+use Rattle.protocol.specs.Outcomes.{Outcome, quiet, refusedOr}
 use Rattle.protocol.specs.Calls.{openingRules, opening, closedState, closingRules, closing}
 use Rattle.protocol.specs.Kept.{Sized}
 use Rattle.protocol.specs.Frames.{Bare, Beside, Silent}
 use Rattle.protocol.specs.Opened.{goneBy, Renewed, LineAnswered, OpenRouted, CloseRouted}
-use Rattle.protocol.proofs.Outcomes.{of-refused}
+use Rattle.protocol.proofs.Outcomes.{of-refused, answer-taken}
 use Rattle.protocol.proofs.Memory.{remembered-left}
 use Rattle.protocol.proofs.Matching.{line-set, line-other}
-use Rattle.protocol.proofs.Arrived.{answer-taken}
+
+-- a quiet outcome is silent, and so is one that is refused or leaves quietly
+pub quiet-silent : (n : ℕ) (s : Station) (route : List ℕ) → Silent (quiet n s route)
+quiet-silent n s route =
+    record { to = refl; sent = refl; delivered = refl; search = refl; textat = refl; textlen = refl }
 
 pub silent-of : (o : Outcome) (n : ℕ) (s : Station) (route : List ℕ) → o ≡ quiet n s route → Silent o
-silent-of o n s route e =
-    record {
-      to = ap (λ (x : Outcome). x .to) e;
-      sent = ap (λ (x : Outcome). x .sent) e;
-      delivered = ap (λ (x : Outcome). x .delivered) e;
-      search = ap (λ (x : Outcome). x .search) e;
-      textat = ap (λ (x : Outcome). x .textat) e;
-      textlen = ap (λ (x : Outcome). x .textlen) e;
-    }
+silent-of o n s route e = rw e (quiet-silent n s route)
+
+turned-silent : (n : ℕ) (s s′ : Station) → Silent (refusedOr n s [] (quiet 0 s′ []))
+turned-silent n s s′ =
+    of-refused Silent n s [] (quiet 0 s′ []) (λ _. quiet-silent 0 s′ []) (λ _. quiet-silent n s [])
 
 -- a line that begins anew
 empty-bare : (live : Bool) → Bare live (emptyLine live)
@@ -48,10 +48,6 @@ bare-at live x e = rw e (empty-bare live)
 -- one line's record is set
 pub beside-set : (s : Station) (l : ℕ) (x : Line) → Beside l s (withLine s l x)
 beside-set s l x = record { others = line-other s l x; room = refl }
-
-pub same-memory : (s : Station) (l : ℕ) (x : Line) → remembered (withLine s l x) ≡ remembered s
-unfolding remembered
-same-memory s l x = refl
 
 -- the answer: 3 where the line is over 7 or stands as it must not
 choice-zero : (t : Bool) → _≡_ {A = ℕ} (cond t 3 0) 0 → t ≡ false
@@ -98,7 +94,7 @@ module _ (s : Station) (z : Sized s) (o : inOrder s ≡ true) (l : ℕ) where
       record {
         line = bare-at true (lineAt (withLine s l (emptyLine true)) l) (line-set s l (emptyLine true) (below h));
         beside = beside-set s l (emptyLine true);
-        memory = same-memory s l (emptyLine true);
+        memory = refl;
       }
 
   closed : l ≤ 7 → Renewed false l (map (goneBy l) (remembered s)) s (closedState s l)
@@ -109,34 +105,26 @@ module _ (s : Station) (z : Sized s) (o : inOrder s ≡ true) (l : ℕ) where
         memory = remembered-left s l z;
       }
 
+  abbrev openRefusal : ℕ
+  openRefusal = firstOf (openingRules (inOrder s) l (lineAt s l .live))
+
+  abbrev closeRefusal : ℕ
+  closeRefusal = firstOf (closingRules (inOrder s) l (lineAt s l .live))
+
   opening-answer : opening s l .answer ≡ cond (not (ltb l lineCount) || lineAt s l .live) 3 0
   unfolding opening
-  opening-answer = answer-taken (firstOf (openingRules s l)) s [] (quiet 0 (withLine s l (emptyLine true)) []) refl ∙ rw o
+  opening-answer = answer-taken openRefusal s [] (quiet 0 (withLine s l (emptyLine true)) []) refl ∙ rw o
 
   closing-answer : closing s l .answer ≡ cond (not (ltb l lineCount) || not (lineAt s l .live)) 3 0
   unfolding closing
-  closing-answer = answer-taken (firstOf (closingRules s l)) s [] (quiet 0 (closedState s l) []) refl ∙ rw o
-
-  opening-silent : Silent (opening s l)
-  unfolding opening
-  opening-silent =
-      of-refused Silent (firstOf (openingRules s l)) s [] (quiet 0 (withLine s l (emptyLine true)) [])
-      (λ _. silent-of _ 0 (withLine s l (emptyLine true)) [] refl)
-      (λ _. silent-of _ (firstOf (openingRules s l)) s [] refl)
-
-  closing-silent : Silent (closing s l)
-  unfolding closing
-  closing-silent =
-      of-refused Silent (firstOf (closingRules s l)) s [] (quiet 0 (closedState s l) [])
-      (λ _. silent-of _ 0 (closedState s l) [] refl)
-      (λ _. silent-of _ (firstOf (closingRules s l)) s [] refl)
+  closing-answer = answer-taken closeRefusal s [] (quiet 0 (closedState s l) []) refl ∙ rw o
 
   pub open-routed : OpenRouted s l (opening s l)
   unfolding opening
   open-routed =
       record {
         answered = line-answered s l false (lineAt s l .live) ((λ e. e), (λ e. e)) ((λ e. e), (λ e. e))
-            (opening s l) opening-answer opening-silent;
+            (opening s l) opening-answer (turned-silent openRefusal s (withLine s l (emptyLine true)));
         leaves = λ h e. let b : l < 8 = omega arith in rw (o, lt-ltb l 8 b, e) (opened h);
       }
 
@@ -146,6 +134,6 @@ module _ (s : Station) (z : Sized s) (o : inOrder s ≡ true) (l : ℕ) where
       record {
         answered = line-answered s l true (not (lineAt s l .live))
             (not-false (lineAt s l .live), (λ e. rw e)) (not-true (lineAt s l .live), (λ e. rw e))
-            (closing s l) closing-answer closing-silent;
+            (closing s l) closing-answer (turned-silent closeRefusal s (closedState s l));
         leaves = λ h e. let b : l < 8 = omega arith in rw (o, lt-ltb l 8 b, e) (closed h);
       }

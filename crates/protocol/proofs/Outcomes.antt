@@ -3,7 +3,7 @@
 use Prim.Native.Nat.{ℕ, zero, suc, _+_, _/_, _≤_, _<_}
 use native.Mathlib.Omega.{arith}
 use mathlib.Core.Path.{_≡_, refl, sym, ap, subst, _∙_}
-use mathlib.Core.Bool.{Bool, true, false, not, _||_}
+use mathlib.Core.Bool.{Bool, true, false, cond, not}
 use mathlib.Core.List.{List, [], _∷_}
 use lib.Dec.{eqb, ltb}
 use lib.ListN.{length, getD}
@@ -28,6 +28,18 @@ module _ {S : Type 0} (P : Result S → Type 0) where
   pub of-refused : (n : ℕ) (s : S) (route : List ℕ) (o : Result S)
       → (n ≡ 0 → P o) → ((n ≡ 0 → ⊥) → P (quiet n s route)) → P (refusedOr n s route o)
   of-refused n s route o f g = of-pick (eqb n 0) o (quiet n s route) (λ e. f (eqb-true n 0 e)) (λ e. g (eqb-false n 0 e))
+
+-- the answer of what may be refused; and where what follows is answered 0
+module _ {S : Type 0} (n : ℕ) (s : S) (route : List ℕ) (o : Result S) where
+  pub answer-refused : refusedOr n s route o .answer ≡ cond (eqb n 0) (o .answer) n
+  answer-refused = go (eqb n 0)
+    where
+      go : (b : Bool) → pickResult b o (quiet n s route) .answer ≡ cond b (o .answer) n
+      go true = refl
+      go false = refl
+
+  pub answer-taken : o .answer ≡ 0 → refusedOr n s route o .answer ≡ n
+  answer-taken e = of-refused (λ (r : Result S). r .answer ≡ n) n s route o (λ z. e ∙ sym z) (λ _. refl)
 
 -- a state whose line is stored again as it stands is that state
 pub stored-again : (s : Station) (l : ℕ) → withLine s l (lineAt s l) ≡ s
