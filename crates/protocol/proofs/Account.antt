@@ -6,7 +6,6 @@ use mathlib.Core.Bool.{Bool, true, false, cond, _&&_, and-false}
 use mathlib.Core.List.{List, [], _∷_}
 use lib.Dec.{eqb}
 use borrow.Author.Tests.{ne-eqb}
-use Rattle.laws.proofs.Refusals.{clash}
 use Rattle.wire.specs.Header.{ttlOf, hopsOf, payloadOf}
 use Rattle.tables.specs.Updates.{updated}
 use Rattle.tables.proofs.HistoryLaws.{update, after-update}
@@ -14,13 +13,14 @@ pub use Rattle.tables.specs.Answers.{noHeld}
 pub use Rattle.tables.proofs.HistoryLaws.{Accounts, nothing-yet}
 use Rattle.protocol.specs.Outcomes.{Outcome}
 use Rattle.protocol.specs.Runs.{Call, Open, Close, Message, Ask, unsent}
-use Rattle.protocol.specs.Expected.{Expected, wiped, opens, closes, brings, asks, brought, isUpdateOf, feed}
+use Rattle.protocol.specs.Expected.{Expected, wiped, brought, isUpdateOf, feed}
 use Rattle.protocol.specs.History.{Update, noted}
 use Rattle.protocol.specs.Demand3.{Agrees}
+use Rattle.protocol.proofs.Outcomes.{unused-some}
 
 -- a call that is unsent is not accepted
 unsent-refused : (c : Call) (n : ℕ) → unsent c n ≡ true → eqb n 0 ≡ false
-unsent-refused c n e = ne-eqb n 0 (λ z. clash (subst (λ (k : ℕ). unsent c k ≡ true) z e) refl)
+unsent-refused c n e = ne-eqb n 0 (unused-some n e)
 
 -- one call: an opening or closing of the line begins anew, an update of the line is added, any other leaves both
 module _ (limit L room : ℕ) (o : Outcome) (e : Expected) (us : List Update) (q : Accounts (e .held) us) where

@@ -10,7 +10,7 @@ use lib.ListN.{length, getD}
 use lib.Seq.{set-getD}
 use borrow.Author.Tests.{eqb-true, eqb-false, ltb-true, ltb-false, not-false, not-true}
 use Rattle.laws.specs.Tests.{firstOf, all, any}
-use Rattle.laws.proofs.Refusals.{or-fst, or-snd, no-refusal, NoRefusal, answer-in, refusal-in}
+use Rattle.laws.proofs.Refusals.{clash, or-fst, or-snd, no-refusal, NoRefusal, answer-in, refusal-in}
 use Rattle.laws.proofs.Rings.{map-getD}
 use Rattle.wire.specs.Header.{largestMessage, kindOf, sizeOf}
 use Rattle.protocol.specs.State.{Station, seen, lookedUp, lineAt, withLine}
@@ -79,6 +79,10 @@ all-unused cs h n = refusal-in unused cs h n
 
 pub none-unused : (cs : List (Bool × ℕ)) → all (λ c. not (unused (c .1))) cs ≡ true → unused (firstOf cs) ≡ false
 none-unused cs h = not-true (unused (firstOf cs)) (answer-in (λ n. not (unused n)) cs refl h)
+
+-- a number that uses nothing is no 0
+pub unused-some : (n : ℕ) → unused n ≡ true → n ≡ 0 → ⊥
+unused-some n u z = clash (subst (λ k. unused k ≡ true) z u) refl
 
 -- an open line
 pub is-open : (s : Station) (l : ℕ) → notOpen l (lineAt s l .live) ≡ false → (l ≤ 7) × (lineAt s l .live ≡ true)
