@@ -3,15 +3,15 @@
 use Prim.Native.Nat.{ℕ, _≤_, _<_}
 use native.Mathlib.Omega.{arith}
 use mathlib.Core.Path.{_≡_, refl, sym, ap, _∙_}
-use mathlib.Core.Bool.{Bool, true, false, not, _&&_, and-false, and-true}
+use mathlib.Core.Bool.{true, false, _&&_, and-false, and-true}
 use mathlib.Core.Logic.{_⊎_, inl, inr}
 use mathlib.Core.List.{List, [], _∷_, map}
-use lib.Dec.{eqb, ltb}
+use lib.Dec.{eqb}
 use lib.ListN.{length, take}
 use lib.Seq.{getD-set-other}
-use borrow.Author.Tests.{ltb-true, lt-ltb, eqb-false, ne-eqb, not-false}
+use borrow.Author.Tests.{lt-ltb, eqb-false, ne-eqb}
 use Rattle.laws.specs.Tests.{firstOf}
-use Rattle.laws.proofs.Refusals.{clash, or-fst, or-snd, of-choice, no-refusal, NoRefusal}
+use Rattle.laws.proofs.Refusals.{clash, of-choice, no-refusal, NoRefusal}
 use Rattle.wire.specs.Header.{headerIn, kindOf, routeUpdate, queryType, hitType, pingType, pongType}
 use Rattle.protocol.specs.declared.Line.{Line}
 use Rattle.protocol.specs.Memory.{capacity, here, numberIn}
@@ -21,12 +21,13 @@ use Rattle.protocol.specs.Order.{inOrder}
 use Rattle.protocol.specs.Outcomes.{Terms, Outcome, quiet}
 use Rattle.protocol.specs.Queries.{usualLimit}
 use Rattle.protocol.specs.Pings.{isProbe, timeKept}
-use Rattle.protocol.specs.Calls.{openingRules, opening, closedState, closingRules, closing}
+use Rattle.protocol.specs.Calls.{opening, closedState, closing}
 use Rattle.protocol.specs.Calls.{arrived, arriving, ownAnswer, ownTaken, asking}
 use Rattle.protocol.specs.Runs.{Area, Call, Open, Close, Message, Ask, World, lent, outcomeOf}
 use Rattle.protocol.specs.Kept.{Sized, asked, leftBy}
 use Rattle.protocol.specs.Demand2.{took, broughtNumber, broughtBy, opened, closed}
-use Rattle.protocol.proofs.Outcomes.{of-refused, other-type, unused-some, is-open, LetIn, asked-in}
+use Rattle.protocol.proofs.Outcomes.{of-refused, openingIn, closingIn, other-type, unused-some}
+use Rattle.protocol.proofs.Outcomes.{is-open, is-closed, LetIn, asked-in}
 use Rattle.protocol.proofs.ByType.{pingDone, pongDone, updateDone, queryDone, hitDone, queryIn}
 use Rattle.protocol.proofs.ByType.{of-types, of-message}
 use Rattle.protocol.proofs.Memory.{remembered-left}
@@ -93,7 +94,8 @@ module _ (s : Station) (z : Sized s) (o : inOrder s ≡ true) (l : ℕ) (m : Lis
 
   -- no query
   passes : (k : ℕ) → eqb (kindOf m) k ≡ true → eqb k queryType ≡ false → (r : Outcome)
-      → remembered (r .state) ≡ remembered s → ((j : ℕ) → lineAt s j .live ≡ true → lineAt (r .state) j .live ≡ true) → Effect s c r
+      → remembered (r .state) ≡ remembered s
+      → ((j : ℕ) → lineAt s j .live ≡ true → lineAt (r .state) j .live ≡ true) → Effect s c r
   passes k e n r same open′ =
       record {
         does = inr (inr (record {
@@ -172,30 +174,25 @@ module _ (s : Station) (z : Sized s) (o : inOrder s ≡ true) where
   opening-effect : (l : ℕ) → Effect s (Open l) (opening s l)
   unfolding opening
   opening-effect l =
-      of-refused (Effect s (Open l)) (firstOf rules) s [] (quiet 0 (withLine s l (emptyLine true)) [])
-      (λ e. let p = no-refusal rules refl e .1 .0 in
-      let b : l < lineCount = ltb-true l lineCount (not-false (ltb l lineCount) (or-fst (not (ltb l lineCount)) _ p)) in
-      let v : lineAt s l .live ≡ false = or-snd (not (ltb l lineCount)) (lineAt s l .live) p in
+      of-refused (Effect s (Open l)) (firstOf (openingIn s l)) s [] (quiet 0 (withLine s l (emptyLine true)) [])
+      (λ e. let v = is-closed s l (no-refusal (openingIn s l) refl e .1 .0) in
       record {
         does = inr (inr (record { passed = refl; unclosed = λ _. refl; memory = refl }));
         stays = λ j w _.
-            let ne : eqb j l ≡ false = ne-eqb j l (λ q. clash w (ap (λ k. lineAt s k .live) q ∙ v)) in
-            (ap (λ b. b && eqb 0 0) ne, open-still s z o l (omega arith) (emptyLine true) (λ _. refl) j w);
+            let ne : eqb j l ≡ false = ne-eqb j l (λ q. clash w (ap (λ k. lineAt s k .live) q ∙ v .1)) in
+            (ap (λ b. b && eqb 0 0) ne, open-still s z o l (v .0) (emptyLine true) (λ _. refl) j w);
       })
-      (refused-effect s (Open l) (firstOf rules) [])
-    where
-      rules : List (Bool × ℕ)
-      rules = openingRules (inOrder s) l (lineAt s l .live)
+      (refused-effect s (Open l) (firstOf (openingIn s l)) [])
 
   closing-effect : (l : ℕ) → Effect s (Close l) (closing s l)
   unfolding closing
   closing-effect l =
-      of-refused (Effect s (Close l)) (firstOf rules) s [] (quiet 0 (closedState s l) [])
+      of-refused (Effect s (Close l)) (firstOf (closingIn s l)) s [] (quiet 0 (closedState s l) [])
       (λ e. record {
         does = inr (inl (record {
           passed = refl;
           line = l;
-          below = is-open s l (no-refusal rules refl e .1 .0) .0;
+          below = is-open s l (no-refusal (closingIn s l) refl e .1 .0) .0;
           closes = λ j. and-true (eqb j l);
           memory = remembered-left s l z;
         }));
@@ -204,10 +201,7 @@ module _ (s : Station) (z : Sized s) (o : inOrder s ≡ true) where
             let same = getD-set-other (s .lines) l j (emptyLine false) nowhere (eqb-false j l ne) in
             (refl, ap (λ (x : Line). x .live) same ∙ w);
       })
-      (refused-effect s (Close l) (firstOf rules) [])
-    where
-      rules : List (Bool × ℕ)
-      rules = closingRules (inOrder s) l (lineAt s l .live)
+      (refused-effect s (Close l) (firstOf (closingIn s l)) [])
 
 pub call-effect : (w : World) → Sized (w .state) → inOrder (w .state) ≡ true → (c : Call)
     → Effect (w .state) c (outcomeOf w c)

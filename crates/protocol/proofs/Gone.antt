@@ -9,20 +9,24 @@ use mathlib.Core.List.{List, [], _∷_, _++_, map}
 use lib.Dec.{eqb}
 use lib.ListN.{take}
 use Rattle.laws.proofs.Refusals.{clash, of-choice}
-use Rattle.protocol.specs.Memory.{capacity, gone, Number, sameNumber, Query, Found, Absent, At, later, pickFound, find, isFound, askerOf, left}
+use Rattle.protocol.specs.Memory.{capacity, gone, Number, sameNumber, Query, left}
+use Rattle.protocol.specs.Memory.{Found, Absent, At, later, pickFound, find, isFound, askerOf}
+use Rattle.protocol.specs.State.{remembered}
 use Rattle.protocol.specs.Runs.{Call, World, step, run, start}
 use Rattle.protocol.specs.Kept.{asked, leftBy}
-use Rattle.protocol.specs.Demand2.{broughtNumber, broughtBy, Origin, Unknown, Here, From, Gone, origin, askerNow, GoneForever}
+use Rattle.protocol.specs.Demand2.{broughtNumber, broughtBy, Origin, Unknown, Here, From, Gone, origin, askerNow}
+use Rattle.protocol.specs.Demand2.{GoneForever}
 use Rattle.protocol.proofs.Effects.{call-effect}
-use Rattle.protocol.proofs.Origins.{unknown-of, same-number, SameLookUp, Invariant, begins, goes-on, holds-after, looked-up}
-use Rattle.protocol.specs.State.{remembered}
+use Rattle.protocol.proofs.Origins.{unknown-of, same-number, SameLookUp, Invariant, begins, goes-on, holds-after}
+use Rattle.protocol.proofs.Origins.{looked-up}
 
 -- In the remembered queries: gone is still gone after a closing, and after one more query gone or not there
 asker-later : (f : Found) → askerOf (later f) ≡ askerOf f
 asker-later Absent = refl
 asker-later (At n a) = refl
 
-gone-left : (l : ℕ) (x : Number) (qs : List Query) → askerOf (find qs x) ≡ gone → askerOf (find (map (leftBy l) qs) x) ≡ gone
+gone-left : (l : ℕ) (x : Number) (qs : List Query) → askerOf (find qs x) ≡ gone
+    → askerOf (find (map (leftBy l) qs) x) ≡ gone
 unfolding find
 gone-left l x [] e = e
 gone-left l x (q ∷ qs) e = go (sameNumber (q .number) x) (gone-left l x qs) e
@@ -57,11 +61,13 @@ found-gone Absent u e = absurd (omega arith)
 found-gone (At n a) u e = clash refl u
 
 -- a number that is remembered is not taken
-gone-asked : (n : ℕ) (x y : Number) (who : ℕ) (qs : List Query) → isFound (find qs y) ≡ false → askerOf (find qs x) ≡ gone → GoneOrAbsent (find (take (suc n) (asked y who ∷ qs)) x)
+gone-asked : (n : ℕ) (x y : Number) (who : ℕ) (qs : List Query) → isFound (find qs y) ≡ false
+    → askerOf (find qs x) ≡ gone → GoneOrAbsent (find (take (suc n) (asked y who ∷ qs)) x)
 unfolding find
 gone-asked n x y who qs u e = go (sameNumber y x) refl
   where
-    go : (b : Bool) → sameNumber y x ≡ b → GoneOrAbsent (pickFound (sameNumber y x) (At 0 who) (later (find (take n qs) x)))
+    go : (b : Bool) → sameNumber y x ≡ b
+        → GoneOrAbsent (pickFound (sameNumber y x) (At 0 who) (later (find (take n qs) x)))
     go true z = absurd (found-gone (find qs y) u (ap (λ (k : Number). askerOf (find qs k)) (same-number y x z) ∙ e))
     go false z = rw z (gone-later (find (take n qs) x) (gone-take n x qs e))
 
@@ -73,30 +79,48 @@ gone-of (From l n) h e = let b : l ≤ 7 = h l n refl in absurd (omega arith)
 gone-of Gone h e = refl
 
 module _ (base : List Query) (x : Number) where
-  gone-step : (w : World) → Invariant base w → (c : Call) → origin (w .log) base x ≡ Gone
-      → (origin (step w c .log) base x ≡ Gone) ⊎ (origin (step w c .log) base x ≡ Unknown)
-  gone-step w v c e =
-      let was : askerOf (find (remembered (w .state)) x) ≡ gone = looked-up base w v x .asker ∙ ap askerNow e in
-      let v′ : Invariant base (step w c) = goes-on base w v c in
-      let now : SameLookUp (find (remembered (step w c .state)) x) (origin (step w c .log) base x) = looked-up base (step w c) v′ x in
-      let is : GoneOrAbsent (find (remembered (step w c .state)) x)
-      = ⊎-elim
-      (λ t. rw (t .memory) (gone-asked 511 x (broughtNumber c) (broughtBy c) (remembered (w .state)) (t .unseen) was))
-      (⊎-elim (λ t. inl (rw (t .memory) (gone-left (t .line) x (remembered (w .state)) was))) (λ t. inl (rw (t .memory) was)))
-      (call-effect w (v .sized) (v .order) c .does) in
-      ⊎-elim
-      (λ q. inl (gone-of (origin (step w c .log) base x) (λ l n f. v′ .since (λ _. false) capacity x l n f .below) (sym (now .asker) ∙ q)))
-      (λ q. inr (unknown-of (origin (step w c .log) base x) (sym (now .found) ∙ q)))
-      is
+  abbrev from : World → Origin
+  from w = origin capacity (w .log) base x
 
-  gone-list : (w : World) → Invariant base w → (cs : List Call) → origin (w .log) base x ≡ Gone
-      → (origin (run w cs .log) base x ≡ Gone) ⊎ ((ps qs : List Call) × (cs ≡ ps ++ qs) × (origin (run w ps .log) base x ≡ Unknown))
+  abbrev found : World → Found
+  found w = find (remembered (w .state)) x
+
+  gone-step : (w : World) → Invariant base w → (c : Call) → from w ≡ Gone
+      → (from (step w c) ≡ Gone) ⊎ (from (step w c) ≡ Unknown)
+  gone-step w v c e =
+      ⊎-elim
+      (λ q. inl (gone-of (from w′) (λ l n f. v′ .since (λ _. false) capacity x l n f .below) (sym (now .asker) ∙ q)))
+      (λ q. inr (unknown-of (from w′) (sym (now .found) ∙ q)))
+      (⊎-elim
+      (λ t. rw (t .memory) (gone-asked 511 x (broughtNumber c) (broughtBy c) (remembered (w .state)) (t .unseen) was))
+      (⊎-elim
+      (λ t. inl (rw (t .memory) (gone-left (t .line) x (remembered (w .state)) was)))
+      (λ t. inl (rw (t .memory) was)))
+      (call-effect w (v .sized) (v .order) c .does))
+    where
+      w′ : World
+      w′ = step w c
+
+      v′ : Invariant base w′
+      v′ = goes-on base w v c
+
+      was : askerOf (found w) ≡ gone
+      was = looked-up base w v x .asker ∙ ap askerNow e
+
+      now : SameLookUp (found w′) (from w′)
+      now = looked-up base w′ v′ x
+
+  gone-list : (w : World) → Invariant base w → (cs : List Call) → from w ≡ Gone
+      → (from (run w cs) ≡ Gone) ⊎ ((ps qs : List Call) × (cs ≡ ps ++ qs) × (from (run w ps) ≡ Unknown))
   gone-list w v [] e = inl e
   gone-list w v (c ∷ cs) e =
       ⊎-elim
-      (λ g. ⊎-elim inl (λ r. inr (c ∷ r .0, r .1, ap (_∷_ c) (r .2), r .3)) (gone-list (step w c) (goes-on base w v c) cs g))
+      (λ g. ⊎-elim inl (λ r. inr (c ∷ r .0, r .1, ap (_∷_ c) (r .2), r .3))
+      (gone-list (step w c) (goes-on base w v c) cs g))
       (λ u. inr (c ∷ [], cs, refl, u))
       (gone-step w v c e)
 
 pub gone-forever : GoneForever
-gone-forever s area cs more x z o = gone-list (remembered s) x (run (start s area) cs) (holds-after (remembered s) (start s area) cs (begins s area z o)) more
+gone-forever s area cs more x z o =
+    gone-list (remembered s) x (run (start s area) cs)
+    (holds-after (remembered s) (start s area) cs (begins s area z o)) more

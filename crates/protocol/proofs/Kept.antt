@@ -3,15 +3,15 @@
 use Prim.Native.Nat.{ℕ, _+_, _%_, _≤_, _<_, min}
 use native.Mathlib.Omega.{arith}
 use mathlib.Core.Path.{_≡_, refl, sym, ap, _∙_}
-use mathlib.Core.Bool.{Bool, true, false, not, _&&_, _||_}
+use mathlib.Core.Bool.{Bool, true, false, _&&_, _||_}
 use mathlib.Core.List.{List, [], _∷_}
 use lib.Dec.{eqb, leb, ltb}
 use lib.ListN.{length, set, take, length-set, length-map, length-take, length-drop, getD-replicate}
 use lib.Seq.{getD-set-same, getD-set-other}
-use borrow.Author.Tests.{leb-true, le-leb, ltb-true, lt-ltb, ltb-false, eqb-true, eqb-false, eq-eqb, not-false}
+use borrow.Author.Tests.{leb-true, le-leb, ltb-true, lt-ltb, ltb-false, eqb-true, eqb-false, eq-eqb}
 use Rattle.laws.specs.Tests.{firstOf, all}
 use Rattle.laws.specs.Ring.{keptPlaces, onward}
-use Rattle.laws.proofs.Refusals.{and-fst, and-snd, and-intro, or-fst, or-snd, or-right, of-choice}
+use Rattle.laws.proofs.Refusals.{and-fst, and-snd, and-intro, or-snd, or-right, of-choice}
 use Rattle.laws.proofs.Refusals.{no-refusal, NoRefusal, all-getD, all-set, all-take, all-weaken, all-map}
 use Rattle.wire.specs.Header.{headerIn, ttlOf, hopsOf, sizeOf, payloadOf}
 use Rattle.tables.specs.Tables.{tableInOrder}
@@ -28,11 +28,11 @@ use Rattle.protocol.specs.Order.{lineInOrder, inOrder}
 use Rattle.protocol.specs.Outcomes.{Terms, Outcome, quiet}
 use Rattle.protocol.specs.Queries.{usualLimit}
 use Rattle.protocol.specs.Pings.{isProbe, timeKept, arrivedPong}
-use Rattle.protocol.specs.Calls.{freshRoom, freshLines, freshMemory, fresh, openingRules, opening}
-use Rattle.protocol.specs.Calls.{closedState, closingRules, closing, arriving, ownAnswer, ownTaken, asking}
+use Rattle.protocol.specs.Calls.{freshRoom, freshLines, freshMemory, fresh, opening}
+use Rattle.protocol.specs.Calls.{closedState, closing, arriving, ownAnswer, ownTaken, asking}
 use Rattle.protocol.specs.Runs.{Call, Open, Close, Message, Ask, lent, outcomeOf, step}
 use Rattle.protocol.specs.Kept.{sizedLine, Sized, Kept, FreshInOrder, OrderKept, OrderKeptByLists, asked, leftBy}
-use Rattle.protocol.proofs.Outcomes.{of-refused, LetIn, asked-in}
+use Rattle.protocol.proofs.Outcomes.{of-refused, openingIn, closingIn, is-closed, LetIn, asked-in}
 use Rattle.protocol.proofs.ByType.{pongIn, queryIn, heldAfter, of-types, of-message}
 use Rattle.protocol.proofs.InOrder.{StateFacts, LineFacts, state-facts, state-order, line-order, facts-at}
 use Rattle.protocol.proofs.Memory.{remembered-newest, remembered-left, stored-newest}
@@ -282,21 +282,15 @@ module _ (s : Station) (z : Sized s) (o : inOrder s ≡ true) where
   kept-opening : (l : ℕ) → Kept s (opening s l .state)
   unfolding opening
   kept-opening l =
-      of-refused KeptBy (firstOf rules) s [] (quiet 0 (withLine s l (emptyLine true)) [])
-      (λ e. let h : l < lineCount = below (no-refusal rules refl e .1 .0) in
-      kept-line s z o l (omega arith) (emptyLine true) (λ _. refl) (empty-facts (s .room) true) refl)
+      of-refused KeptBy (firstOf (openingIn s l)) s [] (quiet 0 (withLine s l (emptyLine true)) [])
+      (λ e. let c = is-closed s l (no-refusal (openingIn s l) refl e .1 .0) in
+      kept-line s z o l (c .0) (emptyLine true) (λ _. refl) (empty-facts (s .room) true) refl)
       (λ _. unchanged)
-    where
-      rules : List (Bool × ℕ)
-      rules = openingRules (inOrder s) l (lineAt s l .live)
-
-      below : (not (ltb l lineCount) || lineAt s l .live) ≡ false → l < lineCount
-      below e = ltb-true l lineCount (not-false (ltb l lineCount) (or-fst (not (ltb l lineCount)) (lineAt s l .live) e))
 
   kept-closing : (l : ℕ) → Kept s (closing s l .state)
   unfolding closing
   kept-closing l =
-      of-refused KeptBy (firstOf (closingRules (inOrder s) l (lineAt s l .live))) s [] (quiet 0 (closedState s l) [])
+      of-refused KeptBy (firstOf (closingIn s l)) s [] (quiet 0 (closedState s l) [])
       (λ _. kept-closed s z o l)
       (λ _. unchanged)
 

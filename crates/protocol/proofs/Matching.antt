@@ -1,5 +1,5 @@
--- The invariant of demand 3: what stands of a line in state and route area is what is expected of it. A call that leaves the line and its
--- part alone keeps it.
+-- The invariant of demand 3: what stands of a line in state and route area is what is expected of it. A call that
+-- leaves the line and its part alone keeps it.
 -- Assumes nothing.
 use Prim.Native.Nat.{ℕ, _<_}
 use mathlib.Core.Path.{_≡_, refl, sym, ap, ap₂, _∙_}
@@ -42,7 +42,8 @@ left-alone q u =
       eight = u .count ∙ q .eight;
       live = q .live ∙ sym (u .live);
       whileOpen = λ o. q .whileOpen (sym (u .live) ∙ o) ∙ sym (ap₂ heldIn (u .table) (u .part));
-      whileClosed = λ o. let p = q .whileClosed (sym (u .live) ∙ o) in (p .0, ap (λ (t : Table). t .mark) (u .table) ∙ p .1);
+      whileClosed = λ o.
+          let p = q .whileClosed (sym (u .live) ∙ o) in (p .0, ap (λ (t : Table). t .mark) (u .table) ∙ p .1);
       sound = q .sound;
     }
 
@@ -57,9 +58,12 @@ module _ (s : Station) (l : ℕ) (x : Line) where
   pub line-other : (L : ℕ) → (L ≡ l → ⊥) → lineAt (withLine s l x) L ≡ lineAt s L
   line-other L ne = getD-set-other (s .lines) l L x nowhere ne
 
--- lines with one record set and another room-keeping change: another line is left alone, and so is a line whose `live` and table stay
-module _ (L : ℕ) (s s′ : Station) (area : List ℕ) (l : ℕ) (x : Line) (r : s′ .room ≡ s .room) (e : s′ .lines ≡ set (s .lines) l x) where
-  pub other-line : (area′ : List ℕ) → partOf (s .room) L area′ ≡ partOf (s .room) L area → (L ≡ l → ⊥) → LeftAlone L s area s′ area′
+-- lines with one record set and another room-keeping change: another line is left alone, and so is a line whose `live`
+-- and table stay
+module _ (L : ℕ) (s s′ : Station) (area : List ℕ) (l : ℕ) (x : Line) (r : s′ .room ≡ s .room)
+    (e : s′ .lines ≡ set (s .lines) l x) where
+  pub other-line : (area′ : List ℕ) → partOf (s .room) L area′ ≡ partOf (s .room) L area → (L ≡ l → ⊥)
+      → LeftAlone L s area s′ area′
   other-line area′ p ne =
       let a : lineAt s′ L ≡ lineAt s L = ap (λ ls. getD ls L nowhere) e ∙ line-other s l x L ne in
       record {
@@ -70,14 +74,15 @@ module _ (L : ℕ) (s s′ : Station) (area : List ℕ) (l : ℕ) (x : Line) (r 
         part = ap (λ n. partOf n L area′) r ∙ p;
       }
 
-  pub same-line : L < length (s .lines) → x .live ≡ lineAt s l .live → x .table ≡ lineAt s l .table → LeftAlone L s area s′ area
+  pub same-line : L < length (s .lines) → x .live ≡ lineAt s l .live → x .table ≡ lineAt s l .table
+      → LeftAlone L s area s′ area
   same-line h v t = go (eqb L l) refl
     where
       go : (b : Bool) → eqb L l ≡ b → LeftAlone L s area s′ area
       go false z = other-line area refl (eqb-false L l z)
       go true z =
           let y : L ≡ l = eqb-true L l z in
-          let a : lineAt s′ L ≡ x = ap₂ (λ (ls : List Line) (k : ℕ). getD ls k nowhere) e y ∙ line-set s l x (rw y at h) in
+          let a : lineAt s′ L ≡ x = ap₂ (λ (ls : List Line) k. getD ls k nowhere) e y ∙ line-set s l x (rw y at h) in
           record {
             room = r;
             count = ap length e ∙ length-set (s .lines) l x;

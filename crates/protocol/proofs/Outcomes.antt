@@ -3,7 +3,7 @@
 use Prim.Native.Nat.{ℕ, zero, suc, _+_, _/_, _≤_, _<_}
 use native.Mathlib.Omega.{arith}
 use mathlib.Core.Path.{_≡_, refl, sym, ap, subst, _∙_}
-use mathlib.Core.Bool.{Bool, true, false, cond, not}
+use mathlib.Core.Bool.{Bool, true, false, cond, not, _||_}
 use mathlib.Core.List.{List, [], _∷_}
 use lib.Dec.{eqb, ltb}
 use lib.ListN.{length, getD}
@@ -18,7 +18,7 @@ use Rattle.protocol.specs.Memory.{Number, numberIn}
 use Rattle.protocol.specs.Lines.{lineNumbers, eachLine, nowhere}
 use Rattle.protocol.specs.Order.{inOrder}
 use Rattle.protocol.specs.Outcomes.{Result, Outcome, Step, quiet, pickResult, refusedOr, stored, unused}
-use Rattle.protocol.specs.Calls.{notOpen, shortRoute, otherRoom, unfitAreas, earlyRules, early, ownRules, ownAnswer}
+use Rattle.protocol.specs.Calls.{openingRules, closingRules, notOpen, shortRoute, otherRoom, unfitAreas, earlyRules, early, ownRules, ownAnswer}
 
 module _ {S : Type 0} (P : Result S → Type 0) where
   pub of-pick : (b : Bool) (x y : Result S) → (b ≡ true → P x) → (b ≡ false → P y) → P (pickResult b x y)
@@ -90,13 +90,25 @@ is-open s l e =
     let h : l < 8 = ltb-true l 8 (not-false (ltb l 8) (or-fst (not (ltb l 8)) (not (lineAt s l .live)) e)) in
     (omega arith, not-false (lineAt s l .live) (or-snd (not (ltb l 8)) (not (lineAt s l .live)) e))
 
+-- a closed one
+pub is-closed : (s : Station) (l : ℕ) → (not (ltb l 8) || lineAt s l .live) ≡ false → (l ≤ 7) × (lineAt s l .live ≡ false)
+is-closed s l e =
+    let h : l < 8 = ltb-true l 8 (not-false (ltb l 8) (or-fst (not (ltb l 8)) (lineAt s l .live) e)) in
+    (omega arith, or-snd (not (ltb l 8)) (lineAt s l .live) e)
+
 same-room : (room out route : ℕ) → unfitAreas room out route ≡ false → route / 8 ≡ room
 same-room room out route e =
     let f : not (eqb (route / 8) room) ≡ false
     = or-snd (shortRoute route) (not (eqb (route / 8) room)) (or-snd (ltb out largestMessage) (otherRoom room route) e) in
     eqb-true (route / 8) room (not-false (eqb (route / 8) room) f)
 
--- the refusals of a message before its type counts, of a state
+-- the refusals of an opening, a closing, and of a message before its type counts, of a state
+abbrev pub openingIn : Station → ℕ → List (Bool × ℕ)
+openingIn s l = openingRules (inOrder s) l (lineAt s l .live)
+
+abbrev pub closingIn : Station → ℕ → List (Bool × ℕ)
+closingIn s l = closingRules (inOrder s) l (lineAt s l .live)
+
 abbrev pub earlyIn : Station → ℕ → List ℕ → ℕ → ℕ → List (Bool × ℕ)
 earlyIn s l m out route = earlyRules (inOrder s) (s .room) out route l (lineAt s l .live) (length m) (sizeOf m)
 

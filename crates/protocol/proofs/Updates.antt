@@ -12,7 +12,8 @@ use borrow.Author.Tests.{ne-eqb, leb-true, eqb-true}
 use Rattle.laws.specs.Tests.{any}
 use Rattle.laws.proofs.Refusals.{Each, each, answer-in, refusal-in, or-right}
 use Rattle.tables.specs.Tables.{Held, lengths, goodLength}
-use Rattle.tables.specs.Updates.{lengthIn, infinityIn, isPatch, resetTests, patchTests, turnTests, goodReset, goodPatch, inTurn, inRange, updateAnswer, updated, resetBy, patchBy, brokenBy}
+use Rattle.tables.specs.Updates.{lengthIn, infinityIn, isPatch, resetTests, patchTests, turnTests, goodReset, goodPatch}
+use Rattle.tables.specs.Updates.{inTurn, inRange, updateAnswer, updated, resetBy, patchBy, brokenBy}
 use Rattle.tables.proofs.AnswerLaws.{ways}
 use Rattle.tables.proofs.KeepLaws.{moved-length, patched-length}
 use Rattle.protocol.specs.Blind.{updateRules}
@@ -38,7 +39,9 @@ resets room p e =
 
 patches : (h : Held) (p : List ℕ) → goodPatch p ≡ true → inTurn h p ≡ true → inRange h p ≡ true → Patches h p
 unfolding goodPatch inTurn
-patches h p e u r = let t = each (patchTests p) e in record { variant = t .1 .0; tests = t; turn = each (turnTests h p) u; range = r }
+patches h p e u r =
+    let t = each (patchTests p) e in
+    record { variant = t .1 .0; tests = t; turn = each (turnTests h p) u; range = r }
 
 -- an update's answer, with what it leaves: a PATCH or a RESET was accepted, or only the mark is broken
 pub by-update : (P : ℕ → Held → Type 0) (room : ℕ) (h : Held) (ttl hops : ℕ) (p : List ℕ)
@@ -53,7 +56,8 @@ by-update P room h ttl hops p f g b =
     (ways room h ttl hops p)
 
 -- its answer is never 1 to 5
-pub update-sent : (room : ℕ) (h : Held) (ttl hops : ℕ) (p : List ℕ) → not (unused (updateAnswer room h ttl hops p)) ≡ true
+pub update-sent : (room : ℕ) (h : Held) (ttl hops : ℕ) (p : List ℕ)
+    → not (unused (updateAnswer room h ttl hops p)) ≡ true
 unfolding updateAnswer
 update-sent room h ttl hops p = answer-in (λ n. not (unused n)) (updateRules room h ttl hops p) refl refl
 
@@ -64,7 +68,8 @@ unfolding updateAnswer
 update-range room h ttl hops p n = refusal-in (λ k. leb 14 k && leb k 16) (updateRules room h ttl hops p) refl n
 
 -- what is written stays within the room
-pub updated-within : (room : ℕ) (h : Held) (ttl hops : ℕ) (p : List ℕ) → length (h .entries) ≤ room → length (updated room h ttl hops p .entries) ≤ room
+pub updated-within : (room : ℕ) (h : Held) (ttl hops : ℕ) (p : List ℕ)
+    → length (h .entries) ≤ room → length (updated room h ttl hops p .entries) ≤ room
 unfolding resetBy brokenBy
 updated-within room h ttl hops p w =
     by-update (λ _ (g : Held). length (g .entries) ≤ room) room h ttl hops p
@@ -72,13 +77,15 @@ updated-within room h ttl hops p w =
     (λ r. rw (length-replicate (lengthIn p) (infinityIn p)) (leb-true (lengthIn p) room (r .tests .1 .1 .1 .0)))
     (λ _ _. w)
 
--- a table with its entries is sound: as many as it is long, within the room, and that many is 0 or a length that a RESET may carry
+-- a table with its entries is sound: as many as it is long, within the room, and that many is 0 or a length that a
+-- RESET may carry
 pub record Sound (room : ℕ) (h : Held) : Type 0 where
   pub full : length (h .entries) ≡ h .table .length
   pub within : h .table .length ≤ room
   pub good : any (eqb (h .table .length)) (0 ∷ lengths) ≡ true
 
-pub sound-updated : (room : ℕ) (h : Held) (ttl hops : ℕ) (p : List ℕ) → Sound room h → Sound room (updated room h ttl hops p)
+pub sound-updated : (room : ℕ) (h : Held) (ttl hops : ℕ) (p : List ℕ)
+    → Sound room h → Sound room (updated room h ttl hops p)
 unfolding resetBy patchBy brokenBy goodLength
 sound-updated room h ttl hops p s =
     by-update (λ _ (g : Held). Sound room g) room h ttl hops p
