@@ -3,13 +3,14 @@
 -- Assumes nothing.
 use Prim.Native.Nat.{ℕ, _-_}
 use mathlib.Core.Path.{_≡_, refl, sym, ap, _∙_, subst}
-use mathlib.Core.Bool.{true}
+use mathlib.Core.Bool.{true, false}
 use mathlib.Core.Logic.{_↔_}
 use mathlib.Core.List.{List, [], _∷_, _++_, append-nil}
 use lib.Dec.{eqb}
 use borrow.Author.Tests.{eqb-true, eq-eqb}
 use Rattle.wire.specs.Header.{payloadOf}
 use Rattle.tables.specs.Tables.{settled}
+use Rattle.protocol.specs.Outcomes.{Terms, termsOf}
 use Rattle.protocol.specs.Queries.{usualLimit, textIn}
 use Rattle.protocol.specs.Runs.{Same, Call, Message, Ask, World, FairCall, Fair, run, start}
 use Rattle.protocol.specs.Expected.{Expected, expected}
@@ -49,7 +50,7 @@ quiet-periods s area L cs eight order seven closed fair =
             (λ v. let o = sym (q .live) ∙ v .0 in x .1 ((o, v .1, v .2), λ n. v .3 (now o text ttl .0 n))),
           );
       asks = λ number text out z.
-          let x = agrees (Ask number text (termsOf 0 noOwn out) Same) tt z .exactly in (
+          let x = agrees (Ask number text (terms out) Same) tt z .exactly in (
             (λ b. let v = x .0 b in (q .live ∙ v .0, λ n. v .1 (now (v .0) text usualLimit .1 n))),
             (λ v. let o = sym (q .live) ∙ v .0 in x .1 (o, λ n. v .1 (now o text usualLimit .0 n))),
           );
@@ -57,6 +58,10 @@ quiet-periods s area L cs eight order seven closed fair =
   where
     w : World
     w = run (start s area) cs
+
+    -- an own query reads neither clock nor own pong
+    terms : ℕ → Terms
+    terms out = termsOf 0 (record { port = 0; address = []; files = 0; kilobytes = 0; calls = false }) out
 
     agrees : (c : Call) → FairCall (s .room) c → AgreesAt usualLimit L (s .room) w c
     agrees c f =
