@@ -132,6 +132,21 @@ module _ {A : Type 0} (f : A → Bool) where
   all-getD (x ∷ xs) zero d h l = and-fst (f x) (all f xs) h
   all-getD (x ∷ xs) (suc i) d h l = all-getD xs i d (and-snd (f x) (all f xs) h) (omega arith)
 
+  -- at any index, where the test holds of what is read past the end
+  pub getD-any : (xs : List A) (i : ℕ) (d : A) → all f xs ≡ true → f d ≡ true → f (getD xs i d) ≡ true
+  getD-any [] i d h e = e
+  getD-any (x ∷ xs) zero d h e = and-fst (f x) (all f xs) h
+  getD-any (x ∷ xs) (suc i) d h e = getD-any xs i d (and-snd (f x) (all f xs) h) e
+
+  pub all-of : ((x : A) → f x ≡ true) → (xs : List A) → all f xs ≡ true
+  all-of h [] = refl
+  all-of h (x ∷ xs) = and-intro (f x) (all f xs) (h x) (all-of h xs)
+
+  pub all-append : (xs ys : List A) → all f xs ≡ true → all f ys ≡ true → all f (xs ++ ys) ≡ true
+  all-append [] ys a b = b
+  all-append (x ∷ xs) ys a b =
+      and-intro (f x) (all f (xs ++ ys)) (and-fst (f x) (all f xs) a) (all-append xs ys (and-snd (f x) (all f xs) a) b)
+
   pub all-set : (xs : List A) (i : ℕ) (x : A) → all f xs ≡ true → f x ≡ true → all f (set xs i x) ≡ true
   all-set [] i x h e = refl
   all-set (y ∷ ys) zero x h e = and-intro (f x) (all f ys) e (and-snd (f y) (all f ys) h)

@@ -1,7 +1,7 @@
--- Refusals exactly when the table gives them, proved: an ordered list of tests gives a number that stands in it once exactly if its test is the
--- first that holds.
+-- Refusals exactly when the table gives them, proved: an ordered list of tests gives a number that stands in it once
+-- exactly if its test is the first that holds.
 -- Assumes nothing.
-use Prim.Native.Nat.{ℕ, zero, suc, _+_, _/_, _≤_, _<_}
+use Prim.Native.Nat.{ℕ, zero, suc, _/_, _≤_, _<_}
 use native.Mathlib.Omega.{arith}
 use mathlib.Core.Path.{_≡_, refl, sym, ap, _∙_}
 use mathlib.Core.Bool.{Bool, true, false, cond, not, _||_, false≢true}
@@ -12,22 +12,21 @@ use lib.ListN.{length, getD, drop}
 use borrow.Author.Tests.{ltb-true, ltb-false, leb-true, le-leb, le-ltb, lt-ltb, eqb-true, eq-eqb, not-true, not-false}
 use Rattle.laws.specs.Tests.{firstOf, any, all}
 use Rattle.laws.proofs.Refusals.{clash, or-split, or-left, or-right, answer-in}
-use Rattle.wire.specs.Header.{kindOf, ttlOf, hopsOf, sizeOf, payloadOf}
-use Rattle.protocol.specs.State.{Station, seen, lineAt}
-use Rattle.protocol.specs.declared.Own.{Own}
+use Rattle.wire.specs.Header.{headerIn, kindOf, ttlOf, hopsOf, sizeOf, payloadOf}
+use Rattle.protocol.specs.State.{Station, lookedUp, lineAt}
 use Rattle.protocol.specs.Memory.{numberIn}
 use Rattle.protocol.specs.Order.{inOrder}
-use Rattle.protocol.specs.Outcomes.{Outcome}
-use Rattle.protocol.specs.Queries.{usualLimit, hasText, queryRules, queryTaken, queryOutcome, ownTaken}
-use Rattle.protocol.specs.Calls.{notOpen, extentRules, ownRules, asking, messageOutcome, ownOutcome}
+use Rattle.protocol.specs.Outcomes.{Terms, Outcome}
+use Rattle.protocol.specs.Queries.{usualLimit, hasText, queryAfter}
+use Rattle.protocol.specs.Calls.{notOpen, extentRules, ownAnswer, ownAfter, ownTaken, asking, messageOutcome}
+use Rattle.protocol.specs.Calls.{ownOutcome}
 use Rattle.protocol.specs.Blind.{typeRules, unnamed}
 use Rattle.protocol.specs.Arrived.{Areas, Arrived}
-use Rattle.protocol.specs.Exactly.{AreasUnfit, LineNotOpen, Named, ZeroFrom, NotAllowed, EarlyExactly, QueryExactly, OwnExactly, Exactly}
-use Rattle.protocol.proofs.Outcomes.{none-unsent}
-use Rattle.protocol.proofs.Arrived.{answer-taken, badAreas, areas-of, areas-fit, by-type, by-query}
-use Rattle.protocol.proofs.Blind.{type-number, numbers}
-use Rattle.protocol.proofs.Extent.{types-all, types-sent}
-use Rattle.protocol.specs.Runs.{unsent}
+use Rattle.protocol.specs.Exactly.{AreasUnfit, LineNotOpen, Named, ZeroFrom, NotAllowed, EarlyExactly}
+use Rattle.protocol.specs.Exactly.{QueryExactly, OwnExactly, Exactly}
+use Rattle.protocol.proofs.Outcomes.{answer-taken}
+use Rattle.protocol.proofs.Blind.{afterEarly, type-number, numbers, types-all}
+use Rattle.protocol.proofs.Arrived.{badAreas, areas-of, areas-fit, by-type}
 
 -- tests and words
 or-iff : (a b : Bool) {A B : Type 0} → (a ≡ true) ↔ A → (b ≡ true) ↔ B → ((a || b) ≡ true) ↔ (A ⊎ B)
@@ -65,25 +64,30 @@ less-iff a b = (ltb-true a b, lt-ltb a b)
 not-less-iff : (a b : ℕ) → (ltb a b ≡ false) ↔ (b ≤ a)
 not-less-iff a b = (ltb-false a b, le-ltb a b)
 
--- an ordered list: at a number's own test, past another test, and behind its last place
-here : (n : ℕ) (b : Bool) (r : ℕ) → (r ≡ n → ⊥) → (cond b n r ≡ n) ↔ (b ≡ true)
-here n true r h = ((λ _. refl), (λ _. refl))
-here n false r h = ((λ z. absurd (h z)), (λ z. absurd (false≢true z)))
+-- an ordered list: at a number's own test, which stands behind no other of that number, and past another test
+here : (n : ℕ) (b : Bool) (cs : List (Bool × ℕ)) → all (λ c. not (eqb (c .1) n)) cs ≡ true → eqb 0 n ≡ false
+    → (firstOf ((b, n) ∷ cs) ≡ n) ↔ (b ≡ true)
+here n b cs h z = go b
+  where
+    behind : firstOf cs ≡ n → ⊥
+    behind e = clash (eq-eqb (firstOf cs) n e) (not-true _ (answer-in (λ k. not (eqb k n)) cs (ap not z) h))
 
-past : (n : ℕ) {X Y : Type 0} (b : Bool) (k r : ℕ) → (k ≡ n → ⊥) → (b ≡ false) ↔ Y → (r ≡ n) ↔ X → (cond b k r ≡ n) ↔ (Y × X)
+    go : (b : Bool) → (cond b n (firstOf cs) ≡ n) ↔ (b ≡ true)
+    go true = ((λ _. refl), (λ _. refl))
+    go false = ((λ e. absurd (behind e)), (λ e. absurd (false≢true e)))
+
+past : (n : ℕ) {X Y : Type 0} (b : Bool) (k r : ℕ) → (k ≡ n → ⊥) → (b ≡ false) ↔ Y → (r ≡ n) ↔ X
+    → (cond b k r ≡ n) ↔ (Y × X)
 past n true k r h y x = ((λ z. absurd (h z)), (λ z. absurd (false≢true (sym (y .1 (z .0))))))
 past n false k r h y x = ((λ z. (y .0 refl, x .0 z)), (λ z. x .1 (z .1)))
-
-behind : (n : ℕ) (cs : List (Bool × ℕ)) → all (λ c. not (eqb (c .1) n)) cs ≡ true → eqb 0 n ≡ false → firstOf cs ≡ n → ⊥
-behind n cs h z e =
-    clash (eq-eqb (firstOf cs) n e) (not-true (eqb (firstOf cs) n) (answer-in (λ k. not (eqb k n)) cs (ap not z) h))
 
 -- the words of the tests
 module _ (s : Station) (out : ℕ) (route : List ℕ) where
   unfit-iff : (badAreas s out route ≡ true) ↔ AreasUnfit s out route
   unfit-iff =
-      or-iff (ltb out 4119) (ltb (length route) 32 || not (eqb (length route / 8) (s .room))) (less-iff out 4119)
-      (or-iff (ltb (length route) 32) (not (eqb (length route / 8) (s .room))) (less-iff (length route) 32) (other-iff (length route / 8) (s .room)))
+      let n : ℕ = length route in
+      or-iff (ltb out 4119) (ltb n 32 || not (eqb (n / 8) (s .room))) (less-iff out 4119)
+      (or-iff (ltb n 32) (not (eqb (n / 8) (s .room))) (less-iff n 32) (other-iff (n / 8) (s .room)))
 
   fit-iff : (badAreas s out route ≡ false) ↔ Areas s out route
   fit-iff = (areas-of s out route, areas-fit s out route)
@@ -97,7 +101,7 @@ over-iff l = (there, back)
     back : 7 < l → not (ltb l 8) ≡ true
     back h = ap not (le-ltb l 8 (omega arith))
 
-closed-iff : (s : Station) (l : ℕ) → (notOpen s l ≡ true) ↔ LineNotOpen s l
+closed-iff : (s : Station) (l : ℕ) → (notOpen l (lineAt s l .live) ≡ true) ↔ LineNotOpen s l
 closed-iff s l = or-iff (not (ltb l 8)) (not (lineAt s l .live)) (over-iff l) (no-iff (lineAt s l .live))
 
 named-iff : (m : List ℕ) → (any (eqb (kindOf m)) (0x00 ∷ 0x01 ∷ 0x30 ∷ 0x80 ∷ 0x81 ∷ []) ≡ true) ↔ Named m
@@ -120,7 +124,8 @@ zero-from zero [] e = absurd (false≢true e)
 zero-from (suc k) [] e = absurd (false≢true e)
 zero-from zero (b ∷ bs) e = by (eqb 0 b) refl e (zero-from zero bs)
   where
-    by : (t : Bool) → eqb 0 b ≡ t → (t || any (eqb 0) bs) ≡ true → (any (eqb 0) bs ≡ true → ZeroFrom zero bs) → ZeroFrom zero (b ∷ bs)
+    by : (t : Bool) → eqb 0 b ≡ t → (t || any (eqb 0) bs) ≡ true → (any (eqb 0) bs ≡ true → ZeroFrom zero bs)
+        → ZeroFrom zero (b ∷ bs)
     by true h e f = record { index = 0; behind = omega arith; within = omega arith; zero = sym (eqb-true 0 b h) }
     by false h e f =
         let z : ZeroFrom zero bs = f e in
@@ -135,7 +140,8 @@ zero-from (suc k) (b ∷ bs) e =
 from-zero : (k : ℕ) (p : List ℕ) (i : ℕ) → k ≤ i → i < length p → getD p i 1 ≡ 0 → any (eqb 0) (drop k p) ≡ true
 from-zero k [] i a b z = absurd (omega arith)
 from-zero zero (x ∷ xs) zero a b z = or-left (eqb 0 x) (any (eqb 0) xs) (eq-eqb 0 x (sym z))
-from-zero zero (x ∷ xs) (suc i) a b z = or-right (eqb 0 x) (any (eqb 0) xs) (from-zero zero xs i (omega arith) (omega arith) z)
+from-zero zero (x ∷ xs) (suc i) a b z =
+    or-right (eqb 0 x) (any (eqb 0) xs) (from-zero zero xs i (omega arith) (omega arith) z)
 from-zero (suc k) (x ∷ xs) zero a b z = absurd (omega arith)
 from-zero (suc k) (x ∷ xs) (suc i) a b z = from-zero k xs i (omega arith) (omega arith) z
 
@@ -147,97 +153,90 @@ allowed-iff m =
     or-iff (eqb (ttlOf m) 0) (ltb 15 (ttlOf m) || leb 7 (hopsOf m)) (eqb-iff (ttlOf m) 0)
     (or-iff (ltb 15 (ttlOf m)) (leb 7 (hopsOf m)) (less-iff 15 (ttlOf m)) (leb-true 7 (hopsOf m), le-leb 7 (hopsOf m)))
 
--- 1, 2 and 3 of a message: what follows them is 4, 5, or none of 1 to 5
-beyond : (n : ℕ) → (4 ≡ n → ⊥) → (5 ≡ n → ⊥) → (r : ℕ) → (r ≡ n → ⊥) → (a b c : Bool) → cond a 4 (cond b 5 (cond c 4 r)) ≡ n → ⊥
-beyond n f g r h true b c z = f z
-beyond n f g r h false true c z = g z
-beyond n f g r h false false true z = f z
-beyond n f g r h false false false z = h z
-
+-- a message call
 module _ (s : Station) (l : ℕ) (m : List ℕ) (t : Terms) (route : List ℕ) where
-  abbrev byItsType : ℕ
-  byItsType = firstOf ((unnamed m, 7) ∷ typeRules s l clock m route)
+  abbrev answer : ℕ
+  answer = messageOutcome s l m t route .answer
 
-  abbrev rest : ℕ
-  rest = firstOf (extentRules m ++ ((unnamed m, 7) ∷ typeRules s l clock m route))
+  abbrev bad : Bool
+  bad = badAreas s (t .out) route
 
-  not-rest : (n : ℕ) → unsent n ≡ true → (4 ≡ n → ⊥) → (5 ≡ n → ⊥) → rest ≡ n → ⊥
-  not-rest n u f g =
-      beyond n f g byItsType
-      (λ z. clash (ap unsent z ∙ u) (none-unsent ((unnamed m, 7) ∷ typeRules s l clock m route) (types-sent s l clock m route)))
-      (ltb (length m) 23) (ltb 4096 (sizeOf m)) (ltb (length m) (23 + sizeOf m))
+  abbrev fromExtent : List (Bool × ℕ)
+  fromExtent = extentRules (length m) (sizeOf m) ++ afterEarly s l m t route
 
-  abbrev fromLine : ℕ
-  fromLine = cond (notOpen s l) 3 rest
+  abbrev fromLine : List (Bool × ℕ)
+  fromLine = (notOpen l (lineAt s l .live), 3) ∷ fromExtent
 
-  abbrev fromAreas : ℕ
-  fromAreas = cond (badAreas s out route) 2 fromLine
+  abbrev fromAreas : List (Bool × ℕ)
+  fromAreas = (bad, 2) ∷ fromLine
 
-  early-exactly : EarlyExactly s l out route (messageOutcome s l m t route .answer)
+  -- numbers that no type's rules have
+  abbrev Lacks : ℕ → Type 0
+  Lacks n = all (λ c. not (eqb (c .1) n)) (typeRules s l (t .clock) m route) ≡ true
+
+  lacks-one : Lacks 1
+  lacks-one = types-all s l m t route (λ c. not (eqb (c .1) 1)) refl refl refl refl refl
+
+  lacks-two : Lacks 2
+  lacks-two = types-all s l m t route (λ c. not (eqb (c .1) 2)) refl refl refl refl refl
+
+  lacks-three : Lacks 3
+  lacks-three = types-all s l m t route (λ c. not (eqb (c .1) 3)) refl refl refl refl refl
+
+  lacks-seven : Lacks 7
+  lacks-seven = types-all s l m t route (λ c. not (eqb (c .1) 7)) refl refl refl refl refl
+
+  early-exactly : EarlyExactly s l (t .out) route answer
   early-exactly =
-      rw (numbers s l clock own m out route)
+      rw (numbers s l m t route)
       (record {
-        one = Iff·trans (here 1 (not (inOrder s)) fromAreas (λ z. not-one (badAreas s out route) (notOpen s l) z)) (no-iff (inOrder s));
+        one = Iff·trans (here 1 (not (inOrder s)) fromAreas lacks-one refl) (no-iff (inOrder s));
         two =
-            past 2 (not (inOrder s)) 1 fromAreas (λ z. absurd (omega arith)) (yes-iff (inOrder s))
-            (Iff·trans (here 2 (badAreas s out route) fromLine (λ z. not-line (notOpen s l) z)) (unfit-iff s out route));
+            past 2 (not (inOrder s)) 1 (firstOf fromAreas) (λ z. absurd (omega arith)) (yes-iff (inOrder s))
+            (Iff·trans (here 2 bad fromLine lacks-two refl) (unfit-iff s (t .out) route));
         three =
-            past 3 (not (inOrder s)) 1 fromAreas (λ z. absurd (omega arith)) (yes-iff (inOrder s))
-            (past 3 (badAreas s out route) 2 fromLine (λ z. absurd (omega arith)) (fit-iff s out route)
-            (Iff·trans (here 3 (notOpen s l) rest (not-rest 3 refl (λ z. absurd (omega arith)) (λ z. absurd (omega arith)))) (closed-iff s l)));
+            past 3 (not (inOrder s)) 1 (firstOf fromAreas) (λ z. absurd (omega arith)) (yes-iff (inOrder s))
+            (past 3 bad 2 (firstOf fromLine) (λ z. absurd (omega arith)) (fit-iff s (t .out) route)
+            (Iff·trans (here 3 (notOpen l (lineAt s l .live)) fromExtent lacks-three refl) (closed-iff s l)));
       })
-    where
-      not-one : (a b : Bool) → cond a 2 (cond b 3 rest) ≡ 1 → ⊥
-      not-one true b z = absurd (omega arith)
-      not-one false true z = absurd (omega arith)
-      not-one false false z = not-rest 1 refl (λ z. absurd (omega arith)) (λ z. absurd (omega arith)) z
-
-      not-line : (b : Bool) → cond b 3 rest ≡ 2 → ⊥
-      not-line true z = absurd (omega arith)
-      not-line false z = not-rest 2 refl (λ z. absurd (omega arith)) (λ z. absurd (omega arith)) z
 
   -- 7, and 6 and 8 of a query, of a message that has arrived
-  module _ (o : inOrder s ≡ true) (a : Arrived s l m out route) where
-    seven-exactly : (messageOutcome s l m t route .answer ≡ 7) ↔ (Named m → ⊥)
+  module _ (o : inOrder s ≡ true) (a : Arrived s l m (t .out) route) where
+    by-its-type : answer ≡ firstOf (afterEarly s l m t route)
+    by-its-type = ap (λ (r : Outcome). r .answer) (by-type s l m t route o usualLimit a) ∙ type-number s l m t route
+
+    seven-exactly : (answer ≡ 7) ↔ (Named m → ⊥)
     seven-exactly =
-        let is : messageOutcome s l m t route .answer ≡ byItsType
-        = ap (λ (r : Outcome). r .answer) (by-type s o l m out route clock own a) ∙ type-number s l clock own m route in
-        let first = here 7 (unnamed m) (firstOf (typeRules s l clock m route)) (behind 7 (typeRules s l clock m route) none refl) in
-        rw is (Iff·trans first (none-iff _ (named-iff m)))
-      where
-        none : all (λ c. not (eqb (c .1) 7)) (typeRules s l clock m route) ≡ true
-        none = types-all s l clock m route (λ c. not (eqb (c .1) 7)) refl refl refl refl refl
+        rw by-its-type
+        (Iff·trans (here 7 (unnamed m) (typeRules s l (t .clock) m route) lacks-seven refl) (none-iff _ (named-iff m)))
 
     module _ (k : kindOf m ≡ 0x80) where
-      query-answer : messageOutcome s l m t route .answer ≡ firstOf (queryRules usualLimit s m)
-      unfolding queryOutcome
-      query-answer =
-          ap (λ (r : Outcome). r .answer) (by-type s o l m out route clock own a ∙ by-query s o l m out route clock own k)
-          ∙ answer-taken (firstOf (queryRules usualLimit s m)) s route (queryTaken usualLimit s l m route) refl
-
       abbrev notAllowed : Bool
       notAllowed = eqb (ttlOf m) 0 || (ltb 15 (ttlOf m) || leb 7 (hopsOf m))
 
       abbrev last : List (Bool × ℕ)
-      last = (seen s (numberIn m), 9) ∷ (eqb (hopsOf m) 255, 12) ∷ []
+      last = queryAfter (headerIn m) (lookedUp s (numberIn m))
 
-      query-exactly : QueryExactly m (messageOutcome s l m t route .answer)
+      abbrev text : Bool
+      text = hasText (payloadOf m)
+
+      query-exactly : QueryExactly m answer
       query-exactly =
-          rw query-answer
+          rw (by-its-type, k)
           (record {
             six =
-                Iff·trans (here 6 (not (hasText (payloadOf m))) (firstOf ((notAllowed, 8) ∷ last)) (behind 6 ((notAllowed, 8) ∷ last) refl refl))
-                (none-iff (hasText (payloadOf m)) (zero-iff 2 (payloadOf m)));
+                Iff·trans (here 6 (not text) ((notAllowed, 8) ∷ last) refl refl)
+                (none-iff text (zero-iff 2 (payloadOf m)));
             eight =
-                past 8 (not (hasText (payloadOf m))) 6 (firstOf ((notAllowed, 8) ∷ last)) (λ z. absurd (omega arith))
-                (some-iff (hasText (payloadOf m)) (zero-iff 2 (payloadOf m)))
-                (Iff·trans (here 8 notAllowed (firstOf last) (behind 8 last refl refl)) (allowed-iff m));
+                past 8 (not text) 6 (firstOf ((notAllowed, 8) ∷ last)) (λ z. absurd (omega arith))
+                (some-iff text (zero-iff 2 (payloadOf m)))
+                (Iff·trans (here 8 notAllowed last refl refl) (allowed-iff m));
           })
 
 -- an own query
 module _ (s : Station) (number text : List ℕ) (out : ℕ) (route : List ℕ) where
   abbrev fromNumber : List (Bool × ℕ)
-  fromNumber = (seen s (numberIn number), 9) ∷ []
+  fromNumber = ownAfter (lookedUp s (numberIn number))
 
   abbrev fromZero : List (Bool × ℕ)
   fromZero = (any (eqb 0) text, 6) ∷ fromNumber
@@ -249,8 +248,8 @@ module _ (s : Station) (number text : List ℕ) (out : ℕ) (route : List ℕ) w
   fromRoom = (badAreas s out route, 2) ∷ fromSize
 
   own-answer : ownOutcome s number text out route .answer ≡ firstOf ((not (inOrder s), 1) ∷ fromRoom)
-  unfolding asking
-  own-answer = answer-taken (firstOf (ownRules s number text out (length route))) s route (ownTaken usualLimit s number text route) refl
+  unfolding asking ownAnswer
+  own-answer = answer-taken _ s route (ownTaken usualLimit s number text route) refl
 
   -- in order; and with areas that fit
   ordered : (n : ℕ) {X : Type 0} → (1 ≡ n → ⊥) → (firstOf fromRoom ≡ n) ↔ X
@@ -265,17 +264,18 @@ module _ (s : Station) (number text : List ℕ) (out : ℕ) (route : List ℕ) w
   own-exactly =
       rw own-answer
       (record {
-        one = Iff·trans (here 1 (not (inOrder s)) (firstOf fromRoom) (behind 1 fromRoom refl refl)) (no-iff (inOrder s));
+        one = Iff·trans (here 1 (not (inOrder s)) fromRoom refl refl) (no-iff (inOrder s));
         two =
             ordered 2 (λ z. absurd (omega arith))
-            (Iff·trans (here 2 (badAreas s out route) (firstOf fromSize) (behind 2 fromSize refl refl)) (unfit-iff s out route));
+            (Iff·trans (here 2 (badAreas s out route) fromSize refl refl) (unfit-iff s out route));
         five =
             fitted 5 (λ z. absurd (omega arith)) (λ z. absurd (omega arith))
-            (Iff·trans (here 5 (ltb 4093 (length text)) (firstOf fromZero) (behind 5 fromZero refl refl)) (less-iff 4093 (length text)));
+            (Iff·trans (here 5 (ltb 4093 (length text)) fromZero refl refl) (less-iff 4093 (length text)));
         six =
             fitted 6 (λ z. absurd (omega arith)) (λ z. absurd (omega arith))
-            (past 6 (ltb 4093 (length text)) 5 (firstOf fromZero) (λ z. absurd (omega arith)) (not-less-iff 4093 (length text))
-            (Iff·trans (here 6 (any (eqb 0) text) (firstOf fromNumber) (behind 6 fromNumber refl refl)) (zero-iff 0 text)));
+            (past 6 (ltb 4093 (length text)) 5 (firstOf fromZero) (λ z. absurd (omega arith))
+            (not-less-iff 4093 (length text))
+            (Iff·trans (here 6 (any (eqb 0) text) fromNumber refl refl) (zero-iff 0 text)));
       })
 
 pub exactly : Exactly

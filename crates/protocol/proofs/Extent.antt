@@ -1,4 +1,4 @@
--- 4 and 5 exactly, proved.
+-- 4 and 5 exactly where specs/Extent has them: three tests in order, case by case.
 -- Assumes nothing.
 use Prim.Native.Nat.{ℕ, _+_, _≤_, _<_}
 use native.Mathlib.Decide.{decLe}

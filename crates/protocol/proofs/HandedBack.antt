@@ -1,18 +1,17 @@
--- What a caller is handed back, proved.
+-- What a caller is told of an outcome is the outcome's, value by value; and a fresh state remembers nothing.
 -- Assumes nothing.
 use Prim.Native.Nat.{ℕ}
 use mathlib.Core.Path.{refl}
 use Rattle.laws.specs.Ring.{keptPlaces}
-use Rattle.protocol.specs.Outcomes.{Outcome, handled}
-use Rattle.protocol.specs.Calls.{fresh, opening, closing, changed, messageOutcome, ownOutcome}
+use Rattle.protocol.specs.Memory.{queriesIn}
+use Rattle.protocol.specs.Outcomes.{Outcome, reportOf}
+use Rattle.protocol.specs.Calls.{fresh, messageOutcome, ownOutcome}
 use Rattle.protocol.specs.Blind.{usedAfter}
-use Rattle.protocol.specs.HandedBack.{HandedBack, ChangeHanded, AllHanded, FreshRemembersNothing}
-use Rattle.protocol.specs.State.{remembered}
+use Rattle.protocol.specs.HandedBack.{HandedBack, AllHanded, FreshRemembersNothing}
 
-handed : (o : Outcome) (used : ℕ) → HandedBack (handled o used) o used
+handed : (o : Outcome) (used : ℕ) → HandedBack (reportOf o used) o used
 handed o used =
     record {
-      state = refl;
       answer = refl;
       used = refl;
       written = refl;
@@ -23,18 +22,13 @@ handed o used =
       textlen = refl;
     }
 
-change-handed : (o : Outcome) → ChangeHanded (changed o) o
-change-handed o = record { state = refl; answer = refl }
-
 pub all-handed : AllHanded
 all-handed =
     record {
-      opens = λ s l. change-handed (opening s l);
-      closes = λ s l. change-handed (closing s l);
-      message = λ s l clock own m out route. (let o : Outcome = messageOutcome s l m t route in handed o (usedAfter (o .answer) m));
+      message = λ s l m t route. let o : Outcome = messageOutcome s l m t route in handed o (usedAfter (o .answer) m);
       asks = λ s number text out route. handed (ownOutcome s number text out route) 0;
     }
 
 pub fresh-remembers : FreshRemembersNothing
-unfolding remembered keptPlaces fresh
+unfolding queriesIn keptPlaces fresh
 fresh-remembers n = refl

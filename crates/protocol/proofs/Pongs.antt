@@ -2,23 +2,33 @@
 -- Assumes nothing.
 use Prim.Native.Nat.{ℕ, zero, suc, _+_, _≤_, _<_}
 use native.Mathlib.Omega.{arith}
-use mathlib.Core.Path.{_≡_, refl, sym, ap, _∙_}
+use mathlib.Core.Path.{_≡_, refl, sym, ap, ap₂, _∙_}
 use mathlib.Core.Bool.{Bool, true, false, cond, not, _&&_, _||_}
 use mathlib.Core.Logic.{_⊎_, inl, inr, ⊎-elim}
 use mathlib.Core.List.{List, [], _∷_, _++_, map}
-use lib.Dec.{eqb, ltb}
+use lib.Dec.{eqb, leb, ltb}
 use lib.ListN.{length, getD, take, length-take}
 use lib.Seq.{getD-take}
-use borrow.Author.Tests.{ltb-true, ltb-false, lt-ltb, eqb-true, eqb-false, ne-eqb}
+use borrow.Author.Tests.{leb-true, ltb-true, ltb-false, lt-ltb, eqb-true, eqb-false, ne-eqb, not-true}
 use Rattle.laws.specs.Tests.{all}
-use Rattle.laws.proofs.Refusals.{and-fst, and-snd, and-intro, or-split, of-choice, all-getD}
+use Rattle.laws.specs.Ring.{keptPlaces}
+use Rattle.laws.proofs.Refusals.{and-fst, and-snd, and-intro, or-split, of-choice, all-getD, getD-any, all-append}
+use Rattle.laws.proofs.Refusals.{all-take, all-weaken}
 use Rattle.laws.proofs.Rings.{map-take}
 use Rattle.protocol.specs.declared.Pong.{Pong}
+use Rattle.protocol.specs.declared.Line.{Line}
+use Rattle.wire.specs.Header.{hopsOf, numberOf}
 use Rattle.protocol.specs.State.{Station, lineAt}
-use Rattle.protocol.specs.Lines.{lineNumbers, isOther, noPong, storedPongs, elapsed}
-use Rattle.protocol.specs.Pings.{ranked, keepIf, flat, walk, isFresh, storedSent, pongBytes}
+use Rattle.protocol.specs.Lines.{lineNumbers, isOther, noPong, nowhere, lineIn, pongHops, storedPongs, elapsed}
+use Rattle.protocol.specs.Order.{lowHops, lineInOrder, inOrder}
+use Rattle.protocol.specs.Pings.{ranked, keepIf, flat, walk, isFresh, storedSent, pongBytes, oneHopMore}
+use Rattle.protocol.specs.Pings.{storedBytes}
 use Rattle.protocol.specs.Pongs.{Place, firstPlace, pongAt, Before, MayAnswer, Among, FirstTen, storedWritten}
 use Rattle.protocol.proofs.Outcomes.{counting, counted, numbers-at}
+use Rattle.protocol.proofs.InOrder.{state-facts, line-facts}
+
+abbrev ranks : List ℕ
+ranks = 0 ∷ 1 ∷ 2 ∷ 3 ∷ 4 ∷ 5 ∷ 6 ∷ 7 ∷ 8 ∷ 9 ∷ []
 
 -- what is kept of a list
 module _ {A : Type 0} (f : A → Bool) where
@@ -37,6 +47,47 @@ module _ {A : Type 0} (f : A → Bool) where
       (λ e. and-intro (f x) (all f (keepIf f xs)) e (keep-all xs))
       (λ _. keep-all xs)
 
+-- what holds of the pongs stored by each line holds of those sent
+all-flat : {A B : Type 0} (f : A → Bool) (g : B → List A) → ((x : B) → all f (g x) ≡ true) → (xs : List B)
+    → all f (flat (map g xs)) ≡ true
+all-flat f g h [] = refl
+all-flat f g h (x ∷ xs) = all-append f (g x) (flat (map g xs)) (h x) (all-flat f g h xs)
+
+module _ (f : Pong → Bool) where
+  all-ranked : (r : ℕ) (ps : List Pong) → all f ps ≡ true → all f (ranked r ps) ≡ true
+  all-ranked r [] h = refl
+  all-ranked zero (p ∷ ps) h = and-intro (f p) true (and-fst (f p) (all f ps) h) refl
+  all-ranked (suc r) (p ∷ ps) h = all-ranked r ps (and-snd (f p) (all f ps) h)
+
+  pub all-sent : (lines : List Line) → ((k : ℕ) → all f (storedPongs (lineIn lines k)) ≡ true) → (l clock : ℕ)
+      → all f (storedSent lines l clock) ≡ true
+  unfolding walk
+  all-sent lines h l clock =
+      all-take f 10 (keepIf (isFresh clock) (walk lines l))
+      (all-keep (isFresh clock) f (walk lines l)
+      (all-flat f (λ r. flat (map (at r) others))
+      (λ r. all-flat f (at r) (λ k. all-ranked r (storedPongs (lineIn lines k)) (h k)) others)
+      ranks))
+    where
+      others : List ℕ
+      others = keepIf (isOther l) lineNumbers
+
+      at : ℕ → ℕ → List Pong
+      at r k = ranked r (storedPongs (lineIn lines k))
+
+-- in a state in order these have Hops of 7 at most
+abbrev low : Pong → Bool
+low p = leb (p .hops) pongHops
+
+low-sent : (s : Station) → inOrder s ≡ true → (l clock : ℕ) → all low (storedSent (s .lines) l clock) ≡ true
+unfolding storedPongs keptPlaces
+low-sent s o =
+    all-sent low (s .lines)
+    (λ k. getD-any lowHops (s .lines) k nowhere
+    (all-weaken (lineInOrder (s .room)) lowHops (s .lines) (λ x e. line-facts (s .room) x e .hops)
+    (state-facts s o .lines))
+    refl)
+
 -- the places in order
 abbrev row : ℕ → List ℕ → List Place → List Place
 row r [] rest = rest
@@ -45,9 +96,6 @@ row r (k ∷ ks) rest = record { rank = r; line = k } ∷ row r ks rest
 abbrev rows : List ℕ → List Place
 rows [] = []
 rows (r ∷ rs) = row r lineNumbers (rows rs)
-
-abbrev ranks : List ℕ
-ranks = 0 ∷ 1 ∷ 2 ∷ 3 ∷ 4 ∷ 5 ∷ 6 ∷ 7 ∷ 8 ∷ 9 ∷ []
 
 abbrev before : Place → Place → Bool
 before p q = ltb (p .rank) (q .rank) || (eqb (p .rank) (q .rank) && ltb (p .line) (q .line))
@@ -106,14 +154,16 @@ in-row : (r : ℕ) (ks : List ℕ) (rest : List Place) (i : ℕ) → i < length 
 in-row r [] rest i h = absurd (omega arith)
 in-row r (k ∷ ks) rest zero h = record { at = 0; below = omega arith; is = refl }
 in-row r (k ∷ ks) rest (suc i) h =
-    later (record { rank = r; line = k }) (row r ks rest) (record { rank = r; line = getD ks i 0 }) (in-row r ks rest i (omega arith))
+    later (record { rank = r; line = k }) (row r ks rest) (record { rank = r; line = getD ks i 0 })
+    (in-row r ks rest i (omega arith))
 
 in-rows : (rs : List ℕ) (j i : ℕ) → j < length rs → i < 8
     → Among (rows rs) (record { rank = getD rs j 0; line = getD lineNumbers i 0 })
 in-rows [] j i a b = absurd (omega arith)
 in-rows (r ∷ rs) zero i a b = in-row r lineNumbers (rows rs) i b
 in-rows (r ∷ rs) (suc j) i a b =
-    in-rest r lineNumbers (rows rs) (record { rank = getD rs j 0; line = getD lineNumbers i 0 }) (in-rows rs j i (omega arith) b)
+    in-rest r lineNumbers (rows rs) (record { rank = getD rs j 0; line = getD lineNumbers i 0 })
+    (in-rows rs j i (omega arith) b)
 
 rank-is : (r : ℕ) → r < 10 → getD ranks r 0 ≡ r
 unfolding counting
@@ -176,7 +226,8 @@ module _ (s : Station) (l clock : ℕ) where
     kept = storedPongs (lineAt s k)
 
     turn : young more ≡ pongs left
-        → young (flat (map (at r) (cond (isOther l k) (k ∷ others) others)) ++ rest) ≡ pongs (cond (may here) (here ∷ left) left)
+        → young (flat (map (at r) (cond (isOther l k) (k ∷ others) others)) ++ rest)
+        ≡ pongs (cond (may here) (here ∷ left) left)
     turn on = another (isOther l k)
       where
         new : (b : Bool) → cond b (pongAt s here ∷ young more) (young more) ≡ pongs (cond b (here ∷ left) left)
@@ -184,7 +235,8 @@ module _ (s : Station) (l clock : ℕ) where
         new false = on
 
         has : (b : Bool) → within here ≡ b
-            → young ((at r k ++ flat (map (at r) others)) ++ rest) ≡ pongs (cond (b && isFresh clock (pongAt s here)) (here ∷ left) left)
+            → young ((at r k ++ flat (map (at r) others)) ++ rest)
+            ≡ pongs (cond (b && isFresh clock (pongAt s here)) (here ∷ left) left)
         has true h = rw (ranked-in r kept (ltb-true r (length kept) h)) (new (isFresh clock (pongAt s here)))
         has false h = rw (ranked-out r kept (ltb-false r (length kept) h)) on
 
@@ -200,10 +252,12 @@ module _ (s : Station) (l clock : ℕ) where
   of-row r (k ∷ ks) rest ps e =
       turn r k (keepIf (isOther l) ks) rest (keepIf may (row r ks ps)) (of-row r ks rest ps e)
 
-  of-rows : (rs : List ℕ) → young (flat (map (λ r. flat (map (at r) (keepIf (isOther l) lineNumbers))) rs)) ≡ pongs (keepIf may (rows rs))
+  of-rows : (rs : List ℕ)
+      → young (flat (map (λ r. flat (map (at r) (keepIf (isOther l) lineNumbers))) rs)) ≡ pongs (keepIf may (rows rs))
   of-rows [] = refl
   of-rows (r ∷ rs) =
-      of-row r lineNumbers (flat (map (λ r. flat (map (at r) (keepIf (isOther l) lineNumbers))) rs)) (rows rs) (of-rows rs)
+      of-row r lineNumbers (flat (map (λ r. flat (map (at r) (keepIf (isOther l) lineNumbers))) rs)) (rows rs)
+      (of-rows rs)
 
   abbrev eligible : List Place
   eligible = keepIf may (rows ranks)
@@ -211,16 +265,23 @@ module _ (s : Station) (l clock : ℕ) where
   abbrev pub places : List Place
   places = take 10 eligible
 
-  sent-places : storedSent s l clock ≡ pongs places
+  sent-places : storedSent (s .lines) l clock ≡ pongs places
   unfolding walk
   sent-places = ap (take 10) (of-rows ranks) ∙ sym (map-take (pongAt s) 10 eligible)
 
-  pub stored-written : (m : List ℕ) → flat (map (λ p. pongBytes m (p .hops + 1) (p .bytes)) (storedSent s l clock)) ≡ storedWritten s m places
-  stored-written m = ap (λ qs. flat (map (λ p. pongBytes m (p .hops + 1) (p .bytes)) qs)) sent-places ∙ go places
+  pub stored-written : inOrder s ≡ true → (m : List ℕ)
+      → storedBytes (numberOf m) (hopsOf m) (storedSent (s .lines) l clock) ≡ storedWritten s m places
+  stored-written o m = rw sent-places (go places (rw sent-places at (low-sent s o l clock)))
     where
-      go : (ps : List Place) → flat (map (λ p. pongBytes m (p .hops + 1) (p .bytes)) (pongs ps)) ≡ storedWritten s m ps
-      go [] = refl
-      go (p ∷ ps) = ap (λ bs. pongBytes m (pongAt s p .hops + 1) (pongAt s p .bytes) ++ bs) (go ps)
+      go : (ps : List Place) → all low (pongs ps) ≡ true
+          → storedBytes (numberOf m) (hopsOf m) (pongs ps) ≡ storedWritten s m ps
+      go [] h = refl
+      go (p ∷ ps) h =
+          let seven : pongAt s p .hops ≤ 7
+          = leb-true (pongAt s p .hops) 7 (and-fst (low (pongAt s p)) (all low (pongs ps)) h) in
+          let one : oneHopMore (pongAt s p .hops) ≡ pongAt s p .hops + 1 = omega arith in
+          ap₂ (λ h bs. pongBytes (numberOf m) (hopsOf m) h (pongAt s p .bytes) ++ bs) one
+          (go ps (and-snd (low (pongAt s p)) (all low (pongs ps)) h))
 
   -- the test, in words
   may-is : (p : Place) → may p ≡ true → bounded p ≡ true → MayAnswer s l clock p
@@ -228,20 +289,21 @@ module _ (s : Station) (l clock : ℕ) where
       let x = and-snd (isOther l (p .line)) (within p && isFresh clock (pongAt s p)) e in
       record {
         line = ltb-true (p .line) 8 (and-snd (ltb (p .rank) 10) (ltb (p .line) 8) b);
-        other = eqb-false (p .line) l (unnot (eqb (p .line) l) (and-fst (isOther l (p .line)) (within p && isFresh clock (pongAt s p)) e));
+        other =
+            eqb-false (p .line) l
+            (not-true (eqb (p .line) l) (and-fst (isOther l (p .line)) (within p && isFresh clock (pongAt s p)) e));
         ten = ltb-true (p .rank) 10 (and-fst (ltb (p .rank) 10) (ltb (p .line) 8) b);
-        stored = ltb-true (p .rank) (length (storedPongs (lineAt s (p .line)))) (and-fst (within p) (isFresh clock (pongAt s p)) x);
+        stored =
+            ltb-true (p .rank) (length (storedPongs (lineAt s (p .line))))
+            (and-fst (within p) (isFresh clock (pongAt s p)) x);
         young = ltb-true (elapsed clock (pongAt s p .clock)) 15000 (and-snd (within p) (isFresh clock (pongAt s p)) x);
       }
-    where
-      unnot : (b : Bool) → not b ≡ true → b ≡ false
-      unnot true e = sym e
-      unnot false e = refl
 
   is-may : (p : Place) → MayAnswer s l clock p → may p ≡ true
   is-may p h =
       and-intro (isOther l (p .line)) (within p && isFresh clock (pongAt s p)) (ap not (ne-eqb (p .line) l (h .other)))
-      (and-intro (within p) (isFresh clock (pongAt s p)) (lt-ltb _ _ (h .stored)) (lt-ltb (elapsed clock (pongAt s p .clock)) 15000 (h .young)))
+      (and-intro (within p) (isFresh clock (pongAt s p)) (lt-ltb _ _ (h .stored))
+      (lt-ltb (elapsed clock (pongAt s p .clock)) 15000 (h .young)))
 
   up : rising eligible ≡ true
   up = rising-keep may (rows ranks) rows-rising
@@ -261,7 +323,8 @@ module _ (s : Station) (l clock : ℕ) where
             (rising-at eligible up i j a (omega arith));
         rest = λ p h.
             let x = in-all p (h .ten) (h .line) in
-            let y : Among eligible p = rw (sym (x .is)) (kept-among may (rows ranks) (x .at) (x .below) (ap may (x .is) ∙ is-may p h)) in
+            let y : Among eligible p
+            = rw (sym (x .is)) (kept-among may (rows ranks) (x .at) (x .below) (ap may (x .is) ∙ is-may p h)) in
             tenth p y (ltb (y .at) 10) refl;
       }
     where
@@ -278,5 +341,6 @@ module _ (s : Station) (l clock : ℕ) where
           let b = y .below in
           inr (
             omega arith,
-            rw (getD-take 10 eligible 9 firstPlace (omega arith), sym (y .is)) (rising-at eligible up 9 (y .at) (omega arith) b),
+            rw (getD-take 10 eligible 9 firstPlace (omega arith), sym (y .is))
+            (rising-at eligible up 9 (y .at) (omega arith) b),
           )

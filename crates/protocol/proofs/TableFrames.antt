@@ -9,35 +9,32 @@ use mathlib.Core.List.{List}
 use lib.Dec.{eqb}
 use lib.ListN.{length, length-take, length-drop, length-replicate}
 use borrow.Author.Tests.{leb-true, eqb-true, eqb-false}
-use Rattle.laws.specs.Tests.{firstOf}
 use Rattle.laws.specs.Parts.{over}
 use Rattle.laws.proofs.Over.{over-length}
 use Rattle.laws.proofs.Overlay.{over-ahead, over-behind}
-use Rattle.wire.specs.Header.{kindOf, ttlOf, hopsOf, payloadOf, routeUpdate, queryType, hitType, pingType, pongType}
+use Rattle.wire.specs.Header.{kindOf, ttlOf, hopsOf, payloadOf, routeUpdate, queryType}
 use Rattle.tables.specs.declared.Table.{Table}
 use Rattle.tables.specs.Tables.{Held, marked, broken, ready}
-use Rattle.tables.specs.Updates.{lengthIn, infinityIn, updated, resetBy, patchBy, brokenBy}
+use Rattle.tables.specs.Updates.{lengthIn, infinityIn, resetBy, patchBy, brokenBy}
 use Rattle.tables.proofs.KeepLaws.{moved-length, patched-length}
 use Rattle.tables.proofs.OrderLaws.{limits}
 use Rattle.protocol.specs.declared.Line.{Line}
 use Rattle.protocol.specs.State.{Station, lineAt, withLine, heldAt}
-use Rattle.protocol.specs.declared.Own.{Own}
-use Rattle.protocol.specs.Lines.{withTable, withPong, storedPongs}
+use Rattle.protocol.specs.Lines.{withTable, storedPongs}
 use Rattle.protocol.specs.Order.{inOrder}
-use Rattle.protocol.specs.Outcomes.{Outcome, quiet, refusedOr}
-use Rattle.protocol.specs.Queries.{usualLimit, queryRules, queryTaken, queryOutcome, ownTaken}
-use Rattle.protocol.specs.Hits.{hitRules, hitFound, hitTaken, hitOutcome}
-use Rattle.protocol.specs.Pings.{pingRules, pingTaken, pingOutcome, pongRules, arrivedPong, pongOutcome}
-use Rattle.protocol.specs.Calls.{early, updateOutcome, byType, arriving, ownRules, asking, messageOutcome, ownOutcome}
+use Rattle.protocol.specs.Outcomes.{Terms, Outcome}
+use Rattle.protocol.specs.Queries.{usualLimit}
+use Rattle.protocol.specs.Calls.{updateStep, byType, ownAnswer, asking, messageOutcome, ownOutcome}
 use Rattle.protocol.specs.Kept.{Sized, BrokenInWords}
 use Rattle.protocol.specs.Arrived.{Arrived}
 use Rattle.protocol.specs.Frames.{NotSearched, TableOnly, MarkedBroken, PartOnly}
-use Rattle.protocol.proofs.Outcomes.{of-pick, of-refused}
+use Rattle.protocol.proofs.Outcomes.{of-refused}
+use Rattle.protocol.proofs.ByType.{updateNumber, heldAfter, updateDone, of-types, of-message}
 use Rattle.protocol.proofs.InOrder.{facts-at}
 use Rattle.protocol.proofs.Updates.{by-update}
 use Rattle.protocol.proofs.Matching.{line-set}
-use Rattle.protocol.proofs.Opened.{beside-set, same-memory}
-use Rattle.protocol.proofs.Arrived.{by-type, by-ping}
+use Rattle.protocol.proofs.Opened.{beside-set}
+use Rattle.protocol.proofs.Arrived.{by-type}
 use Rattle.protocol.proofs.Refused.{refusal-frame}
 
 -- one line's table is set
@@ -61,7 +58,7 @@ module _ (s : Station) (z : Sized s) (l : ℕ) (l≤7 : l ≤ 7) where
           time = ap (λ (y : Line). y .pingtime) table-at;
           pongs = ap storedPongs table-at;
           beside = beside-set s l set-line;
-          memory = same-memory s l set-line;
+          memory = refl;
         }
 
   pub marked-broken : MarkedBroken l s (withLine s l (withTable (lineAt s l) (marked broken (lineAt s l .table))))
@@ -98,27 +95,26 @@ part-only room l bs route h k e =
     }
 
 -- an update that has arrived
-module _ (s : Station) (z : Sized s) (o : inOrder s ≡ true) (l : ℕ) (m : List ℕ) (out : ℕ) (route : List ℕ)
-    (a : Arrived s l m out route) (k : kindOf m ≡ 0x30) (clock : ℕ) (own : Own) where
+module _ (s : Station) (z : Sized s) (o : inOrder s ≡ true) (l : ℕ) (m : List ℕ) (t : Terms) (route : List ℕ)
+    (a : Arrived s l m (t .out) route) (k : kindOf m ≡ 0x30) where
   abbrev before : Held
   before = heldAt s l route
 
   abbrev after : Held
-  after = updated (s .room) before (ttlOf m) (hopsOf m) (payloadOf m)
+  after = heldAfter s l m route
 
   abbrev outcome : Outcome
   outcome = messageOutcome s l m t route
 
-  as-update : outcome ≡ updateOutcome s l m route
-  unfolding byType
-  as-update = by-type s o l m out route clock own a ∙ rw k
+  as-update : outcome ≡ updateDone s l m route
+  unfolding byType updateStep
+  as-update = by-type s l m t route o usualLimit a ∙ rw k
 
   pub update-only : TableOnly l s (outcome .state)
-  unfolding updateOutcome
   update-only = rw as-update (table-only s z l (a .line) (after .table))
 
   pub update-broken : (outcome .answer ≡ 0 → ⊥) → MarkedBroken l s (outcome .state)
-  unfolding updateOutcome brokenBy
+  unfolding brokenBy
   update-broken =
       rw as-update
       (by-update (λ n (h : Held). (n ≡ 0 → ⊥) → MarkedBroken l s (withLine s l (withTable (lineAt s l) (h .table))))
@@ -143,8 +139,8 @@ module _ (s : Station) (z : Sized s) (o : inOrder s ≡ true) (l : ℕ) (m : Lis
   abbrev p : List ℕ
   p = payloadOf m
 
-  after-full : updateOutcome s l m route .answer ≡ 0 → Full after
-  unfolding updateOutcome resetBy patchBy
+  after-full : updateNumber s l m route ≡ 0 → Full after
+  unfolding resetBy patchBy
   after-full =
       by-update (λ n (h : Held). n ≡ 0 → Full h) (s .room) before (ttlOf m) (hopsOf m) p
       (λ q _. let f = was-full (q .turn .0) in
@@ -155,67 +151,49 @@ module _ (s : Station) (z : Sized s) (o : inOrder s ≡ true) (l : ℕ) (m : Lis
 
   pub update-part : outcome .answer ≡ 0
       → PartOnly (s .room) l (lineAt (outcome .state) l .table .length) route (outcome .route)
-  unfolding updateOutcome
   update-part e =
       let f = after-full (ap (λ (r : Outcome). r .answer) (sym as-update) ∙ e) in
-      let n : lineAt (updateOutcome s l m route .state) l .table .length ≡ length (after .entries)
+      let n : lineAt (updateDone s l m route .state) l .table .length ≡ length (after .entries)
       = ap (λ (y : Line). y .table .length) (table-at s z l (a .line) (after .table)) ∙ sym (f .0) in
       let within : length (after .entries) ≤ s .room = omega (arith, f .0, f .1) in
       rw as-update (rw n (part-only (s .room) l (after .entries) route (a .line) within (a .areas .room)))
 
 -- any other message, and an own query, leave the route area
-area-kept : (n : ℕ) (s : Station) (route : List ℕ) (o : Outcome) → o .route ≡ route → refusedOr n s route o .route ≡ route
-area-kept n s route o e = of-refused (λ (r : Outcome). r .route ≡ route) n s route o (λ _. e) (λ _. refl)
+abbrev SameArea : List ℕ → Outcome → Type 0
+SameArea route r = r .route ≡ route
 
 module _ (s : Station) (l : ℕ) (m : List ℕ) (t : Terms) (route : List ℕ) where
-  abbrev handled : Outcome
-  handled = messageOutcome s l m t route
+  abbrev told : Outcome
+  told = messageOutcome s l m t route
 
-  abbrev SameArea : Outcome → Type 0
-  SameArea r = r .route ≡ route
-
-  types-area : (kindOf m ≡ 0x30 → ⊥) → SameArea (arrived usualLimit s l m t route)
-  unfolding byType pingOutcome pongOutcome queryOutcome hitOutcome
-  types-area ne =
-      of-pick SameArea (eqb (kindOf m) pingType) _ _
-      (λ _. area-kept (firstOf (pingRules (lineAt s l) clock m)) s route (pingTaken s l clock own m route) refl)
-      (λ _. of-pick SameArea (eqb (kindOf m) pongType) _ _
-      (λ _. area-kept (firstOf (pongRules m)) s route
-      (quiet 0 (withLine s l (withPong (lineAt s l) (arrivedPong clock m))) route) refl)
-      (λ _. of-pick SameArea (eqb (kindOf m) routeUpdate) _ _
-      (λ k. absurd (ne (eqb-true (kindOf m) routeUpdate k)))
-      (λ _. of-pick SameArea (eqb (kindOf m) queryType) _ _
-      (λ _. area-kept (firstOf (queryRules usualLimit s m)) s route (queryTaken usualLimit s l m route) refl)
-      (λ _. of-pick SameArea (eqb (kindOf m) hitType) _ _
-      (λ _. area-kept (firstOf (hitRules (hitFound s m) m)) s route (hitTaken s (hitFound s m) m route) refl)
-      (λ _. refl)))))
-
-  pub message-area : ((kindOf m ≡ 0x30) × (handled .answer ≡ 0) → ⊥) → SameArea handled
-  unfolding arriving
-  message-area ne = go (eqb (handled .answer) 0) refl
+  pub message-area : ((kindOf m ≡ 0x30) × (told .answer ≡ 0) → ⊥) → SameArea route told
+  message-area ne = go (eqb (told .answer) 0) refl
     where
-      go : (b : Bool) → eqb (handled .answer) 0 ≡ b → SameArea handled
+      go : (b : Bool) → eqb (told .answer) 0 ≡ b → SameArea route told
       go true e =
-          of-refused SameArea (early s l m (t .out) (length route)) s route (arrived usualLimit s l m t route)
-          (λ _. types-area (λ k. ne (k, eqb-true (handled .answer) 0 e)))
-          (λ _. refl)
+          of-message (SameArea route) s l m route usualLimit t (λ _ _. refl)
+          (λ _. of-types (SameArea route) s l m route (λ _ _. refl) usualLimit t
+          (λ _ _. refl)
+          (λ _ _. refl)
+          (λ k. absurd (ne (eqb-true (kindOf m) routeUpdate k, eqb-true (told .answer) 0 e)))
+          (λ _ _. refl)
+          (λ _ _. refl))
       go false e =
-          ap (λ (r : Outcome). r .route)
-          (refusal-frame .calls s .message l clock own m out route (eqb-false (handled .answer) 0 e))
+          ap (λ (r : Outcome). r .route) (refusal-frame .calls s .message l m t route (eqb-false (told .answer) 0 e))
 
   -- and no ping is searched for
-  pub ping-search : inOrder s ≡ true → kindOf m ≡ 0x00 → NotSearched handled
-  unfolding arriving pingOutcome
-  ping-search o k =
-      of-refused NotSearched (early s l m (t .out) (length route)) s route (arrived usualLimit s l m t route)
-      (λ _. rw (by-ping s o l m out route clock own k)
-      (of-refused NotSearched (firstOf (pingRules (lineAt s l) clock m)) s route (pingTaken s l clock own m route)
+  pub ping-search : kindOf m ≡ 0x00 → NotSearched told
+  ping-search k =
+      of-message NotSearched s l m route usualLimit t (λ _ _. (refl, refl, refl))
+      (λ _. of-types NotSearched s l m route (λ _ _. (refl, refl, refl)) usualLimit t
+      (λ _ _. (refl, refl, refl))
+      (λ _ _. (refl, refl, refl))
       (λ _. (refl, refl, refl))
-      (λ _. (refl, refl, refl))))
-      (λ _. (refl, refl, refl))
+      (λ q _. let e : kindOf m ≡ 0x80 = eqb-true (kindOf m) queryType q in absurd (omega arith))
+      (λ _ _. (refl, refl, refl)))
 
 pub own-area : (s : Station) (number text : List ℕ) (out : ℕ) (route : List ℕ)
     → ownOutcome s number text out route .route ≡ route
 unfolding asking
 own-area s number text out route =
-    area-kept (firstOf (ownRules s number text out (length route))) s route (ownTaken usualLimit s number text route) refl
+    of-refused (SameArea route) (ownAnswer s number text out (length route)) s route _ (λ _. refl) (λ _. refl)

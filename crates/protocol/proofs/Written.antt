@@ -10,9 +10,10 @@ use lib.ListN.{length, getD, drop, length-append}
 use lib.Seq.{drop-at}
 use borrow.Author.Tests.{eqb-true, leb-true, eq-eqb, le-leb}
 use Rattle.laws.specs.Tests.{any, all}
-use Rattle.laws.proofs.Refusals.{clash, and-fst, and-snd, and-intro, or-left, or-right, of-choice}
+use Rattle.laws.proofs.Refusals.{clash, and-fst, and-snd, all-append, or-left, or-right, of-choice}
 use Rattle.wire.specs.Header.{numberOf, kindOf, ttlOf, hopsOf, sizeOf, payloadOf, message}
-use Rattle.wire.proofs.HeaderLaws.{message-length, message-number, message-kind, message-ttl, message-hops, message-size, message-payload}
+use Rattle.wire.proofs.HeaderLaws.{message-length, message-number, message-kind, message-ttl, message-hops}
+use Rattle.wire.proofs.HeaderLaws.{message-size, message-payload}
 use Rattle.protocol.specs.Written.{Part, wellCut, written, CutOnce, Writes, WrittenFor}
 use Rattle.protocol.specs.Outcomes.{writtenFor}
 use Rattle.protocol.proofs.Blind.{ReadsAlike, reads-more}
@@ -51,7 +52,8 @@ module _ (p : Part) (c : wellCut p ≡ true) (rest : List ℕ) where
 
   reads-payload : payloadOf (first ++ rest) ≡ p .payload
   reads-payload =
-      alike .payload ∙ message-payload (p .number) (p .kind) (p .ttl) (p .hops) (p .payload) sixteen (omega (arith, most))
+      alike .payload
+      ∙ message-payload (p .number) (p .kind) (p .ttl) (p .hops) (p .payload) sixteen (omega (arith, most))
 
   reads-rest : drop (23 + length (p .payload)) (first ++ rest) ≡ rest
   reads-rest = drop-at first rest (23 + length (p .payload)) long
@@ -121,12 +123,6 @@ written-append [] qs = refl
 written-append (p ∷ ps) qs =
     append-assoc (message (p .number) (p .kind) (p .ttl) (p .hops) (p .payload)) (written ps) (written qs)
     ∙ ap (λ bs. message (p .number) (p .kind) (p .ttl) (p .hops) (p .payload) ++ bs) (written-append ps qs)
-
-pub all-append : {A : Type 0} (f : A → Bool) (ps qs : List A) → all f ps ≡ true → all f qs ≡ true
-    → all f (ps ++ qs) ≡ true
-all-append f [] qs a b = b
-all-append f (p ∷ ps) qs a b =
-    and-intro (f p) (all f (ps ++ qs)) (and-fst (f p) (all f ps) a) (all-append f ps qs (and-snd (f p) (all f ps) a) b)
 
 pub writes-append : (kind : ℕ) (a b : List ℕ) → Writes kind a → Writes kind b → Writes kind (a ++ b)
 writes-append kind a b x y =
