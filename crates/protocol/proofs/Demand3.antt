@@ -13,50 +13,53 @@ use lib.Seq.{take-take}
 use lib.IntN.{pos, _+ℤ_}
 use borrow.Author.Tests.{eqb-true, eqb-false, eq-eqb, ne-eqb, not-true}
 use Rattle.laws.specs.Tests.{firstOf}
-use Rattle.laws.specs.Parts.{over}
 use Rattle.laws.proofs.Refusals.{clash, of-choice}
 use Rattle.laws.proofs.Overlay.{over-read, over-apart}
-use Rattle.wire.specs.Header.{kindOf, ttlOf, hopsOf, payloadOf, routeUpdate, queryType, hitType, pingType, pongType}
+use Rattle.wire.specs.Header.{headerIn, kindOf, ttlOf, hopsOf, payloadOf}
+use Rattle.wire.specs.Header.{routeUpdate, queryType, hitType, pingType, pongType}
 use Rattle.tables.specs.declared.Table.{Table}
 use Rattle.tables.specs.Tables.{Held, settled, heldIn, noTable}
 use Rattle.tables.specs.Updates.{updateAnswer, updated}
 use Rattle.tables.specs.Answers.{Answers}
 use Rattle.tables.proofs.Answers.{answers}
-use Rattle.protocol.specs.declared.Own.{Own}
 use Rattle.protocol.specs.declared.Line.{Line}
 use Rattle.protocol.specs.State.{Station, lineAt, withLine, heldAt}
-use Rattle.protocol.specs.Memory.{remember}
-use Rattle.protocol.specs.Lines.{emptyLine, nowhere, withTable, pingedAt, withPong, partOf}
+use Rattle.protocol.specs.Lines.{emptyLine, nowhere, withTable, partOf}
 use Rattle.protocol.specs.Order.{inOrder}
-use Rattle.protocol.specs.Outcomes.{Outcome, quiet}
-use Rattle.protocol.specs.Queries.{usualLimit, textIn, passes, goesOn, queryRules, queryTaken, queryOutcome, ownTaken, lifeOf}
-use Rattle.protocol.specs.Hits.{hitRules, hitFound, hitTaken, hitOutcome}
-use Rattle.protocol.specs.Pings.{isProbe, pingRules, pingTaken, pingOutcome, pongRules, arrivedPong, pongOutcome}
-use Rattle.protocol.specs.Calls.{openingRules, opening, closedState, closingRules, closing, early, updateOutcome, byType, arriving, ownRules, asking, messageOutcome, ownOutcome}
-use Rattle.protocol.specs.Runs.{Area, Same, Other, Call, Open, Close, Message, Ask, World, lent, keptArea, outcomeOf, areaAfter, step, run, start, FairArea, FairCall, Fair, unsent}
-use Rattle.protocol.specs.Expected.{Expected, wiped, brings, asks, brought, isUpdateOf, expectedAnswer, hears, feed, expected}
+use Rattle.protocol.specs.Outcomes.{Terms, Outcome, quiet, unused}
+use Rattle.protocol.specs.Queries.{usualLimit, lifeOf, textIn, passes, goesOn}
+use Rattle.protocol.specs.Pings.{isProbe, timeKept}
+use Rattle.protocol.specs.Calls.{opening, closedState, closing, arrived, arriving, ownAnswer, ownTaken, asking}
+use Rattle.protocol.specs.Runs.{Area, Same, Other, Call, Open, Close, Message, Ask, World, unsent, lent, keptArea}
+use Rattle.protocol.specs.Runs.{outcomeOf, areaAfter, step, run, start, FairArea, FairCall, Fair}
+use Rattle.protocol.specs.Expected.{Expected, wiped, brings, asks, brought, isUpdateOf, expectedAnswer, hears}
+use Rattle.protocol.specs.Expected.{feed, expected}
 use Rattle.protocol.specs.History.{Update, updatesOf, sumAt}
 use Rattle.protocol.specs.Demand3.{lifeLeft, MayGo, Forwarded, updateIn, Agrees, entriesAt, Stands, Demand3}
 use Rattle.protocol.proofs.Updates.{Sound, sound-updated, updated-within, update-sent}
 use Rattle.protocol.proofs.Account.{Accounts, noHeld, nothing-yet, account-call}
-use Rattle.protocol.proofs.Forwarding.{goes-iff, own-goes-iff, forwarded}
-use Rattle.protocol.proofs.Outcomes.{other-type, of-pick, of-refused, eachLine-at, all-unsent, none-unsent, LetIn, let-in, early-unsent, asked-in}
+use Rattle.protocol.proofs.Forwarding.{goes-iff, passes-iff, forwarded}
+use Rattle.protocol.proofs.Outcomes.{other-type, of-refused, openingIn, closingIn, eachLine-at}
+use Rattle.protocol.proofs.Outcomes.{all-unused, unused-some, LetIn, asked-in}
+use Rattle.protocol.proofs.ByType.{pingDone, pongDone, queryDone, hitDone, updateNumber, heldAfter, updateDone}
+use Rattle.protocol.proofs.ByType.{of-types, of-message}
 use Rattle.protocol.proofs.InOrder.{closed-mark}
 use Rattle.protocol.proofs.Matching.{Matches, LeftAlone, left-alone, untouched, line-set, other-line, same-line}
 
 -- what a call has to leave where e was expected before it
-abbrev Good : ℕ → ℕ → Call → Expected → List Update → List ℕ → Outcome → Type 0
-Good L room c e us area o =
-    Matches L room (feed L room (brought c) (unsent (o .answer)) e) (o .state) (areaAfter c area (o .route)) × Agrees L room e us c o
+abbrev Good : (limit L room : ℕ) → Call → Expected → List Update → List ℕ → Outcome → Type 0
+Good limit L room c e us area o =
+    Matches L room (feed L room (brought c) (unsent c (o .answer)) e) (o .state) (areaAfter c area (o .route))
+    × Agrees limit L room e us c o
 
-feed-unsent : (L room : ℕ) (c : Call) (n : ℕ) (e : Expected) → unsent n ≡ true → feed L room (brought c) (unsent n) e ≡ e
+feed-unsent : (L room : ℕ) (c : Call) (e : Expected) (b : Bool) → b ≡ true → feed L room (brought c) b e ≡ e
 unfolding feed
-feed-unsent L room c n e u = ap (λ b. feed L room (brought c) b e) u
+feed-unsent L room c e b u = ap (λ b. feed L room (brought c) b e) u
 
-feed-message : (L room l : ℕ) (m : List ℕ) (n : ℕ) (e : Expected) (b : Bool) → unsent n ≡ false → isUpdateOf L l m ≡ b
-    → feed L room (brings l m) (unsent n) e ≡ cond b (hears room m e) e
+feed-message : (L room l : ℕ) (m : List ℕ) (e : Expected) (a b : Bool) → a ≡ false → isUpdateOf L l m ≡ b
+    → feed L room (brings l m) a e ≡ cond b (hears room m e) e
 unfolding feed
-feed-message L room l m n e b u v = ap (λ c. feed L room (brings l m) c e) u ∙ ap (λ c. cond c (hears room m e) e) v
+feed-message L room l m e a b u v = ap (λ c. feed L room (brings l m) c e) u ∙ ap (λ c. cond c (hears room m e) e) v
 
 feed-ask : (L room : ℕ) (b : Bool) (e : Expected) → feed L room asks b e ≡ e
 unfolding feed
@@ -70,110 +73,108 @@ kept-lent (Other x) r = refl
 read-as : {a b : Bool} {P : Type 0} → a ≡ b → (b ≡ true) ↔ P → (a ≡ true) ↔ P
 read-as {P = P} e f = subst (λ (x : Bool). (x ≡ true) ↔ P) (sym e) f
 
-not-update : (L l : ℕ) (m : List ℕ) → eqb (kindOf m) routeUpdate ≡ false → isUpdateOf L l m ≡ false
-not-update L l m k = ap (λ b. eqb l L && b) k ∙ and-false (eqb l L)
-
-module _ (L room : ℕ) (seven : L ≤ 7) (e : Expected) (us : List Update) (t : Accounts (e .held) us)
+module _ (limit L room : ℕ) (seven : L ≤ 7) (e : Expected) (us : List Update) (told : Accounts (e .held) us)
     (s : Station) (area : List ℕ) (q : Matches L room e s area) where
+  abbrev After : Call → Outcome → Type 0
+  After c o = Good limit L room c e us area o
+
   below : L < length (s .lines)
   below = omega (arith, q .eight)
 
   -- what the station reads of line L is what is expected, while it is open; a closed line gets nothing
-  read-same : (G : Bool → Held → Bool) → ((h : Held) → G false h ≡ false) → G (lineAt s L .live) (heldAt s L area) ≡ G (e .live) (e .held)
+  read-same : (G : Bool → Held → Bool) → ((h : Held) → G false h ≡ false)
+      → G (lineAt s L .live) (heldAt s L area) ≡ G (e .live) (e .held)
   read-same G z = go (lineAt s L .live) refl
     where
       go : (b : Bool) → lineAt s L .live ≡ b → G (lineAt s L .live) (heldAt s L area) ≡ G (e .live) (e .held)
       go true o = ap₂ G (sym (q .live)) (sym (q .whileOpen o))
-      go false o = ap (λ b. G b (heldAt s L area)) o ∙ z (heldAt s L area) ∙ sym (z (e .held)) ∙ ap (λ b. G b (e .held)) (sym (q .live ∙ o))
+      go false o =
+          ap (λ b. G b (heldAt s L area)) o ∙ z (heldAt s L area) ∙ sym (z (e .held))
+          ∙ ap (λ b. G b (e .held)) (sym (q .live ∙ o))
 
   -- a message that is no update of line L and leaves it alone
-  module _ (l clock : ℕ) (own : Own) (m : List ℕ) (out : ℕ) where
-    abbrev Goods : Outcome → Type 0
-    Goods o = Good L room (Message l clock own m out Same) e us area o
+  module _ (l : ℕ) (m : List ℕ) (t : Terms) where
+    abbrev AfterMessage : Outcome → Type 0
+    AfterMessage o = After (Message l m t Same) o
 
-    aside : (o : Outcome) → unsent (o .answer) ≡ false → isUpdateOf L l m ≡ false → LeftAlone L s area (o .state) (o .route)
+    abbrev text : List ℕ
+    text = textIn (payloadOf m)
+
+    aside : (o : Outcome) → unused (o .answer) ≡ false → isUpdateOf L l m ≡ false
+        → LeftAlone L s area (o .state) (o .route)
         → (o .answer ≡ 0 → kindOf m ≡ 0x80
-        → Forwarded e us (MayGo e L l m) (textIn (payloadOf m)) (lifeLeft m - 1) (getD (o .to) L false))
-        → Goods o
+        → Forwarded e us (MayGo limit e L l m) text (lifeLeft limit m - 1) (getD (o .to) L false))
+        → AfterMessage o
     aside o u v w g = (
-      subst (λ (x : Expected). Matches L room x (o .state) (o .route)) (sym (feed-message L room l m (o .answer) e false u v)) (left-alone q w),
+      subst (λ (x : Expected). Matches L room x (o .state) (o .route))
+          (sym (feed-message L room l m e (unused (o .answer)) false u v)) (left-alone q w),
       ((λ _ y. absurd (clash y v)), g),
     )
 
-    refused-aside : (n : ℕ) → unsent n ≡ false → isUpdateOf L l m ≡ false → (n ≡ 0 → ⊥) → Goods (quiet n s area)
-    refused-aside n u v z = aside (quiet n s area) u v (untouched L s area) (λ y. absurd (z y))
+    not-update : eqb (kindOf m) routeUpdate ≡ false → isUpdateOf L l m ≡ false
+    not-update k = ap (λ b. eqb l L && b) k ∙ and-false (eqb l L)
 
-    ping-good : eqb (kindOf m) pingType ≡ true → Goods (pingOutcome s l clock own m area)
-    unfolding pingOutcome
+    no-query : (k : ℕ) → eqb (kindOf m) k ≡ true → eqb k 0x80 ≡ false → kindOf m ≡ 0x80 → ⊥
+    no-query k i n = eqb-false (kindOf m) 0x80 (other-type m k 0x80 i n)
+
+    -- neither an update nor a query
+    neither : (k : ℕ) → eqb (kindOf m) k ≡ true → eqb k routeUpdate ≡ false → eqb k 0x80 ≡ false
+        → (o : Outcome) → unused (o .answer) ≡ false → LeftAlone L s area (o .state) (o .route) → AfterMessage o
+    neither k i n p o u w =
+        aside o u (not-update (other-type m k routeUpdate i n)) w (λ _ y. absurd (no-query k i p y))
+
+    ping-good : eqb (kindOf m) pingType ≡ true → AfterMessage (pingDone s l t m area)
     ping-good k =
-        let v : isUpdateOf L l m ≡ false = not-update L l m (other-type m pingType routeUpdate k refl) in
-        of-refused Goods (firstOf (pingRules (lineAt s l) clock m)) s area (pingTaken s l clock own m area)
-        (λ _. aside (pingTaken s l clock own m area) refl v
-        (same-line L s (pingTaken s l clock own m area .state) area l (cond (isProbe m) (lineAt s l) (pingedAt (lineAt s l) clock)) refl refl below
-        (of-choice (λ (x : Line). x .live ≡ lineAt s l .live) (isProbe m) (lineAt s l) (pingedAt (lineAt s l) clock) (λ _. refl) (λ _. refl))
-        (of-choice (λ (x : Line). x .table ≡ lineAt s l .table) (isProbe m) (lineAt s l) (pingedAt (lineAt s l) clock) (λ _. refl) (λ _. refl)))
-        (λ _ y. absurd (eqb-false (kindOf m) 0x80 (other-type m pingType 0x80 k refl) y)))
-        (λ n. refused-aside (firstOf (pingRules (lineAt s l) clock m)) (none-unsent (pingRules (lineAt s l) clock m) refl) v n)
+        neither pingType k refl refl (pingDone s l t m area) refl
+        (same-line L s (withLine s l kept) area l kept refl refl below
+        (of-choice (λ (x : Line). x .live ≡ lineAt s l .live) (isProbe (headerIn m)) _ _ (λ _. refl) (λ _. refl))
+        (of-choice (λ (x : Line). x .table ≡ lineAt s l .table) (isProbe (headerIn m)) _ _ (λ _. refl) (λ _. refl)))
+      where
+        kept : Line
+        kept = timeKept (lineAt s l) (isProbe (headerIn m)) (t .clock)
 
-    pong-good : eqb (kindOf m) pongType ≡ true → Goods (pongOutcome s l clock m area)
-    unfolding pongOutcome
-    pong-good k =
-        let v : isUpdateOf L l m ≡ false = not-update L l m (other-type m pongType routeUpdate k refl) in
-        of-refused Goods (firstOf (pongRules m)) s area (quiet 0 (withLine s l (withPong (lineAt s l) (arrivedPong clock m))) area)
-        (λ _. aside (quiet 0 (withLine s l (withPong (lineAt s l) (arrivedPong clock m))) area) refl v
-        (same-line L s (withLine s l (withPong (lineAt s l) (arrivedPong clock m))) area l (withPong (lineAt s l) (arrivedPong clock m)) refl refl below refl refl)
-        (λ _ y. absurd (eqb-false (kindOf m) 0x80 (other-type m pongType 0x80 k refl) y)))
-        (λ n. refused-aside (firstOf (pongRules m)) (none-unsent (pongRules m) refl) v n)
+    abbrev goes : ℕ → Bool → Held → Bool
+    goes k b h = goesOn (lifeOf limit (headerIn m)) l k b h text
 
-    hit-good : eqb (kindOf m) hitType ≡ true → Goods (hitOutcome s m area)
-    unfolding hitOutcome
-    hit-good k =
-        let v : isUpdateOf L l m ≡ false = not-update L l m (other-type m hitType routeUpdate k refl) in
-        of-refused Goods (firstOf (hitRules (hitFound s m) m)) s area (hitTaken s (hitFound s m) m area)
-        (λ _. aside (hitTaken s (hitFound s m) m area) refl v (untouched L s area) (λ _ y. absurd (eqb-false (kindOf m) 0x80 (other-type m hitType 0x80 k refl) y)))
-        (λ n. refused-aside (firstOf (hitRules (hitFound s m) m)) (none-unsent (hitRules (hitFound s m) m) refl) v n)
+    goes-same : goes L (lineAt s L .live) (heldAt s L area) ≡ goes L (e .live) (e .held)
+    goes-same = read-same (goes L) (λ h. rw (and-false (leb 2 (lifeLeft limit m))) (and-false (not (eqb L l))))
 
-    goes-same : goesOn usualLimit l L (lineAt s L .live) (heldAt s L area) m ≡ goesOn usualLimit l L (e .live) (e .held) m
-    goes-same = read-same (λ b h. goesOn usualLimit l L b h m) (λ h. rw (and-false (leb 2 (lifeOf usualLimit m))) (and-false (not (eqb L l))))
-
-    query-good : eqb (kindOf m) queryType ≡ true → Goods (queryOutcome usualLimit s l m area)
-    unfolding queryOutcome remember
+    query-good : eqb (kindOf m) queryType ≡ true → AfterMessage (queryDone limit s l m area)
     query-good k =
-        let v : isUpdateOf L l m ≡ false = not-update L l m (other-type m queryType routeUpdate k refl) in
-        of-refused Goods (firstOf (queryRules usualLimit s m)) s area (queryTaken usualLimit s l m area)
-        (λ _. aside (queryTaken usualLimit s l m area) refl v (record { room = refl; count = refl; live = refl; table = refl; part = refl })
-        (λ _ _. forwarded room e (q .sound) us (t .speaking) (MayGo e L l m) (textIn (payloadOf m)) (lifeLeft m - 1) _
-        (read-as (eachLine-at (λ k. goesOn usualLimit l k (lineAt s k .live) (heldAt s k area) m) L seven ∙ goes-same) (goes-iff room e (q .sound) L l m))))
-        (λ n. refused-aside (firstOf (queryRules usualLimit s m)) (none-unsent (queryRules usualLimit s m) refl) v n)
-
-    unknown-good : eqb (kindOf m) routeUpdate ≡ false → Goods (quiet 7 s area)
-    unknown-good k = refused-aside 7 refl (not-update L l m k) (λ y. absurd (omega arith))
+        aside (queryDone limit s l m area) refl (not-update (other-type m queryType routeUpdate k refl))
+        (untouched L s area _)
+        (λ _ _. forwarded room e (q .sound) us (told .speaking) (MayGo limit e L l m) text (lifeLeft limit m - 1) _
+        (read-as (eachLine-at (λ k. goes k (lineAt s k .live) (heldAt s k area)) L seven ∙ goes-same)
+        (goes-iff room e (q .sound) limit L l m)))
 
     -- an update of another line
-    abbrev left : Held
-    left = updated (s .room) (heldAt s l area) (ttlOf m) (hopsOf m) (payloadOf m)
+    update-answered : unused (updateNumber s l m area) ≡ false
+    update-answered =
+        not-true (unused (updateNumber s l m area))
+        (update-sent (s .room) (heldAt s l area) (ttlOf m) (hopsOf m) (payloadOf m))
 
-    update-answered : unsent (updateOutcome s l m area .answer) ≡ false
-    unfolding updateOutcome
-    update-answered = not-true (unsent (updateAnswer (s .room) (heldAt s l area) (ttlOf m) (hopsOf m) (payloadOf m))) (update-sent (s .room) (heldAt s l area) (ttlOf m) (hopsOf m) (payloadOf m))
-
-    no-query : eqb (kindOf m) routeUpdate ≡ true → kindOf m ≡ 0x80 → ⊥
-    no-query k = eqb-false (kindOf m) 0x80 (other-type m routeUpdate 0x80 k refl)
-
-    other-update : l ≤ 7 → length area / 8 ≡ s .room → (L ≡ l → ⊥) → eqb (kindOf m) routeUpdate ≡ true → Goods (updateOutcome s l m area)
-    unfolding updateOutcome
+    other-update : l ≤ 7 → length area / 8 ≡ s .room → (L ≡ l → ⊥) → eqb (kindOf m) routeUpdate ≡ true
+        → AfterMessage (updateDone s l m area)
     other-update l≤7 areas ne k =
         let long : length (heldAt s l area .entries) ≤ s .room = simp length-take (omega arith) in
-        aside (updateOutcome s l m area) update-answered (ap (λ b. b && eqb (kindOf m) routeUpdate) (ne-eqb l L (λ y. ne (sym y))))
-        (other-line L s (updateOutcome s l m area .state) area l (withTable (lineAt s l) (left .table)) refl refl (updateOutcome s l m area .route)
-        (over-apart L l (s .room) (left .entries) area ne (updated-within (s .room) (heldAt s l area) (ttlOf m) (hopsOf m) (payloadOf m) long) l≤7 areas)
-        ne)
-        (λ _ y. absurd (no-query k y))
+        let within = updated-within (s .room) (heldAt s l area) (ttlOf m) (hopsOf m) (payloadOf m) long in
+        let o : Outcome = updateDone s l m area in
+        aside o update-answered (ap (λ b. b && eqb (kindOf m) routeUpdate) (ne-eqb l L (λ y. ne (sym y))))
+        (other-line L s (o .state) area l (withTable (lineAt s l) (heldAfter s l m area .table)) refl refl (o .route)
+        (over-apart L l (s .room) (heldAfter s l m area .entries) area ne within l≤7 areas) ne)
+        (λ _ y. absurd (no-query routeUpdate k refl y))
 
   -- an update of line L itself
-  module _ (clock : ℕ) (own : Own) (m : List ℕ) (out : ℕ) (open′ : lineAt s L .live ≡ true) (areas : length area / 8 ≡ s .room) (k : eqb (kindOf m) routeUpdate ≡ true) where
+  module _ (m : List ℕ) (t : Terms) (open′ : lineAt s L .live ≡ true) (areas : length area / 8 ≡ s .room)
+      (k : eqb (kindOf m) routeUpdate ≡ true) where
     abbrev then′ : Held
-    then′ = updated (s .room) (heldAt s L area) (ttlOf m) (hopsOf m) (payloadOf m)
+    then′ = heldAfter s L m area
+
+    abbrev o : Outcome
+    o = updateDone s L m area
+
+    abbrev line : Line
+    line = withTable (lineAt s L) (then′ .table)
 
     heard : hears room m e .held ≡ then′
     heard = ap₂ (λ r h. updated r h (ttlOf m) (hopsOf m) (payloadOf m)) (sym (q .sameRoom)) (q .whileOpen open′)
@@ -182,107 +183,120 @@ module _ (L room : ℕ) (seven : L ≤ 7) (e : Expected) (us : List Update) (t :
     sound-heard = sound-updated room (e .held) (ttlOf m) (hopsOf m) (payloadOf m) (q .sound)
 
     sound-then : Sound (s .room) then′
-    sound-then = subst (λ (r : ℕ). Sound r then′) (sym (q .sameRoom)) (subst (λ (h : Held). Sound room h) heard sound-heard)
+    sound-then =
+        subst (λ (r : ℕ). Sound r then′) (sym (q .sameRoom)) (subst (λ (h : Held). Sound room h) heard sound-heard)
 
-    held-then : heldAt (updateOutcome s L m area .state) L (updateOutcome s L m area .route) ≡ then′
-    unfolding updateOutcome
+    line-then : lineAt (o .state) L ≡ line
+    line-then = line-set s L line below
+
+    held-then : heldAt (o .state) L (o .route) ≡ then′
     held-then =
-        let t : lineAt (updateOutcome s L m area .state) L .table ≡ then′ .table = ap (λ (x : Line). x .table) (line-set s L (withTable (lineAt s L) (then′ .table)) below) in
-        let p : L * s .room ≤ 7 * s .room = mul-le-mul-right (s .room) seven in
-        let f : then′ .table .length ≡ length (then′ .entries) = sym (sound-then .full) in
-        let g : take (then′ .table .length) (partOf (s .room) L (over (L * s .room) (then′ .entries) area)) ≡ then′ .entries
-        = take-take (then′ .table .length) (s .room) (drop (L * s .room) (over (L * s .room) (then′ .entries) area)) (sound-then .within)
-        ∙ ap (λ n. take n (drop (L * s .room) (over (L * s .room) (then′ .entries) area))) f
-        ∙ over-read (L * s .room) (then′ .entries) area (omega arith) in
-        ap (λ (x : Table). heldIn x (partOf (s .room) L (over (L * s .room) (then′ .entries) area))) t ∙ (λ i. record { table = then′ .table; entries = g i })
+        let n : ℕ = then′ .table .length in
+        let from : ℕ = L * s .room in
+        let p : from ≤ 7 * s .room = mul-le-mul-right (s .room) seven in
+        let g : take n (partOf (s .room) L (o .route)) ≡ then′ .entries
+        = take-take n (s .room) (drop from (o .route)) (sound-then .within)
+        ∙ ap (λ n. take n (drop from (o .route))) (sym (sound-then .full))
+        ∙ over-read from (then′ .entries) area (omega arith) in
+        ap (λ (x : Line). heldIn (x .table) (partOf (s .room) L (o .route))) line-then
+        ∙ (λ i. record { table = then′ .table; entries = g i })
 
-    own-update : Good L room (Message L clock own m out Same) e us area (updateOutcome s L m area)
-    unfolding updateOutcome
+    own-update : After (Message L m t Same) o
     own-update =
         let u : isUpdateOf L L m ≡ true = ap₂ (λ a b. a && b) (eq-eqb L L refl) k in
-        let v : lineAt (updateOutcome s L m area .state) L .live ≡ lineAt s L .live = ap (λ (x : Line). x .live) (line-set s L (withTable (lineAt s L) (then′ .table)) below) in
-        let a : updateOutcome s L m area .answer ≡ expectedAnswer room e m
+        let v : lineAt (o .state) L .live ≡ lineAt s L .live = ap (λ (x : Line). x .live) line-then in
+        let a : o .answer ≡ expectedAnswer room e m
         = ap₂ (λ r h. updateAnswer r h (ttlOf m) (hopsOf m) (payloadOf m)) (q .sameRoom) (sym (q .whileOpen open′)) in (
-          subst (λ (x : Expected). Matches L room x (updateOutcome s L m area .state) (updateOutcome s L m area .route))
-              (sym (feed-message L room L m (updateOutcome s L m area .answer) e true (update-answered L clock own m out) u))
+          subst (λ (x : Expected). Matches L room x (o .state) (o .route))
+              (sym (feed-message L room L m e (unused (o .answer)) true (update-answered L m t) u))
               (record {
                 sameRoom = q .sameRoom;
-                eight = length-set (s .lines) L (withTable (lineAt s L) (then′ .table)) ∙ q .eight;
+                eight = length-set (s .lines) L line ∙ q .eight;
                 live = q .live ∙ sym v;
                 whileOpen = λ _. heard ∙ sym held-then;
                 whileClosed = λ o. absurd (clash (v ∙ open′) o);
                 sound = sound-heard;
               }),
-          ((λ _ _. (a, subst (λ (n : ℕ). Answers room us (updateIn m) n) (sym a) (answers room (e .held) us t (updateIn m)))), (λ _ y. absurd (no-query L clock own m out k y))),
+          (
+            (λ _ _. (
+              a,
+              subst (λ (n : ℕ). Answers room us (updateIn m) n) (sym a) (answers room (e .held) us told (updateIn m)),
+            )),
+            (λ _ y. absurd (no-query L m t routeUpdate k refl y)),
+          ),
         )
 
-  update-good : (l clock : ℕ) (own : Own) (m : List ℕ) (out : ℕ) → LetIn s l m (length area) → eqb (kindOf m) routeUpdate ≡ true
-      → Good L room (Message l clock own m out Same) e us area (updateOutcome s l m area)
-  update-good l clock own m out d k = go (eqb l L) refl
+  update-good : (l : ℕ) (m : List ℕ) (t : Terms) → LetIn s l m (length area) → eqb (kindOf m) routeUpdate ≡ true
+      → After (Message l m t Same) (updateDone s l m area)
+  update-good l m t d k = go (eqb l L) refl
     where
-      go : (b : Bool) → eqb l L ≡ b → Good L room (Message l clock own m out Same) e us area (updateOutcome s l m area)
+      go : (b : Bool) → eqb l L ≡ b → After (Message l m t Same) (updateDone s l m area)
       go true z =
-          subst (λ (x : ℕ). lineAt s x .live ≡ true → Good L room (Message x clock own m out Same) e us area (updateOutcome s x m area)) (sym (eqb-true l L z))
-          (λ o. own-update clock own m out o (d .room) k) (d .live)
-      go false z = other-update l clock own m out (d .line) (d .room) (λ y. eqb-false l L z (sym y)) k
+          subst (λ (x : ℕ). lineAt s x .live ≡ true → After (Message x m t Same) (updateDone s x m area))
+          (sym (eqb-true l L z)) (λ o. own-update m t o (d .room) k) (d .live)
+      go false z = other-update l m t (d .line) (d .room) (λ y. eqb-false l L z (sym y)) k
 
   -- an arriving message
-  types-good : (l clock : ℕ) (own : Own) (m : List ℕ) (out : ℕ) → LetIn s l m (length area)
-      → Good L room (Message l clock own m out Same) e us area (arrived usualLimit s l m t area)
-  unfolding byType
-  types-good l clock own m out d =
-      of-pick (λ o. Good L room (Message l clock own m out Same) e us area o) (eqb (kindOf m) pingType) _ _
-      (λ k. ping-good l clock own m out k)
-      (λ _. of-pick (λ o. Good L room (Message l clock own m out Same) e us area o) (eqb (kindOf m) pongType) _ _
-      (λ k. pong-good l clock own m out k)
-      (λ _. of-pick (λ o. Good L room (Message l clock own m out Same) e us area o) (eqb (kindOf m) routeUpdate) _ _
-      (λ k. update-good l clock own m out d k)
-      (λ u. of-pick (λ o. Good L room (Message l clock own m out Same) e us area o) (eqb (kindOf m) queryType) _ _
-      (λ k. query-good l clock own m out k)
-      (λ _. of-pick (λ o. Good L room (Message l clock own m out Same) e us area o) (eqb (kindOf m) hitType) _ _
-      (λ k. hit-good l clock own m out k)
-      (λ _. unknown-good l clock own m out u)))))
+  types-good : (l : ℕ) (m : List ℕ) (t : Terms) → LetIn s l m (length area)
+      → After (Message l m t Same) (arrived limit s l m t area)
+  types-good l m t d =
+      of-types (After (Message l m t Same)) s l m area
+      (λ n r. aside l m t (quiet n s area) (r .used) (not-update l m t (r .type)) (untouched L s area (s .memory))
+      (λ y. absurd (r .some y)))
+      limit t
+      (λ k _. ping-good l m t k)
+      (λ k _. neither l m t pongType k refl refl (pongDone s l (t .clock) m area) refl
+      (same-line L s (pongDone s l (t .clock) m area .state) area l _ refl refl below refl refl))
+      (update-good l m t d)
+      (λ k _. query-good l m t k)
+      (λ k _. neither l m t hitType k refl refl (hitDone s l m area) refl (untouched L s area (s .memory)))
 
   -- an area of another room is refused
-  passed-good : (l : ℕ) (m : List ℕ) (t : Terms) (a : Area) → FairArea room a → early s l m out (length (lent a area)) ≡ 0
-      → Good L room (Message l m t a) e us area (byType usualLimit s l clock own m (lent a area))
-  passed-good l clock own m out Same f z = types-good l clock own m out (let-in s l m out (length area) z)
-  passed-good l clock own m out (Other x) f z = absurd (f (let-in s l m out (length x) z .room ∙ q .sameRoom))
-
   message-good : (l : ℕ) (m : List ℕ) (t : Terms) (a : Area) → FairArea room a
-      → Good L room (Message l m t a) e us area (messageOutcome s l m t (lent a area))
-  unfolding arriving
-  message-good l clock own m out a f =
-      of-refused (λ o. Good L room (Message l m t a) e us area o) (early s l m out (length (lent a area))) s (lent a area) (byType usualLimit s l clock own m (lent a area))
-      (λ z. passed-good l clock own m out a f z)
-      (λ n. let u : unsent (early s l m out (length (lent a area))) ≡ true = early-unsent s l m out (length (lent a area)) n in (
-        rw (feed-unsent L room (Message l m t a) (early s l m out (length (lent a area))) e u, kept-lent a area) q,
-        ((λ v. absurd (clash u v)), (λ z. absurd (n z))),
+      → After (Message l m t a) (arriving limit s l m t (lent a area))
+  message-good l m t a f =
+      of-message (After (Message l m t a)) s l m (lent a area) limit t
+      (λ n u. (
+        rw (feed-unsent L room (Message l m t a) e (unused n) u, kept-lent a area) q,
+        ((λ v. absurd (clash u v)), (λ z. absurd (unused-some n u z))),
       ))
+      (let-in-good a f)
+    where
+      let-in-good : (a : Area) → FairArea room a → LetIn s l m (length (lent a area))
+          → After (Message l m t a) (arrived limit s l m t (lent a area))
+      let-in-good Same f d = types-good l m t d
+      let-in-good (Other x) f d = absurd (f (d .room ∙ q .sameRoom))
 
   -- own queries
-  own-same : (text : List ℕ) → passes (lineAt s L .live) (heldAt s L area) text usualLimit ≡ passes (e .live) (e .held) text usualLimit
-  own-same text = read-same (λ b h. passes b h text usualLimit) (λ h. refl)
+  own-same : (text : List ℕ)
+      → passes (lineAt s L .live) (heldAt s L area) text limit ≡ passes (e .live) (e .held) text limit
+  own-same text = read-same (λ b h. passes b h text limit) (λ h. refl)
 
-  asked-good : (number text : List ℕ) (out : ℕ) (a : Area) → FairArea room a → firstOf (ownRules s number text out (length (lent a area))) ≡ 0
-      → Good L room (Ask number text t a) e us area (ownTaken usualLimit s number text (lent a area))
-  unfolding remember
-  asked-good number text out Same f z = (
-    rw (feed-ask L room false e) (left-alone q (record { room = refl; count = refl; live = refl; table = refl; part = refl })),
-    (λ _. forwarded room e (q .sound) us (t .speaking) (e .live ≡ true) text 7 _
-        (read-as (eachLine-at (λ k. passes (lineAt s k .live) (heldAt s k area) text usualLimit) L seven ∙ own-same text) (own-goes-iff room e (q .sound) text))),
+  asked-good : (number text : List ℕ) (t : Terms) (a : Area) → FairArea room a
+      → ownAnswer s number text (t .out) (length (lent a area)) ≡ 0
+      → After (Ask number text t a) (ownTaken limit s number text (lent a area))
+  asked-good number text t Same f z = (
+    rw (feed-ask L room false e) (left-alone q (untouched L s area _)),
+    (λ _. forwarded room e (q .sound) us (told .speaking) (e .live ≡ true) text limit _
+        (read-as (eachLine-at (λ k. passes (lineAt s k .live) (heldAt s k area) text limit) L seven ∙ own-same text)
+        (passes-iff room e (q .sound) text limit))),
   )
-  asked-good number text out (Other x) f z = absurd (f (asked-in s number text out (length x) z .room ∙ q .sameRoom))
+  asked-good number text t (Other x) f z = absurd (f (asked-in s number text (t .out) (length x) z .room ∙ q .sameRoom))
 
-  ask-good : (number text : List ℕ) (out : ℕ) (a : Area) → FairArea room a → Good L room (Ask number text t a) e us area (ownOutcome s number text out (lent a area))
+  ask-good : (number text : List ℕ) (t : Terms) (a : Area) → FairArea room a
+      → After (Ask number text t a) (asking limit s number text (t .out) (lent a area))
   unfolding asking
-  ask-good number text out a f =
-      of-refused (λ o. Good L room (Ask number text t a) e us area o) (firstOf (ownRules s number text out (length (lent a area)))) s (lent a area) (ownTaken usualLimit s number text (lent a area))
-      (λ z. asked-good number text out a f z)
-      (λ n. (rw (feed-ask L room (unsent (firstOf (ownRules s number text out (length (lent a area))))) e, kept-lent a area) q, (λ z. absurd (n z))))
+  ask-good number text t a f =
+      of-refused (After (Ask number text t a)) answer s (lent a area) (ownTaken limit s number text (lent a area))
+      (asked-good number text t a f)
+      (λ n. (rw (feed-ask L room (unused answer) e, kept-lent a area) q, (λ z. absurd (n z))))
+    where
+      answer : ℕ
+      answer = ownAnswer s number text (t .out) (length (lent a area))
 
   -- line L opened or closed: an empty record
-  anew : (s′ : Station) (live : Bool) → s′ .room ≡ s .room → s′ .lines ≡ set (s .lines) L (emptyLine live) → Matches L room (wiped live) s′ area
+  anew : (s′ : Station) (live : Bool) → s′ .room ≡ s .room → s′ .lines ≡ set (s .lines) L (emptyLine live)
+      → Matches L room (wiped live) s′ area
   anew s′ live r z =
       let a : lineAt s′ L ≡ emptyLine live = ap (λ ls. getD ls L nowhere) z ∙ line-set s L (emptyLine live) below in
       let t : lineAt s′ L .table ≡ noTable = ap (λ (x : Line). x .table) a in
@@ -303,28 +317,31 @@ module _ (L room : ℕ) (seven : L ≤ 7) (e : Expected) (us : List Update) (t :
       (λ y. anew s′ live r (z ∙ ap (λ k. set (s .lines) k (emptyLine live)) (eqb-true l L y)))
       (λ y. left-alone q (other-line L s s′ area l (emptyLine live) r z area refl (λ w. eqb-false l L y (sym w))))
 
-  opening-good : (l : ℕ) → Good L room (Open l) e us area (opening s l)
+  opening-good : (l : ℕ) → After (Open l) (opening s l)
   unfolding opening feed
   opening-good l =
-      of-refused (λ o. Good L room (Open l) e us area o) (firstOf (openingRules s l)) s [] (quiet 0 (withLine s l (emptyLine true)) [])
+      of-refused (After (Open l)) (firstOf (openingIn s l)) s [] (quiet 0 (withLine s l (emptyLine true)) [])
       (λ _. (turned (withLine s l (emptyLine true)) l true refl refl, (λ _. refl)))
-      (λ n. let u = all-unsent (openingRules s l) refl n in (rw (feed-unsent L room (Open l) (firstOf (openingRules s l)) e u) q, (λ v. absurd (clash u v))))
+      (λ n. let u = all-unused (openingIn s l) refl n in
+      (rw (feed-unsent L room (Open l) e (unused (firstOf (openingIn s l))) u) q, (λ v. absurd (clash u v))))
 
-  closing-good : (l : ℕ) → Good L room (Close l) e us area (closing s l)
+  closing-good : (l : ℕ) → After (Close l) (closing s l)
   unfolding closing feed
   closing-good l =
-      of-refused (λ o. Good L room (Close l) e us area o) (firstOf (closingRules s l)) s [] (quiet 0 (closedState s l) [])
+      of-refused (After (Close l)) (firstOf (closingIn s l)) s [] (quiet 0 (closedState s l) [])
       (λ _. (turned (closedState s l) l false refl refl, (λ _. refl)))
-      (λ n. let u = all-unsent (closingRules s l) refl n in (rw (feed-unsent L room (Close l) (firstOf (closingRules s l)) e u) q, (λ v. absurd (clash u v))))
+      (λ n. let u = all-unused (closingIn s l) refl n in
+      (rw (feed-unsent L room (Close l) e (unused (firstOf (closingIn s l))) u) q, (λ v. absurd (clash u v))))
 
 -- every call
-module _ (L room : ℕ) (seven : L ≤ 7) (e : Expected) (us : List Update) (t : Accounts (e .held) us)
+module _ (L room : ℕ) (seven : L ≤ 7) (e : Expected) (us : List Update) (told : Accounts (e .held) us)
     (w : World) (q : Matches L room e (w .state) (w .area)) where
-  call-good : (c : Call) → FairCall room c → Good L room c e us (w .area) (outcomeOf w c)
-  call-good (Open l) f = opening-good L room seven e us t (w .state) (w .area) q l
-  call-good (Close l) f = closing-good L room seven e us t (w .state) (w .area) q l
-  call-good (Message l m t a) f = message-good L room seven e us t (w .state) (w .area) q l clock own m out a f
-  call-good (Ask number text t a) f = ask-good L room seven e us t (w .state) (w .area) q number text out a f
+  call-good : (c : Call) → FairCall room c → Good usualLimit L room c e us (w .area) (outcomeOf w c)
+  call-good (Open l) f = opening-good usualLimit L room seven e us told (w .state) (w .area) q l
+  call-good (Close l) f = closing-good usualLimit L room seven e us told (w .state) (w .area) q l
+  call-good (Message l m t a) f = message-good usualLimit L room seven e us told (w .state) (w .area) q l m t a f
+  call-good (Ask number text t a) f =
+      ask-good usualLimit L room seven e us told (w .state) (w .area) q number text t a f
 
 -- what is known of line L at a place of a list: the invariant, and what its updates come to
 record Known (L room : ℕ) (w : World) : Type 0 where
@@ -334,27 +351,30 @@ record Known (L room : ℕ) (w : World) : Type 0 where
 -- and so every list
 module _ (L room : ℕ) (seven : L ≤ 7) where
   known-good : (w : World) → Known L room w → (c : Call) → FairCall room c
-      → Good L room c (expected L room (w .log)) (updatesOf L (w .log)) (w .area) (outcomeOf w c)
+      → Good usualLimit L room c (expected L room (w .log)) (updatesOf L (w .log)) (w .area) (outcomeOf w c)
   known-good w k = call-good L room seven (expected L room (w .log)) (updatesOf L (w .log)) (k .accounts) w (k .matches)
 
   known-on : (cs : List Call) (w : World) → Known L room w → Fair room cs → Known L room (run w cs)
   known-on [] w k f = k
   known-on (c ∷ cs) w k f =
       let g = known-good w k c (f .0) in
-      let t = account-call L room (outcomeOf w c) (expected L room (w .log)) (updatesOf L (w .log)) (k .accounts) c (g .1) in
+      let e : Expected = expected L room (w .log) in
+      let t = account-call usualLimit L room (outcomeOf w c) e (updatesOf L (w .log)) (k .accounts) c (g .1) in
       known-on cs (step w c) (record { matches = g .0; accounts = t }) (f .1)
 
 -- what stands, from the invariant and the account
-module _ (L room : ℕ) (e : Expected) (us : List Update) (s : Station) (area : List ℕ) (q : Matches L room e s area) (t : Accounts (e .held) us) where
+module _ (L room : ℕ) (e : Expected) (us : List Update) (s : Station) (area : List ℕ) (q : Matches L room e s area)
+    (t : Accounts (e .held) us) where
   stands : Stands L room e us s area
   stands = go (lineAt s L .live) refl
     where
       go : (b : Bool) → lineAt s L .live ≡ b → Stands L room e us s area
       go true o =
           let h : e .held ≡ heldAt s L area = q .whileOpen o in
-          let long : lineAt s L .table .length ≤ s .room = rw (ap (λ (x : Held). x .table .length) h, ← q .sameRoom) at (q .sound .within) in
+          let n : ℕ = lineAt s L .table .length in
+          let long : n ≤ s .room = rw (ap (λ (x : Held). x .table .length) h, ← q .sameRoom) at (q .sound .within) in
           let same : entriesAt s L area ≡ e .held .entries
-          = sym (take-take (lineAt s L .table .length) (s .room) (drop (L * s .room) area) long) ∙ sym (ap (λ (x : Held). x .entries) h) in
+          = sym (take-take n (s .room) (drop (L * s .room) area) long) ∙ sym (ap (λ (x : Held). x .entries) h) in
           record {
             room′ = q .sameRoom;
             live = sym (q .live);
@@ -372,7 +392,8 @@ module _ (L room : ℕ) (e : Expected) (us : List Update) (s : Station) (area : 
       go false o =
           let h : e .held ≡ noHeld = q .whileClosed o .0 in
           let n : length (e .held .entries) ≡ 0 = ap (λ (x : Held). length (x .entries)) h in
-          let m : lineAt s L .table .mark ≡ e .held .table .mark = q .whileClosed o .1 ∙ sym (ap (λ (x : Held). x .table .mark) h) in
+          let m : lineAt s L .table .mark ≡ e .held .table .mark
+          = q .whileClosed o .1 ∙ sym (ap (λ (x : Held). x .table .mark) h) in
           record {
             room′ = q .sameRoom;
             live = sym (q .live);
@@ -386,8 +407,8 @@ module _ (L room : ℕ) (e : Expected) (us : List Update) (s : Station) (area : 
           }
 
 -- the invariant holds at the start: the line is closed
-begins : (s : Station) (area : List ℕ) (L : ℕ) → length (s .lines) ≡ 8 → inOrder s ≡ true → L ≤ 7 → lineAt s L .live ≡ false
-    → Matches L (s .room) (wiped false) s area
+begins : (s : Station) (area : List ℕ) (L : ℕ) → length (s .lines) ≡ 8 → inOrder s ≡ true → L ≤ 7
+    → lineAt s L .live ≡ false → Matches L (s .room) (wiped false) s area
 begins s area L eight order seven closed =
     record {
       sameRoom = refl;
@@ -409,7 +430,7 @@ demand3 s area L cs eight order seven closed fair =
       stands = λ before after e.
           let w : World = run (start s area) before in
           let k = known before after e in
-          stands L (s .room) (expected L (s .room) (w .log)) (updatesOf L (w .log)) (w .state) (w .area) (k .matches) (k .accounts);
+          stands L (s .room) _ (updatesOf L (w .log)) (w .state) (w .area) (k .matches) (k .accounts);
       calls = λ before c after e.
           let w : World = run (start s area) before in
           known-good L (s .room) seven w (known before (c ∷ after) e) c (parts before (c ∷ after) e .1 .0) .1;

@@ -13,22 +13,27 @@ use borrow.Author.Tests.{eqb-true, eqb-false, eq-eqb, ne-eqb, leb-true, le-leb, 
 use Rattle.laws.specs.Tests.{any, all}
 use Rattle.laws.specs.Ring.{placesBefore, keptPlaces}
 use Rattle.laws.proofs.Chunks.{failed}
-use Rattle.laws.proofs.Refusals.{clash, and-fst, and-snd, and-intro, or-fst, or-snd, or-left, or-right, or-split, or-rest, all-getD, each, every-of}
+use Rattle.laws.proofs.Refusals.{clash, and-fst, and-snd, and-intro, or-fst, or-snd, or-left, or-right, or-split}
+use Rattle.laws.proofs.Refusals.{or-rest, all-getD, each}
 use Rattle.laws.proofs.Ranks.{places-length, place-low, place-high}
 use Rattle.laws.proofs.Rings.{map-getD}
 use Rattle.tables.specs.declared.Table.{Table}
-use Rattle.tables.specs.Tables.{broken, running, ready, goodLength, goodInfinity, insideRun, betweenRuns, withinLimits, tableInOrder}
+use Rattle.tables.specs.Tables.{broken, running, ready, goodLength, insideRun, betweenRuns, withinLimits}
+use Rattle.tables.specs.Tables.{tableInOrder}
 use Rattle.tables.proofs.OrderLaws.{Limits, limits}
 use Rattle.tables.proofs.Answers.{power-of, is-power}
 use Rattle.protocol.specs.declared.Pong.{Pong}
 use Rattle.protocol.specs.declared.Line.{Line}
 use Rattle.protocol.specs.State.{Station, remembered, lineAt}
-use Rattle.protocol.specs.Memory.{sameNumber, Query, queryAt, noTwice}
+use Rattle.protocol.specs.Memory.{Memory, sameNumber, Query, queryAt, queriesIn, noTwice}
 use Rattle.protocol.specs.Lines.{nowhere, noPong, storedPongs}
-use Rattle.protocol.specs.Order.{askerFits, emptyWhenClosed, lineInOrder, inOrder}
+use Rattle.protocol.specs.Order.{emptyWhenClosed, lineInOrder, inOrder}
 use Rattle.protocol.specs.Kept.{Sized}
-use Rattle.protocol.specs.InOrderWords.{queryPlace, pongPlace, RestWords, RunWords, LimitWords, TableWords, ClosedWords, LineWords, AskerWords, OneNumber, InOrderWords, InOrderExactly}
+use Rattle.protocol.specs.InOrderWords.{queryPlace, pongPlace, RestWords, RunWords, LimitWords, TableWords}
+use Rattle.protocol.specs.InOrderWords.{ClosedWords, LineWords, AskerWords, OneNumber}
+use Rattle.protocol.specs.InOrderWords.{InOrderWords, InOrderExactly}
 use Rattle.protocol.proofs.InOrder.{state-facts, state-order, line-facts, line-order}
+use Rattle.protocol.proofs.Kept.{fitsIn}
 
 -- ---- tests over a list, element by element
 
@@ -118,10 +123,15 @@ rest-words t e =
     }
 
 rest-is : (t : Table) → RestWords t → betweenRuns t ≡ true
-rest-is t w = and-intro (eqb (t .nextplace) 1) (eqb (t .nextentry) 0) (eq-eqb (t .nextplace) 1 (w .place)) (eq-eqb (t .nextentry) 0 (w .entry))
+rest-is t w = rw (eq-eqb (t .nextplace) 1 (w .place), eq-eqb (t .nextentry) 0 (w .entry))
 
 abbrev runTests : Table → List Bool
-runTests t = leb 2 (t .nextplace) ∷ leb (t .nextplace) (t .runsize) ∷ (eqb (t .runbits) 4 || eqb (t .runbits) 8) ∷ leb (t .nextentry) (t .length) ∷ []
+runTests t =
+    leb 2 (t .nextplace)
+    ∷ leb (t .nextplace) (t .runsize)
+    ∷ (eqb (t .runbits) 4 || eqb (t .runbits) 8)
+    ∷ leb (t .nextentry) (t .length)
+    ∷ []
 
 run-words : (t : Table) → insideRun t ≡ true → RunWords t
 run-words t e =
@@ -137,19 +147,13 @@ run-words t e =
 
 run-is : (t : Table) → RunWords t → insideRun t ≡ true
 run-is t w =
-    every-of (runTests t) (
-      le-leb 2 (t .nextplace) (w .second),
-      (
-        le-leb (t .nextplace) (t .runsize) (w .last),
-        (
-          ⊎-elim
-              (λ e. or-left (eqb (t .runbits) 4) (eqb (t .runbits) 8) (eq-eqb (t .runbits) 4 e))
-              (λ e. or-right (eqb (t .runbits) 4) (eqb (t .runbits) 8) (eq-eqb (t .runbits) 8 e))
-              (w .width),
-          (le-leb (t .nextentry) (t .length) (w .entry), tt),
-        ),
-      ),
-    )
+    let width : (eqb (t .runbits) 4 || eqb (t .runbits) 8) ≡ true
+    = ⊎-elim
+    (λ e. or-left (eqb (t .runbits) 4) (eqb (t .runbits) 8) (eq-eqb (t .runbits) 4 e))
+    (λ e. or-right (eqb (t .runbits) 4) (eqb (t .runbits) 8) (eq-eqb (t .runbits) 8 e))
+    (w .width) in
+    let entry = le-leb (t .nextentry) (t .length) (w .entry) in
+    rw (le-leb 2 (t .nextplace) (w .second), le-leb (t .nextplace) (t .runsize) (w .last), width, entry)
 
 module _ (room : ℕ) (t : Table) where
   abbrev position : Bool
@@ -193,16 +197,10 @@ module _ (room : ℕ) (t : Table) where
   limits-are : 1 ≤ t .mark → t .mark ≤ 3 → LimitWords room t → withinLimits room t ≡ true
   unfolding goodLength
   limits-are a b w =
-      every-of (goodLength (t .length) ∷ leb (t .length) room ∷ goodInfinity (t .infinity) ∷ position ∷ []) (
-        is-power (t .length) 2 15 (w .power) (w .least) (omega (arith, w .most)) (w .long),
-        (
-          le-leb (t .length) room (w .within),
-          (
-            and-intro _ _ (le-leb 2 (t .infinity) (w .above)) (le-leb (t .infinity) 127 (w .below)),
-            (position-is a b w, tt),
-          ),
-        ),
-      )
+      let long = is-power (t .length) 2 15 (w .power) (w .least) (omega (arith, w .most)) (w .long) in
+      let low = le-leb 2 (t .infinity) (w .above) in
+      let high = le-leb (t .infinity) 127 (w .below) in
+      rw (long, le-leb (t .length) room (w .within), low, high, position-is a b w)
 
   table-words : tableInOrder room t ≡ true → TableWords room t
   unfolding tableInOrder
@@ -228,7 +226,8 @@ module _ (room : ℕ) (t : Table) where
 -- ---- lines
 
 -- what a place past the pongs would read has Hops 0
-hops-at : (ps : List Pong) (i : ℕ) → getD ps i (record { bytes = []; hops = 0; clock = 0 }) .hops ≡ getD ps i noPong .hops
+hops-at : (ps : List Pong) (i : ℕ)
+    → getD ps i (record { bytes = []; hops = 0; clock = 0 }) .hops ≡ getD ps i noPong .hops
 hops-at [] i = refl
 hops-at (p ∷ ps) zero = refl
 hops-at (p ∷ ps) (suc i) = hops-at ps i
@@ -260,9 +259,10 @@ module _ (x : Line) where
   closed-words : emptyWhenClosed x ≡ true → x .live ≡ false → ClosedWords x
   closed-words e c =
       let h : bare ≡ true = or-rest (x .live) bare e c in
-      let r = and-snd (eqb (x .table .mark) 0) (eqb (x .pongcount) 0 && not (x .pinged)) h in
+      let empty : Bool = eqb (x .pongcount) 0 && not (x .pinged) in
+      let r = and-snd (eqb (x .table .mark) 0) empty h in
       record {
-        table = eqb-true (x .table .mark) 0 (and-fst (eqb (x .table .mark) 0) (eqb (x .pongcount) 0 && not (x .pinged)) h);
+        table = eqb-true (x .table .mark) 0 (and-fst (eqb (x .table .mark) 0) empty h);
         pongs = eqb-true (x .pongcount) 0 (and-fst (eqb (x .pongcount) 0) (not (x .pinged)) r);
         ping = not-true (x .pinged) (and-snd (eqb (x .pongcount) 0) (not (x .pinged)) r);
       }
@@ -274,7 +274,8 @@ module _ (x : Line) where
       by true e = rw e
       by false e =
           let w = h e in
-          or-right (x .live) bare (rw (eq-eqb (x .table .mark) 0 (w .table), eq-eqb (x .pongcount) 0 (w .pongs), w .ping))
+          or-right (x .live) bare
+          (rw (eq-eqb (x .table .mark) 0 (w .table), eq-eqb (x .pongcount) 0 (w .pongs), w .ping))
 
 line-words : (room : ℕ) (x : Line) → lineInOrder room x ≡ true → LineWords room x
 line-words room x e =
@@ -313,7 +314,8 @@ module _ (d : Query) where
   apart-at [] h i j l m = absurd (omega arith)
   apart-at (q ∷ qs) h i zero l m = absurd (omega arith)
   apart-at (q ∷ qs) h zero (suc j) l m =
-      none-at (like q) d qs j (not-true (any (like q) qs) (and-fst (not (any (like q) qs)) (noTwice qs) h)) (omega arith)
+      none-at (like q) d qs j (not-true (any (like q) qs) (and-fst (not (any (like q) qs)) (noTwice qs) h))
+      (omega arith)
   apart-at (q ∷ qs) h (suc i) (suc j) l m =
       apart-at qs (and-snd (not (any (like q) qs)) (noTwice qs) h) i j (omega arith) (omega arith)
 
@@ -326,88 +328,96 @@ module _ (d : Query) where
       rw (none-of (like q) d qs (λ j l. h 0 (suc j) (omega arith) (omega arith)))
       (apart-all qs (λ i j l m. h (suc i) (suc j) (omega arith) (omega arith)))
 
-asker-words : (s : Station) (a : ℕ) → askerFits (s .lines) a ≡ true → AskerWords s a
+asker-words : (s : Station) (a : ℕ) → fitsIn s a ≡ true → AskerWords s a
 asker-words s a e =
     ⊎-elim
-    (λ h. let k : a < 8 = ltb-true a 8 (and-fst (ltb a 8) (lineAt s a .live) h) in inl (omega arith, and-snd (ltb a 8) (lineAt s a .live) h))
+    (λ h. let k : a < 8 = ltb-true a 8 (and-fst (ltb a 8) (lineAt s a .live) h) in
+    inl (omega arith, and-snd (ltb a 8) (lineAt s a .live) h))
     (λ h. inr (⊎-elim (λ k. inl (eqb-true a 8 k)) (λ k. inr (eqb-true a 9 k)) (or-split (eqb a 8) (eqb a 9) h)))
     (or-split (ltb a 8 && lineAt s a .live) (eqb a 8 || eqb a 9) e)
 
-asker-is : (s : Station) (a : ℕ) → AskerWords s a → askerFits (s .lines) a ≡ true
+asker-is : (s : Station) (a : ℕ) → AskerWords s a → fitsIn s a ≡ true
 asker-is s a w =
     ⊎-elim
     (λ h. let k : a < 8 = omega (arith, h .0) in
-    or-left (ltb a 8 && lineAt s a .live) (eqb a 8 || eqb a 9) (and-intro (ltb a 8) (lineAt s a .live) (lt-ltb a 8 k) (h .1)))
+    or-left (ltb a 8 && lineAt s a .live) (eqb a 8 || eqb a 9)
+    (and-intro (ltb a 8) (lineAt s a .live) (lt-ltb a 8 k) (h .1)))
     (λ h. or-right (ltb a 8 && lineAt s a .live) (eqb a 8 || eqb a 9)
     (⊎-elim (λ k. or-left (eqb a 8) (eqb a 9) (eq-eqb a 8 k)) (λ k. or-right (eqb a 8) (eqb a 9) (eq-eqb a 9 k)) h))
     w
 
-module _ (s : Station) (hp : s .next < 512) (hn : s .count ≤ 512) where
+module _ (s : Station) (hp : s .memory .next < 512) (hn : s .memory .count ≤ 512) where
+  abbrev q : Memory
+  q = s .memory
+
   -- what a number past the remembered would read
   abbrev past : Query
-  past = queryAt s 512
+  past = queryAt q 512
 
   abbrev place : ℕ → ℕ
-  place i = queryPlace (s .memory .next) i
+  place i = queryPlace (q .next) i
 
-  many : length (remembered s) ≡ s .count
-  unfolding remembered
-  many = kept-length 512 (queryAt s) past (s .memory .next) (s .memory .count) hp hn
+  many : length (remembered s) ≡ q .count
+  unfolding queriesIn
+  many = kept-length 512 (queryAt q) past (q .next) (q .count) hp hn
 
-  query-at : (i : ℕ) → i < s .count → getD (remembered s) i past ≡ queryAt s (place i)
-  unfolding remembered
-  query-at i l = kept-at 512 (queryAt s) past (s .memory .next) (s .memory .count) hp hn i l
+  query-at : (i : ℕ) → i < q .count → getD (remembered s) i past ≡ queryAt q (place i)
+  unfolding queriesIn
+  query-at i l = kept-at 512 (queryAt q) past (q .next) (q .count) hp hn i l
 
-  -- the numbers of the i-th and the j-th
+  -- the numbers of the i-th and the j-th, and the halves at their places
   abbrev same : ℕ → ℕ → Bool
   same i j = like (getD (remembered s) i past) (getD (remembered s) j past)
 
-  same-places : (i j : ℕ) → i < s .count → j < s .count → same i j ≡ like (queryAt s (place i)) (queryAt s (place j))
+  same-places : (i j : ℕ) → i < q .count → j < q .count → same i j ≡ like (queryAt q (place i)) (queryAt q (place j))
   same-places i j l m = rw (query-at i l, query-at j m)
 
-  once-words : noTwice (remembered s) ≡ true → (i j : ℕ) → i < j → j < s .count → OneNumber s (place i) (place j) → ⊥
+  abbrev low : ℕ → ℕ
+  low i = getD (q .lo) (place i) 0
+
+  abbrev high : ℕ → ℕ
+  high i = getD (q .hi) (place i) 0
+
+  once-words : noTwice (remembered s) ≡ true → (i j : ℕ) → i < j → j < q .count → OneNumber s (place i) (place j) → ⊥
   once-words e i j l m w =
       let a : same i j ≡ false = apart-at past (remembered s) e i j l (omega (arith, many)) in
       clash
-      (and-intro _ _
-      (eq-eqb (getD (s .memory .lo) (place j) 0) (getD (s .memory .lo) (place i) 0) (sym (w .0)))
-      (eq-eqb (getD (s .memory .hi) (place j) 0) (getD (s .memory .hi) (place i) 0) (sym (w .1))))
+      (and-intro _ _ (eq-eqb (low j) (low i) (sym (w .0))) (eq-eqb (high j) (high i) (sym (w .1))))
       (sym (same-places i j (omega arith) m) ∙ a)
 
-  once-is : ((i j : ℕ) → i < j → j < s .count → OneNumber s (place i) (place j) → ⊥) → noTwice (remembered s) ≡ true
+  once-is : ((i j : ℕ) → i < j → j < q .count → OneNumber s (place i) (place j) → ⊥) → noTwice (remembered s) ≡ true
   once-is h =
       apart-all past (remembered s)
-      (λ i j l m. let k : j < s .count = omega (arith, many) in
-      let a : Bool = eqb (getD (s .memory .lo) (place j) 0) (getD (s .memory .lo) (place i) 0) in
-      let b : Bool = eqb (getD (s .memory .hi) (place j) 0) (getD (s .memory .hi) (place i) 0) in
+      (λ i j l m. let k : j < q .count = omega (arith, many) in
+      let a : Bool = eqb (low j) (low i) in
+      let b : Bool = eqb (high j) (high i) in
       same-places i j (omega arith) k
       ∙ failed (a && b)
-      (λ e. h i j l k (
-        sym (eqb-true (getD (s .memory .lo) (place j) 0) (getD (s .memory .lo) (place i) 0) (and-fst a b e)),
-        sym (eqb-true (getD (s .memory .hi) (place j) 0) (getD (s .memory .hi) (place i) 0) (and-snd a b e)),
-      )))
+      (λ e. h i j l k
+      (sym (eqb-true (low j) (low i) (and-fst a b e)), sym (eqb-true (high j) (high i) (and-snd a b e)))))
 
-  askers-words : all (λ q. askerFits (s .lines) (q .asker)) (remembered s) ≡ true
-      → (i : ℕ) → i < s .count → AskerWords s (getD (s .memory .asker) (place i) 0)
-  unfolding remembered
+  abbrev fits : Query → Bool
+  fits x = fitsIn s (x .asker)
+
+  askers-words : all fits (remembered s) ≡ true → (i : ℕ) → i < q .count → AskerWords s (getD (q .asker) (place i) 0)
+  unfolding queriesIn
   askers-words e i l =
-      asker-words s (getD (s .memory .asker) (place i) 0)
-      (each-kept 512 (queryAt s) past (s .memory .next) (s .memory .count) hp hn (λ (q : Query). askerFits (s .lines) (q .asker)) e i l)
+      asker-words s (getD (q .asker) (place i) 0)
+      (each-kept 512 (queryAt q) past (q .next) (q .count) hp hn fits e i l)
 
-  askers-are : ((i : ℕ) → i < s .count → AskerWords s (getD (s .memory .asker) (place i) 0))
-      → all (λ q. askerFits (s .lines) (q .asker)) (remembered s) ≡ true
-  unfolding remembered
+  askers-are : ((i : ℕ) → i < q .count → AskerWords s (getD (q .asker) (place i) 0)) → all fits (remembered s) ≡ true
+  unfolding queriesIn
   askers-are h =
-      all-kept 512 (queryAt s) past (s .memory .next) (s .memory .count) hp hn (λ (q : Query). askerFits (s .lines) (q .asker))
-      (λ i l. asker-is s (getD (s .memory .asker) (place i) 0) (h i l))
+      all-kept 512 (queryAt q) past (q .next) (q .count) hp hn fits
+      (λ i l. asker-is s (getD (q .asker) (place i) 0) (h i l))
 
 -- ---- the state
 
 words-of : (s : Station) → Sized s → inOrder s ≡ true → InOrderWords s
 words-of s z e =
     let f = state-facts s e in
-    let c : s .count ≤ 512 = leb-true (s .memory .count) 512 (f .count) in
-    let n : s .next < 512 = ltb-true (s .memory .next) 512 (f .next) in
+    let c : s .memory .count ≤ 512 = leb-true (s .memory .count) 512 (f .count) in
+    let n : s .memory .next < 512 = ltb-true (s .memory .next) 512 (f .next) in
     record {
       count = c;
       next = n;

@@ -12,7 +12,8 @@ use borrow.Author.Tests.{eqb-true, eqb-false}
 use Rattle.tables.specs.declared.Table.{Table}
 use Rattle.tables.specs.Tables.{none, heldIn}
 use Rattle.protocol.specs.declared.Line.{Line}
-use Rattle.protocol.specs.State.{Station, lineAt, withLine, heldAt}
+use Rattle.protocol.specs.Memory.{Memory}
+use Rattle.protocol.specs.State.{Station, lineAt, withLine, withMemory, heldAt}
 use Rattle.protocol.specs.Lines.{nowhere, partOf}
 use Rattle.protocol.specs.Expected.{Expected}
 use Rattle.protocol.proofs.Updates.{Sound}
@@ -47,8 +48,8 @@ left-alone q u =
       sound = q .sound;
     }
 
-pub untouched : (L : ℕ) (s : Station) (area : List ℕ) → LeftAlone L s area s area
-untouched L s area = record { room = refl; count = refl; live = refl; table = refl; part = refl }
+pub untouched : (L : ℕ) (s : Station) (area : List ℕ) (q : Memory) → LeftAlone L s area (withMemory s q) area
+untouched L s area q = record { room = refl; count = refl; live = refl; table = refl; part = refl }
 
 -- one line's record is set
 module _ (s : Station) (l : ℕ) (x : Line) where

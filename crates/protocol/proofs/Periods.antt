@@ -3,18 +3,19 @@
 -- Assumes nothing.
 use Prim.Native.Nat.{ℕ, _-_}
 use mathlib.Core.Path.{_≡_, refl, sym, ap, _∙_, subst}
-use mathlib.Core.Bool.{true}
+use mathlib.Core.Bool.{true, false}
 use mathlib.Core.Logic.{_↔_}
 use mathlib.Core.List.{List, [], _∷_, _++_, append-nil}
 use lib.Dec.{eqb}
 use borrow.Author.Tests.{eqb-true, eq-eqb}
 use Rattle.wire.specs.Header.{payloadOf}
 use Rattle.tables.specs.Tables.{settled}
-use Rattle.protocol.specs.Queries.{textIn}
+use Rattle.protocol.specs.Outcomes.{Terms, termsOf}
+use Rattle.protocol.specs.Queries.{usualLimit, textIn}
 use Rattle.protocol.specs.Runs.{Same, Call, Message, Ask, World, FairCall, Fair, run, start}
 use Rattle.protocol.specs.Expected.{Expected, expected}
 use Rattle.protocol.specs.History.{updatesOf, speaks}
-use Rattle.protocol.specs.Demand3.{Stops, Stopped, Withheld, lifeLeft, StandsAt, Claimed}
+use Rattle.protocol.specs.Demand3.{Stops, Stopped, Withheld, lifeLeft, StandsAt, AgreesAt}
 use Rattle.protocol.specs.Periods.{StoppedNow, WithheldNow, QuietPeriods}
 use Rattle.protocol.proofs.Demand3.{demand3}
 
@@ -40,25 +41,32 @@ fair-joined room (c ∷ bs) ds f g = (f .0, fair-joined room bs ds (f .1) g)
 pub quiet-periods : QuietPeriods
 quiet-periods s area L cs eight order seven closed fair =
     record {
-      message = λ l clock own m out z k.
-          let x = claimed (Message l clock own m out Same) tt .calls cs (Message l clock own m out Same) [] refl .1 z k .exactly in (
-            (λ t. let v = x .0 t in
-                (q .live ∙ v .0 .0, v .0 .1, v .0 .2, λ n. v .1 (now (v .0 .0) (textIn (payloadOf m)) (lifeLeft m - 1) .1 n))),
-            (λ v. let o = sym (q .live) ∙ v .0 in
-                x .1 ((o, v .1, v .2), λ n. v .3 (now o (textIn (payloadOf m)) (lifeLeft m - 1) .0 n))),
+      message = λ l m t z k.
+          let x = agrees (Message l m t Same) tt .1 z k .exactly in
+          let text : List ℕ = textIn (payloadOf m) in
+          let ttl : ℕ = lifeLeft usualLimit m - 1 in (
+            (λ b. let v = x .0 b in
+                (q .live ∙ v .0 .0, v .0 .1, v .0 .2, λ n. v .1 (now (v .0 .0) text ttl .1 n))),
+            (λ v. let o = sym (q .live) ∙ v .0 in x .1 ((o, v .1, v .2), λ n. v .3 (now o text ttl .0 n))),
           );
       asks = λ number text out z.
-          let x = claimed (Ask number text out Same) tt .calls cs (Ask number text out Same) [] refl z .exactly in (
-            (λ t. let v = x .0 t in (q .live ∙ v .0, λ n. v .1 (now (v .0) text 7 .1 n))),
-            (λ v. let o = sym (q .live) ∙ v .0 in x .1 (o, λ n. v .1 (now o text 7 .0 n))),
+          let x = agrees (Ask number text (terms out) Same) tt z .exactly in (
+            (λ b. let v = x .0 b in (q .live ∙ v .0, λ n. v .1 (now (v .0) text usualLimit .1 n))),
+            (λ v. let o = sym (q .live) ∙ v .0 in x .1 (o, λ n. v .1 (now o text usualLimit .0 n))),
           );
     }
   where
     w : World
     w = run (start s area) cs
 
-    claimed : (c : Call) → FairCall (s .room) c → Claimed s area L (cs ++ (c ∷ []))
-    claimed c f = demand3 s area L (cs ++ (c ∷ [])) eight order seven closed (fair-joined (s .room) cs (c ∷ []) fair (f, tt))
+    -- an own query reads neither clock nor own pong
+    terms : ℕ → Terms
+    terms out = termsOf 0 (record { port = 0; address = []; files = 0; kilobytes = 0; calls = false }) out
+
+    agrees : (c : Call) → FairCall (s .room) c → AgreesAt usualLimit L (s .room) w c
+    agrees c f =
+        demand3 s area L (cs ++ (c ∷ [])) eight order seven closed (fair-joined (s .room) cs (c ∷ []) fair (f, tt))
+        .calls cs c [] refl
 
     q : StandsAt L (s .room) w
     q = demand3 s area L cs eight order seven closed fair .stands cs [] (sym (append-nil cs))
