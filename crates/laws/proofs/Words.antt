@@ -3,13 +3,13 @@
 use Prim.Native.Nat.{ℕ, _≤_, _<_}
 use mathlib.Core.Path.{_≡_, refl, sym, ap}
 use mathlib.Core.Bool.{Bool, true, false, cond, not, _&&_, _||_, false≢true}
-use mathlib.Core.Logic.{_↔_, _⊎_, inl, inr, ⊎-elim}
-use mathlib.Core.List.{List, _∷_}
+use mathlib.Core.Logic.{_↔_, _⊎_, inl, inr, ⊎-elim, Iff·rfl}
+use mathlib.Core.List.{List, [], _∷_, _++_}
 use lib.Dec.{eqb, leb, ltb}
 use borrow.Author.Tests.{leb-true, le-leb, ltb-true, ltb-false, le-ltb, lt-ltb, eqb-true, eqb-false, eq-eqb, not-true}
 use borrow.Author.Tests.{not-false}
 use Rattle.laws.specs.Tests.{firstOf, all}
-use Rattle.laws.proofs.Refusals.{clash, and-fst, and-snd, and-intro, or-split, or-left, or-right, answer-in}
+use Rattle.laws.proofs.Refusals.{clash, and-fst, and-snd, and-intro, or-split, or-left, or-right, answer-in, NoRefusal}
 
 pub and-iff : (a b : Bool) {A B : Type 0} → (a ≡ true) ↔ A → (b ≡ true) ↔ B → ((a && b) ≡ true) ↔ (A × B)
 and-iff a b x y = (
@@ -76,3 +76,17 @@ pub past-iff : (n : ℕ) {X Y : Type 0} (b : Bool) (k : ℕ) (cs : List (Bool ×
     → (b ≡ false) ↔ Y → (firstOf cs ≡ n) ↔ X → (firstOf ((b, k) ∷ cs) ≡ n) ↔ (Y × X)
 past-iff n true k cs h y x = ((λ e. absurd (eqb-false k n h e)), (λ v. absurd (false≢true (sym (y .1 (v .0))))))
 past-iff n false k cs h y x = ((λ e. (y .0 refl, x .0 e)), (λ v. x .1 (v .1)))
+
+-- one number within a list
+pub stands-iff : (n : ℕ) (cs : List (Bool × ℕ)) (b : Bool) (ds : List (Bool × ℕ))
+    → all (λ c. not (eqb (c .1) n)) cs ≡ true → all (λ c. not (eqb (c .1) n)) ds ≡ true → eqb 0 n ≡ false
+    → (firstOf (cs ++ ((b, n) ∷ ds)) ≡ n) ↔ (NoRefusal cs × (b ≡ true))
+stands-iff n [] b ds h g z = let f = first-iff n b ds g z in ((λ e. (tt, f .0 e)), (λ v. f .1 (v .1)))
+stands-iff n (c ∷ cs) b ds h g z =
+    let others : List (Bool × ℕ) → Bool = all (λ c. not (eqb (c .1) n)) in
+    let other : eqb (c .1) n ≡ false = not-true (eqb (c .1) n) (and-fst (not (eqb (c .1) n)) (others cs) h) in
+    let rest = stands-iff n cs b ds (and-snd (not (eqb (c .1) n)) (others cs) h) g z in
+    let p = past-iff n (c .0) (c .1) (cs ++ ((b, n) ∷ ds)) other Iff·rfl rest in (
+      (λ e. let v = p .0 e in ((v .0, v .1 .0), v .1 .1)),
+      (λ v. p .1 (v .0 .0, (v .0 .1, v .1))),
+    )

@@ -3,94 +3,94 @@
 use Prim.Native.Nat.{ℕ, _+_, _-_, _≤_}
 use native.Mathlib.Omega.{arith}
 use mathlib.Core.Path.{_≡_, refl, sym, ap, _∙_}
-use mathlib.Core.Bool.{Bool, true, false, cond, not, _&&_, _||_}
-use mathlib.Core.Logic.{_↔_, inl}
+use mathlib.Core.Bool.{Bool, true, false, not, _&&_, _||_}
+use mathlib.Core.Logic.{_↔_, inl, inr, Iff·rfl}
 use mathlib.Core.List.{List, [], _∷_}
 use lib.Dec.{eqb, leb, ltb}
-use lib.ListN.{length, getD, length-take, length-append}
+use lib.ListN.{length, length-take, length-append}
 use lib.Seq.{length-take-le}
-use borrow.Author.Tests.{leb-true, le-leb, lt-leb, leb-false, lt-ltb, ltb-false, le-ltb, eqb-true, eqb-false, eq-eqb, ne-eqb, not-true, not-false}
+use borrow.Author.Tests.{lt-leb, leb-false, lt-ltb, ltb-false, le-ltb, eqb-true, eqb-false, eq-eqb, ne-eqb, not-false}
 use Rattle.laws.specs.Tests.{firstOf, any}
-use Rattle.laws.proofs.Refusals.{clash, or-fst, or-snd, no-refusal, NoRefusal}
-use Rattle.wire.specs.Header.{kindOf, ttlOf, hopsOf, sizeOf, payloadOf, numberOf, routeUpdate, queryType, hitType, pingType, pongType}
+use Rattle.laws.proofs.Refusals.{clash, or-fst, or-snd, no-refusal, NoRefusal, none-refused}
+use Rattle.laws.proofs.Words.{and-iff, no-iff, other-iff, most-iff, stands-iff}
+use Rattle.wire.specs.Header.{headerIn, kindOf, ttlOf, hopsOf, sizeOf, payloadOf, numberOf, queryType, hitType}
+use Rattle.wire.specs.Header.{pingType}
 use Rattle.keywords.specs.Keywords.{keywordsOf}
 use Rattle.tables.specs.Admission.{withholds}
-use Rattle.protocol.specs.State.{Station, remembered, seen, lineAt, withLine, heldAt}
-use Rattle.protocol.specs.declared.Own.{Own}
-use Rattle.protocol.specs.Memory.{capacity, here, gone, numberIn, Query, Found, remember}
-use Rattle.protocol.specs.Lines.{isOther, withPong}
+use Rattle.protocol.specs.Memory.{capacity, here, gone, numberIn, Query, find}
+use Rattle.protocol.specs.State.{Station, remembered, seen, lineAt, heldAt, lookedUp}
+use Rattle.protocol.specs.Lines.{isOther}
 use Rattle.protocol.specs.Order.{inOrder}
-use Rattle.protocol.specs.Outcomes.{Outcome, quiet, refusedOr}
-use Rattle.protocol.specs.Queries.{usualLimit, textIn, hasText, passes, goesOn, queryRules, queryTo, queryOn, queryTaken, queryOutcome, ownPayload, ownBytes, ownTo, ownTaken}
-use Rattle.protocol.specs.Hits.{hitRules, hitFound, hitTaken, hitOutcome}
-use Rattle.protocol.specs.Pings.{pongRules, arrivedPong, pongOutcome}
-use Rattle.protocol.specs.Calls.{shortOutput, otherRoom, early, updateOutcome, byType, arriving, ownRules, asking, messageOutcome, ownOutcome}
-use Rattle.protocol.specs.Runs.{Call, Open, Close, Message, Ask, World, lent, outcomeOf, step, start, unsent}
+use Rattle.protocol.specs.Outcomes.{Terms, Outcome, quiet, stored, unused}
+use Rattle.protocol.specs.Queries.{usualLimit, textIn, hasText, queryBefore, passes, goesOn, queryLines, queryOn}
+use Rattle.protocol.specs.Queries.{ownPayload, ownBytes, ownLines}
+use Rattle.protocol.specs.Hits.{hitStep}
+use Rattle.protocol.specs.Calls.{ownBefore, ownAnswer, ownTaken, asking, messageOutcome, ownOutcome}
+use Rattle.protocol.specs.Runs.{Call, Open, Close, Message, Ask, World, lent, outcomeOf, step, start}
 use Rattle.protocol.specs.Periods.{lifeLeft}
 use Rattle.protocol.specs.Kept.{Sized}
-use Rattle.protocol.specs.Arrived.{Arrived}
+use Rattle.protocol.specs.Arrived.{Arrived, SentIfArrived}
 use Rattle.protocol.specs.Frames.{NotSearched, Silent}
 use Rattle.protocol.specs.Written.{NoHit}
-use Rattle.protocol.specs.Pinged.{PingRouted, PongRouted, PingsRouted}
-use Rattle.protocol.specs.Demand2.{Origin, Unknown, Here, From, Gone, origin, Acceptable, OwnAcceptable, Answered, QueryTo, OwnTo, HitBy, HitRouted, MessageRouted, Routed, AllRouted, Demand2}
-use Rattle.protocol.proofs.Forwarding.{and-iff, other-iff}
-use Rattle.protocol.proofs.Outcomes.{of-pick, of-refused, eachLine-at, LetIn, let-in, early-unsent}
+use Rattle.protocol.specs.Pinged.{PingsRouted}
+use Rattle.protocol.specs.Demand2.{Origin, Unknown, Here, From, Gone, origin, Acceptable, OwnAcceptable}
+use Rattle.protocol.specs.Demand2.{Answered, QueryTo, OwnTo, HitBy, HitRouted, MessageRouted, Routed}
+use Rattle.protocol.specs.Demand2.{AllRouted, Demand2}
+use Rattle.protocol.proofs.Outcomes.{of-refused, eachLine-at, ownIn, LetIn}
+use Rattle.protocol.proofs.ByType.{queryIn, queryDone, hitDone, of-ping, of-query, of-hit, of-types, of-message}
 use Rattle.protocol.proofs.Refused.{refusal-frame}
-use Rattle.protocol.proofs.Origins.{known, unknown-of, known-if, SameLookUp, Since, Invariant, begins, goes-on, looked-up}
-use Rattle.protocol.proofs.Arrived.{none-refused, answer-taken, areas-of, areas-fit, arrived-of, none-early, by-type, sent-if-arrived, by-ping, by-pong, by-query, by-hit}
+use Rattle.protocol.proofs.Origins.{known, unknown-of, known-if, SameLookUp, Since, Invariant, begins, goes-on}
+use Rattle.protocol.proofs.Origins.{looked-up}
+use Rattle.protocol.proofs.Arrived.{badAreas, areas-of, areas-fit, by-type, sent-if-arrived, by-ping, by-pong}
+use Rattle.protocol.proofs.Arrived.{by-query, by-hit}
+use Rattle.protocol.proofs.Exactly.{by-its-type, own-answer}
 use Rattle.protocol.proofs.Written.{written-for, writes-none, writes-one, writes-choice}
-use Rattle.protocol.proofs.Opened.{silent-of, open-routed, close-routed}
+use Rattle.protocol.proofs.Opened.{quiet-silent, silent-of, open-routed, close-routed}
 use Rattle.protocol.proofs.Pinged.{ping-routed, pong-routed}
-use Rattle.protocol.proofs.PongBytes.{ping-noHit}
-use Rattle.protocol.proofs.TableFrames.{update-only, update-broken, update-part, message-area, ping-search, own-area}
-
--- Answers of refusals: one before the last of a list
-skip : (b : Bool) (n r k : ℕ) → (n ≡ k → ⊥) → cond b n r ≡ k → (b ≡ false) × (r ≡ k)
-skip true n r k ne e = absurd (ne e)
-skip false n r k ne e = (refl, e)
-
-stop : (b : Bool) (n r k : ℕ) → (r ≡ k → ⊥) → cond b n r ≡ k → b ≡ true
-stop true n r k ne e = refl
-stop false n r k ne e = absurd (ne e)
+use Rattle.protocol.proofs.PongBytes.{writes-pongs}
+use Rattle.protocol.proofs.TableFrames.{update-only, update-broken, update-part, message-area, ping-search}
+use Rattle.protocol.proofs.TableFrames.{own-area}
 
 -- Lines: a query goes to those that the rules name
-not-is : (b : Bool) → (not b ≡ true) ↔ (b ≡ false)
-not-is b = (not-true b, (λ e. rw e))
+module _ (limit : ℕ) (s : Station) (route : List ℕ) where
+  abbrev live : ℕ → Bool
+  live k = lineAt s k .live
 
-module _ (s : Station) (route : List ℕ) where
-  query-to : (l : ℕ) (m : List ℕ) → QueryTo s route l m (queryTaken usualLimit s l m route)
-  unfolding remember
+  passes-is : (text : List ℕ) (ttl k : ℕ)
+      → (passes (live k) (heldAt s k route) text ttl ≡ true)
+      ↔ ((live k ≡ true) × (withholds (heldAt s k route) (keywordsOf text) ttl ≡ false))
+  passes-is text ttl k =
+      let held : Bool = withholds (heldAt s k route) (keywordsOf text) ttl in
+      and-iff (live k) (not held) Iff·rfl (no-iff held)
+
+  query-to : (l : ℕ) (m : List ℕ) → QueryTo limit s route l m (queryDone limit s l m route)
   query-to l m =
       record {
         eight = refl;
         to = λ k h.
-            let life : ℕ = lifeLeft m in
-            let held : Bool = withholds (heldAt s k route) (keywordsOf (textIn (payloadOf m))) (life - 1) in
-            let at : getD (queryTo usualLimit s l m route) k false ≡ goesOn usualLimit l k (lineAt s k .live) (heldAt s k route) m
-            = eachLine-at (λ k. goesOn usualLimit l k (lineAt s k .live) (heldAt s k route) m) k (omega arith) in
-            let p = and-iff (lineAt s k .live) (not held) ((λ z. z), (λ z. z)) (not-is held) in
-            let q = and-iff (leb 2 life) (lineAt s k .live && not held) (leb-true 2 life, le-leb 2 life) p in
-            let r = and-iff (isOther l k) (leb 2 life && (lineAt s k .live && not held)) (other-iff l k) q in (
+            let life : ℕ = lifeLeft limit m in
+            let text : List ℕ = textIn (payloadOf m) in
+            let pass : Bool = passes (live k) (heldAt s k route) text (life - 1) in
+            let at = eachLine-at (λ k. goesOn life l k (live k) (heldAt s k route) text) k (omega arith) in
+            let q = and-iff (leb 2 life) pass (most-iff 2 life) (passes-is text (life - 1) k) in
+            let r = and-iff (isOther l k) (leb 2 life && pass) (other-iff k l) q in (
               (λ z. let v = r .0 (sym at ∙ z) in (v .1 .1 .0, v .0, v .1 .0, v .1 .1 .1)),
               (λ v. at ∙ r .1 (v .1, (v .2, (v .0, v .3)))),
             );
-        sent = written-for (queryTo usualLimit s l m route) (queryOn usualLimit m);
+        sent = written-for (queryLines limit (s .room) (s .lines) l m route) (queryOn limit m);
         search = (refl, refl, refl);
         lines = refl;
       }
 
-  own-to : (number text : List ℕ) → OwnTo s route number text (ownTaken usualLimit s number text route)
-  unfolding remember
+  own-to : (number text : List ℕ) → OwnTo limit s route number text (ownTaken limit s number text route)
   own-to number text =
       record {
         eight = refl;
         to = λ k h.
-            let held : Bool = withholds (heldAt s k route) (keywordsOf text) 7 in
-            let at : getD (ownTo usualLimit s text route) k false ≡ passes (lineAt s k .live) (heldAt s k route) text usualLimit
-            = eachLine-at (λ k. passes (lineAt s k .live) (heldAt s k route) text usualLimit) k (omega arith) in
-            let p = and-iff (lineAt s k .live) (not held) ((λ z. z), (λ z. z)) (not-is held) in
+            let at = eachLine-at (λ k. passes (live k) (heldAt s k route) text limit) k (omega arith) in
+            let p = passes-is text limit k in
             ((λ z. p .0 (sym at ∙ z)), (λ v. at ∙ p .1 v));
-        sent = written-for (ownTo usualLimit s text route) (ownBytes usualLimit number text);
+        sent = written-for (ownLines limit (s .room) (s .lines) text route) (ownBytes limit number text);
         search = (refl, refl, refl);
         lines = refl;
       }
@@ -99,37 +99,20 @@ module _ (s : Station) (route : List ℕ) where
 quiet-noHit : (kind n : ℕ) (s : Station) (route : List ℕ) → NoHit kind (quiet n s route)
 quiet-noHit kind n s route = record { sent = writes-none kind; delivered = refl }
 
-quiet-silent : (n : ℕ) (s : Station) (route : List ℕ) → Silent (quiet n s route)
-quiet-silent n s route = silent-of (quiet n s route) n s route refl
-
 module _ (s : Station) (l : ℕ) (m : List ℕ) (t : Terms) (route : List ℕ) where
-  abbrev refusal : ℕ
-  refusal = early s l m (t .out) (length route)
+  abbrev outcome : Outcome
+  outcome = messageOutcome s l m t route
 
   -- pongs, updates and unnamed types
-  types-silent : (kindOf m ≡ 0x00 → ⊥) → (kindOf m ≡ 0x80 → ⊥) → (kindOf m ≡ 0x81 → ⊥) → Silent (arrived usualLimit s l m t route)
-  unfolding byType pongOutcome updateOutcome
-  types-silent np nq nh =
-      of-pick Silent (eqb (kindOf m) pingType) _ _
-      (λ k. absurd (np (eqb-true (kindOf m) pingType k)))
-      (λ _. of-pick Silent (eqb (kindOf m) pongType) _ _
-      (λ _. of-refused Silent (firstOf (pongRules m)) s route (quiet 0 (withLine s l (withPong (lineAt s l) (arrivedPong clock m))) route)
-      (λ _. quiet-silent 0 (withLine s l (withPong (lineAt s l) (arrivedPong clock m))) route)
-      (λ _. quiet-silent (firstOf (pongRules m)) s route))
-      (λ _. of-pick Silent (eqb (kindOf m) routeUpdate) _ _
-      (λ _. quiet-silent _ _ _)
-      (λ _. of-pick Silent (eqb (kindOf m) queryType) _ _
-      (λ k. absurd (nq (eqb-true (kindOf m) queryType k)))
-      (λ _. of-pick Silent (eqb (kindOf m) hitType) _ _
-      (λ k. absurd (nh (eqb-true (kindOf m) hitType k)))
-      (λ _. quiet-silent 7 s route)))))
-
-  message-silent : (kindOf m ≡ 0x00 → ⊥) → (kindOf m ≡ 0x80 → ⊥) → (kindOf m ≡ 0x81 → ⊥) → Silent (messageOutcome s l m t route)
-  unfolding arriving
+  message-silent : (kindOf m ≡ 0x00 → ⊥) → (kindOf m ≡ 0x80 → ⊥) → (kindOf m ≡ 0x81 → ⊥) → Silent outcome
   message-silent np nq nh =
-      of-refused Silent refusal s route (arrived usualLimit s l m t route)
-      (λ _. types-silent np nq nh)
-      (λ _. quiet-silent refusal s route)
+      of-message Silent s l m route usualLimit t (λ n _. quiet-silent n s route)
+      (λ _. of-types Silent s l m route (λ n _. quiet-silent n s route) usualLimit t
+      (λ k. absurd (np (eqb-true (kindOf m) pingType k)))
+      (λ _ _. quiet-silent 0 _ route)
+      (λ _. quiet-silent _ _ _)
+      (λ k. absurd (nq (eqb-true (kindOf m) queryType k)))
+      (λ k. absurd (nh (eqb-true (kindOf m) hitType k))))
 
   -- a message that gets past the early refusals is whole
   number-length : LetIn s l m (length route) → length (numberOf m) ≡ 16
@@ -138,279 +121,301 @@ module _ (s : Station) (l : ℕ) (m : List ℕ) (t : Terms) (route : List ℕ) w
   payload-most : LetIn s l m (length route) → length (payloadOf m) ≤ 4096
   payload-most d = let h = d .size in simp length-take (omega arith)
 
-  -- a query writes a query or nothing
-  query-noHit : LetIn s l m (length route) → NoHit 0x80 (queryOutcome usualLimit s l m route)
-  unfolding queryOutcome
-  query-noHit d =
-      of-refused (NoHit 0x80) (firstOf (queryRules usualLimit s m)) s route (queryTaken usualLimit s l m route)
-      (λ _. record {
-        sent = writes-choice 0x80 (any (λ b. b) (queryTo usualLimit s l m route)) (queryOn usualLimit m) []
-            (writes-one (numberOf m) 0x80 (lifeLeft m - 1) (hopsOf m + 1) (payloadOf m) (number-length d) (payload-most d))
+  -- a query that is refused, or taken
+  of-queries : (P : Outcome → Type 0) → kindOf m ≡ 0x80 → ((n : ℕ) → (n ≡ 0 → ⊥) → P (quiet n s route))
+      → (LetIn s l m (length route) → P (queryDone usualLimit s l m route)) → P outcome
+  of-queries P k f g =
+      of-message P s l m route usualLimit t (λ n u. f n (λ z. clash u (ap unused z)))
+      (λ d. rw (by-query s l m t route usualLimit k)
+      (of-query P s l m route (λ n r. f n (r .some)) usualLimit (eq-eqb (kindOf m) queryType k) (λ _. g d)))
+
+  -- it writes a query or nothing
+  queries-noHit : kindOf m ≡ 0x80 → NoHit 0x80 outcome
+  queries-noHit k =
+      of-queries (NoHit 0x80) k (λ n _. quiet-noHit 0x80 n s route)
+      (λ d. record {
+        sent = writes-choice 0x80 (any (λ b. b) (queryLines usualLimit (s .room) (s .lines) l m route)) _ []
+            (writes-one (numberOf m) 0x80 (lifeLeft usualLimit m - 1) (hopsOf m + 1) (payloadOf m)
+            (number-length d) (payload-most d))
             (writes-none 0x80);
         delivered = refl;
       })
-      (λ _. quiet-noHit 0x80 (firstOf (queryRules usualLimit s m)) s route)
 
-  queries-noHit : inOrder s ≡ true → kindOf m ≡ 0x80 → NoHit 0x80 (messageOutcome s l m t route)
-  unfolding arriving
-  queries-noHit o k =
-      of-refused (NoHit 0x80) refusal s route (arrived usualLimit s l m t route)
-      (λ e. rw (by-query s o l m out route clock own k) (query-noHit (let-in s l m out (length route) e)))
-      (λ _. quiet-noHit 0x80 refusal s route)
+  goes-to : kindOf m ≡ 0x80 → outcome .answer ≡ 0 → QueryTo usualLimit s route l m outcome
+  goes-to k =
+      of-queries (λ r. r .answer ≡ 0 → QueryTo usualLimit s route l m r) k (λ n ne z. absurd (ne z))
+      (λ _ _. query-to usualLimit s route l m)
 
   -- a ping writes pongs or nothing
-  pings-noHit : Sized s → inOrder s ≡ true → kindOf m ≡ 0x00 → length (own .address) ≡ 4 → NoHit 0x01 (messageOutcome s l m t route)
-  unfolding arriving
-  pings-noHit z o k four =
-      of-refused (NoHit 0x01) refusal s route (arrived usualLimit s l m t route)
-      (λ e. rw (by-ping s o l m out route clock own k) (ping-noHit s z m (number-length (let-in s l m out (length route) e)) l clock own route four))
-      (λ _. quiet-noHit 0x01 refusal s route)
+  pings-noHit : Sized s → kindOf m ≡ 0x00 → length (t .own .address) ≡ 4 → NoHit 0x01 outcome
+  pings-noHit z k four =
+      of-message (NoHit 0x01) s l m route usualLimit t (λ n _. quiet-noHit 0x01 n s route)
+      (λ d. rw (by-ping s l m t route usualLimit k)
+      (of-ping (NoHit 0x01) s l m route (λ n _. quiet-noHit 0x01 n s route) t (eq-eqb (kindOf m) pingType k)
+      (λ _. record { sent = writes-pongs s z m (number-length d) l t four; delivered = refl })))
 
-own-noHit : (s : Station) (number text : List ℕ) (out : ℕ) (route : List ℕ) → length number ≡ 16 → NoHit 0x80 (ownOutcome s number text out route)
-unfolding asking
-own-noHit s number text out route sixteen =
-    of-refused (NoHit 0x80) (firstOf (ownRules s number text out (length route))) s route (ownTaken usualLimit s number text route)
-    (λ e. let q : NoRefusal (ownRules s number text out (length route)) = no-refusal (ownRules s number text out (length route)) refl e in
-    let h : length text ≤ 4093 = ltb-false 4093 (length text) (q .1 .1 .0) in
-    let most : length (ownPayload text) ≤ 4096 = simp length-append (omega arith) in
-    record {
-      sent = writes-choice 0x80 (any (λ b. b) (ownTo usualLimit s text route)) (ownBytes usualLimit number text) []
-          (writes-one number 0x80 7 0 (ownPayload text) sixteen most)
-          (writes-none 0x80);
-      delivered = refl;
-    })
-    (λ _. quiet-noHit 0x80 (firstOf (ownRules s number text out (length route))) s route)
+-- An arriving query that only its number can refuse
+module _ (s : Station) (o : inOrder s ≡ true) (l : ℕ) (m : List ℕ) (t : Terms) (route : List ℕ)
+    (k : kindOf m ≡ 0x80) where
+  abbrev told : Outcome
+  told = messageOutcome s l m t route
 
--- An arriving query that only its number can refuse, as tests
-module _ (s : Station) (o : inOrder s ≡ true) (l : ℕ) (m : List ℕ) (out : ℕ) (route : List ℕ) where
   abbrev badText : Bool
   badText = not (hasText (payloadOf m))
 
+  abbrev badHops : Bool
+  badHops = ltb 15 (ttlOf m) || leb usualLimit (hopsOf m)
+
   abbrev badLife : Bool
-  badLife = eqb (ttlOf m) 0 || (ltb 15 (ttlOf m) || leb usualLimit (hopsOf m))
+  badLife = eqb (ttlOf m) 0 || badHops
 
-  record Tests : Type 0 where
-    pub early′ : early s l m (t .out) (length route) ≡ 0
-    pub text : badText ≡ false
-    pub life : badLife ≡ false
+  abbrev Arrives : Type 0
+  Arrives = Arrived s l m (t .out) route
 
-  acceptable-of : Tests → Acceptable s l m out route
-  acceptable-of t =
-      let rest = or-snd (eqb (ttlOf m) 0) (ltb 15 (ttlOf m) || leb usualLimit (hopsOf m)) (t .life) in
-      let ne : ttlOf m ≡ 0 → ⊥ = eqb-false (ttlOf m) 0 (or-fst (eqb (ttlOf m) 0) (ltb 15 (ttlOf m) || leb usualLimit (hopsOf m)) (t .life)) in
+  acceptable-of : Arrives → badText ≡ false → badLife ≡ false → Acceptable usualLimit s l m (t .out) route
+  acceptable-of a text life =
+      let rest = or-snd (eqb (ttlOf m) 0) badHops life in
+      let ne : ttlOf m ≡ 0 → ⊥ = eqb-false (ttlOf m) 0 (or-fst (eqb (ttlOf m) 0) badHops life) in
       record {
-        arrived = arrived-of s o l m out route (t .early′);
-        text = not-false (hasText (payloadOf m)) (t .text);
+        arrived = a;
+        text = not-false (hasText (payloadOf m)) text;
         ttl = omega arith;
         ttl15 = ltb-false 15 (ttlOf m) (or-fst (ltb 15 (ttlOf m)) (leb usualLimit (hopsOf m)) rest);
         hops = leb-false usualLimit (hopsOf m) (or-snd (ltb 15 (ttlOf m)) (leb usualLimit (hopsOf m)) rest);
       }
 
-  tests-of : Acceptable s l m out route → Tests
-  tests-of a =
-      let t : ttlOf m ≡ 0 → ⊥ = λ e. let h = a .ttl in absurd (omega arith) in
-      record {
-        early′ = none-early s o l m out route (a .arrived);
-        text = rw (a .text);
-        life = rw (ne-eqb (ttlOf m) 0 t, le-ltb 15 (ttlOf m) (a .ttl15), lt-leb usualLimit (hopsOf m) (a .hops));
-      }
+  module _ (a : Acceptable usualLimit s l m (t .out) route) where
+    good-text : badText ≡ false
+    good-text = rw (a .text)
 
-  -- the answer of an arriving query
-  answer-query : (clock : ℕ) (own : Own) → kindOf m ≡ 0x80
-      → messageOutcome s l m t route .answer ≡ cond (eqb (early s l m (t .out) (length route)) 0) (firstOf (queryRules usualLimit s m)) (early s l m (t .out) (length route))
-  unfolding arriving queryOutcome
-  answer-query clock own k =
-      let n : ℕ = early s l m (t .out) (length route) in
-      of-refused (λ (r : Outcome). r .answer ≡ cond (eqb n 0) (firstOf (queryRules usualLimit s m)) n) n s route (arrived usualLimit s l m t route)
-      (λ e. ap (λ (r : Outcome). r .answer) (by-query s o l m out route clock own k)
-      ∙ answer-taken (firstOf (queryRules usualLimit s m)) s route (queryTaken usualLimit s l m route) refl
-      ∙ sym (ap (λ b. cond b (firstOf (queryRules usualLimit s m)) n) (eq-eqb n 0 e)))
-      (λ ne. sym (ap (λ b. cond b (firstOf (queryRules usualLimit s m)) n) (ne-eqb n 0 ne)))
+    good-life : badLife ≡ false
+    good-life =
+        let ne : ttlOf m ≡ 0 → ⊥ = λ e. let h = a .ttl in absurd (omega arith) in
+        rw (ne-eqb (ttlOf m) 0 ne, le-ltb 15 (ttlOf m) (a .ttl15), lt-leb usualLimit (hopsOf m) (a .hops))
 
-  -- an answer that no early refusal gives
-  let-through : (r k : ℕ) → unsent k ≡ false → cond (eqb (early s l m (t .out) (length route)) 0) r (early s l m (t .out) (length route)) ≡ k → (early s l m (t .out) (length route) ≡ 0) × (r ≡ k)
-  let-through r k u e = go (eqb (early s l m (t .out) (length route)) 0) refl
-    where
-      go : (b : Bool) → eqb (early s l m (t .out) (length route)) 0 ≡ b → (early s l m (t .out) (length route) ≡ 0) × (r ≡ k)
-      go true z = (eqb-true (early s l m (t .out) (length route)) 0 z, rw z at e)
-      go false z = absurd (clash (early-unsent s l m out (length route) (eqb-false (early s l m (t .out) (length route)) 0 z)) (ap unsent (rw z at e) ∙ u))
+    rises : eqb (hopsOf m) 255 ≡ false
+    rises = ne-eqb (hopsOf m) 255 (λ z. let h = a .hops in absurd (omega arith))
 
-  query-answered : (clock : ℕ) (own : Own) (from : Origin) → seen s (numberIn m) ≡ known from → kindOf m ≡ 0x80
-      → Answered (Acceptable s l m out route) from (messageOutcome s l m t route)
-  query-answered clock own from v k =
+  -- the answer of one that has arrived, and when it is 9
+  answer-query : Arrives → told .answer ≡ firstOf (queryIn usualLimit s m)
+  answer-query a = by-its-type s l m t route o a ∙ rw k
+
+  abbrev before : List (Bool × ℕ)
+  before = queryBefore usualLimit (headerIn m) (hasText (payloadOf m))
+
+  nine : (firstOf (queryIn usualLimit s m) ≡ 9) ↔ (NoRefusal before × (seen s (numberIn m) ≡ true))
+  nine = stands-iff 9 before (seen s (numberIn m)) ((eqb (hopsOf m) 255, 12) ∷ []) refl refl refl
+
+  query-answered : (from : Origin) → seen s (numberIn m) ≡ known from
+      → Answered (Acceptable usualLimit s l m (t .out) route) from told
+  query-answered from v =
       record {
         taken = (
-          (λ e. let p = let-through (firstOf (queryRules usualLimit s m)) 0 refl (sym (answer-query clock own k) ∙ e) in
-              let q : NoRefusal (queryRules usualLimit s m) = no-refusal (queryRules usualLimit s m) refl (p .1) in
-              (acceptable-of (record { early′ = p .0; text = q .0; life = q .1 .0 }), unknown-of from (sym v ∙ q .1 .1 .0))),
-          (λ a. let t = tests-of (a .0) in
-              answer-query clock own k
-              ∙ ap (λ b. cond b (firstOf (queryRules usualLimit s m)) (early s l m (t .out) (length route))) (eq-eqb (early s l m (t .out) (length route)) 0 (t .early′))
-              ∙ none-refused (queryRules usualLimit s m) (t .text, (t .life, (v ∙ ap known (a .1), (rises (a .0), tt))))),
+          (λ e. let a : Arrives = arrives .0 (inl e) in
+              let q = no-refusal (queryIn usualLimit s m) refl (sym (answer-query a) ∙ e) in
+              (acceptable-of a (q .0) (q .1 .0), unknown-of from (sym v ∙ q .1 .1 .0))),
+          (λ x. let a = x .0 in
+              answer-query (a .arrived)
+              ∙ none-refused (queryIn usualLimit s m)
+              (good-text a, (good-life a, (v ∙ ap known (x .1), (rises a, tt))))),
         );
         repeats = (
-          (λ e. let p = let-through (firstOf (queryRules usualLimit s m)) 9 refl (sym (answer-query clock own k) ∙ e) in
-              let a = skip badText 6 _ 9 (λ z. absurd (omega arith)) (p .1) in
-              let b = skip badLife 8 _ 9 (λ z. absurd (omega arith)) (a .1) in
-              let c = stop (seen s (numberIn m)) 9 (cond (eqb (hopsOf m) 255) 12 0) 9 (last (eqb (hopsOf m) 255)) (b .1) in
-              (acceptable-of (record { early′ = p .0; text = a .0; life = b .0 }), λ z. clash (sym v ∙ c) (ap known z))),
-          (λ a. let t = tests-of (a .0) in
-              answer-query clock own k
-              ∙ ap (λ b. cond b (firstOf (queryRules usualLimit s m)) (early s l m (t .out) (length route))) (eq-eqb (early s l m (t .out) (length route)) 0 (t .early′))
-              ∙ rw (t .text, t .life, v, known-if from (a .1))),
+          (λ e. let a : Arrives = arrives .0 (inr (omega arith)) in
+              let q = nine .0 (sym (answer-query a) ∙ e) in
+              (acceptable-of a (q .0 .0) (q .0 .1 .0), λ z. clash (sym v ∙ q .1) (ap known z))),
+          (λ x. let a = x .0 in
+              answer-query (a .arrived) ∙ nine .1 ((good-text a, (good-life a, tt)), v ∙ known-if from (x .1))),
         );
       }
     where
-      rises : Acceptable s l m out route → eqb (hopsOf m) 255 ≡ false
-      rises a = ne-eqb (hopsOf m) 255 (λ z. let h = a .hops in absurd (omega arith))
-
-      last : (b : Bool) → _≡_ {A = ℕ} (cond b 12 0) 9 → ⊥
-      last true z = absurd (omega arith)
-      last false z = absurd (omega arith)
-
-  goes-to : (clock : ℕ) (own : Own) → kindOf m ≡ 0x80 → messageOutcome s l m t route .answer ≡ 0 → QueryTo s route l m (messageOutcome s l m t route)
-  unfolding arriving queryOutcome
-  goes-to clock own k =
-      of-refused (λ r. r .answer ≡ 0 → QueryTo s route l m r) (early s l m (t .out) (length route)) s route (arrived usualLimit s l m t route)
-      (λ _. rw (by-query s o l m out route clock own k)
-      (of-refused (λ r. r .answer ≡ 0 → QueryTo s route l m r) (firstOf (queryRules usualLimit s m)) s route (queryTaken usualLimit s l m route)
-      (λ _ _. query-to s route l m)
-      (λ ne z. absurd (ne z))))
-      (λ ne z. absurd (ne z))
+      arrives : SentIfArrived s l m (t .out) route told
+      arrives = sent-if-arrived s l m t route o
 
 -- An own query
 module _ (s : Station) (o : inOrder s ≡ true) (number text : List ℕ) (out : ℕ) (route : List ℕ) where
-  answer-own : ownOutcome s number text out route .answer ≡ firstOf (ownRules s number text out (length route))
-  unfolding asking
-  answer-own = answer-taken (firstOf (ownRules s number text out (length route))) s route (ownTaken usualLimit s number text route) refl
+  abbrev own : Outcome
+  own = ownOutcome s number text out route
 
-  own-answered : (from : Origin) → seen s (numberIn number) ≡ known from → Answered (OwnAcceptable s text out route) from (ownOutcome s number text out route)
+  abbrev rules : List (Bool × ℕ)
+  rules = ownIn s number text out (length route)
+
+  abbrev tooLong : Bool
+  tooLong = ltb 4093 (length text)
+
+  abbrev hasZero : Bool
+  hasZero = any (eqb 0) text
+
+  acceptable : badAreas s out route ≡ false → tooLong ≡ false → hasZero ≡ false → OwnAcceptable s text out route
+  acceptable b c d = record { areas = areas-of s out route b; size = ltb-false 4093 (length text) c; noZero = d }
+
+  abbrev ownTests : List (Bool × ℕ)
+  ownTests = ownBefore (inOrder s) (s .room) out (length route) (length text) hasZero
+
+  own-nine : (firstOf rules ≡ 9) ↔ (NoRefusal ownTests × (seen s (numberIn number) ≡ true))
+  own-nine = stands-iff 9 ownTests (seen s (numberIn number)) [] refl refl refl
+
+  own-answered : (from : Origin) → seen s (numberIn number) ≡ known from
+      → Answered (OwnAcceptable s text out route) from own
   own-answered from v =
       record {
         taken = (
-          (λ e. let q : NoRefusal (ownRules s number text out (length route)) = no-refusal (ownRules s number text out (length route)) refl (sym answer-own ∙ e) in
+          (λ e. let q = no-refusal rules refl (sym is ∙ e) in
               (acceptable (q .1 .0) (q .1 .1 .0) (q .1 .1 .1 .0), unknown-of from (sym v ∙ q .1 .1 .1 .1 .0))),
-          (λ a. answer-own
-              ∙ none-refused (ownRules s number text out (length route))
-              (rw o, (areas-fit s out route (a .0 .areas), (le-ltb 4093 (length text) (a .0 .size), (a .0 .noZero, (v ∙ ap known (a .1), tt)))))),
+          (λ x. let q = tests (x .0) in
+              is ∙ none-refused rules (q .0, (q .1 .0, (q .1 .1 .0, (q .1 .1 .1 .0, (v ∙ ap known (x .1), tt)))))),
         );
         repeats = (
-          (λ e. let a = skip (not (inOrder s)) 1 _ 9 (λ z. absurd (omega arith)) (sym answer-own ∙ e) in
-              let b = skip (shortOutput out || otherRoom s (length route)) 2 _ 9 (λ z. absurd (omega arith)) (a .1) in
-              let c = skip (ltb 4093 (length text)) 5 _ 9 (λ z. absurd (omega arith)) (b .1) in
-              let d = skip (any (eqb 0) text) 6 _ 9 (λ z. absurd (omega arith)) (c .1) in
-              let f = stop (seen s (numberIn number)) 9 0 9 (λ z. absurd (omega arith)) (d .1) in
-              (acceptable (b .0) (c .0) (d .0), λ z. clash (sym v ∙ f) (ap known z))),
-          (λ a. answer-own
-              ∙ rw (o, areas-fit s out route (a .0 .areas), le-ltb 4093 (length text) (a .0 .size), a .0 .noZero, v, known-if from (a .1))),
+          (λ e. let q = own-nine .0 (sym is ∙ e) in
+              (acceptable (q .0 .1 .0) (q .0 .1 .1 .0) (q .0 .1 .1 .1 .0), λ z. clash (sym v ∙ q .1) (ap known z))),
+          (λ x. is ∙ own-nine .1 (tests (x .0), v ∙ known-if from (x .1))),
         );
       }
     where
-      acceptable : (shortOutput out || otherRoom s (length route)) ≡ false → ltb 4093 (length text) ≡ false → any (eqb 0) text ≡ false → OwnAcceptable s text out route
-      acceptable b c d = record { areas = areas-of s out route b; size = ltb-false 4093 (length text) c; noZero = d }
+      is : own .answer ≡ firstOf rules
+      is = own-answer s number text out route
 
-  own-goes : ownOutcome s number text out route .answer ≡ 0 → OwnTo s route number text (ownOutcome s number text out route)
-  unfolding asking
+      tests : OwnAcceptable s text out route → NoRefusal ownTests
+      tests a = (rw o, (areas-fit s out route (a .areas), (le-ltb 4093 (length text) (a .size), (a .noZero, tt))))
+
+  -- refused, or taken
+  of-own : (P : Outcome → Type 0) → ((n : ℕ) → (n ≡ 0 → ⊥) → P (quiet n s route))
+      → (NoRefusal rules → P (ownTaken usualLimit s number text route)) → P own
+  unfolding asking ownAnswer
+  of-own P f g =
+      of-refused P (firstOf rules) s route (ownTaken usualLimit s number text route)
+      (λ e. g (no-refusal rules refl e))
+      (f (firstOf rules))
+
+  own-goes : own .answer ≡ 0 → OwnTo usualLimit s route number text own
   own-goes =
-      of-refused (λ r. r .answer ≡ 0 → OwnTo s route number text r) (firstOf (ownRules s number text out (length route))) s route (ownTaken usualLimit s number text route)
-      (λ _ _. own-to s route number text)
-      (λ ne z. absurd (ne z))
+      of-own (λ r. r .answer ≡ 0 → OwnTo usualLimit s route number text r) (λ n ne z. absurd (ne z))
+      (λ _ _. own-to usualLimit s route number text)
+
+  own-noHit : length number ≡ 16 → NoHit 0x80 own
+  own-noHit sixteen =
+      of-own (NoHit 0x80) (λ n _. quiet-noHit 0x80 n s route)
+      (λ q. let h : length text ≤ 4093 = ltb-false 4093 (length text) (q .1 .1 .0) in
+      let most : length (ownPayload text) ≤ 4096 = simp length-append (omega arith) in
+      record {
+        sent = writes-choice 0x80 (any (λ b. b) (ownLines usualLimit (s .room) (s .lines) text route)) _ []
+            (writes-one number 0x80 usualLimit 0 (ownPayload text) sixteen most)
+            (writes-none 0x80);
+        delivered = refl;
+      })
 
 -- Hits, by where their query came from
-module _ (w : World) (m route : List ℕ) (f : Found) where
+module _ (w : World) (l : ℕ) (m route : List ℕ) (k : kindOf m ≡ 0x81) (from : Origin)
+    (h : SameLookUp (find (remembered (w .state)) (numberIn m)) from)
+    (since : (l n : ℕ) → from ≡ From l n → Since (λ _. false) w l n) where
   abbrev hit : Outcome
-  hit = refusedOr (firstOf (hitRules f m)) (w .state) route (hitTaken (w .state) f m route)
+  hit = stored (w .state) l (numberIn m) (hitStep (lineAt (w .state) l) (lookedUp (w .state) (numberIn m)) m route)
 
-  hit-by : (from : Origin) → SameLookUp f from → ((l n : ℕ) → from ≡ From l n → Since (λ _. false) w l n) → 27 ≤ sizeOf m → 1 ≤ ttlOf m → HitBy from w m hit
-  hit-by Unknown h since a b = rw (le-ltb (sizeOf m) 27 a, ne-eqb (ttlOf m) 0 (λ z. absurd (omega arith)), h .found)
-  hit-by Gone h since a b = rw (le-ltb (sizeOf m) 27 a, ne-eqb (ttlOf m) 0 (λ z. absurd (omega arith)), h .found, h .asker)
-  hit-by Here h since a b = rw (le-ltb (sizeOf m) 27 a, ne-eqb (ttlOf m) 0 (λ z. absurd (omega arith)), h .found, h .asker) (refl, refl, refl, refl)
-  hit-by (From l n) h since a b =
-      let q = since l n refl in
-      let seven : l ≤ 7 = q .below in
-      let g : eqb l gone ≡ false = ne-eqb l gone (λ z. absurd (omega arith)) in
-      let e : eqb l here ≡ false = ne-eqb l here (λ z. absurd (omega arith)) in
-      let size : ltb (sizeOf m) 27 ≡ false = le-ltb (sizeOf m) 27 a in
-      let ttl : eqb (ttlOf m) 0 ≡ false = ne-eqb (ttlOf m) 0 (λ z. absurd (omega arith)) in (
-        seven,
-        q .live,
-        q .same,
-        (λ t. rw (size, ttl, h .found, h .asker, g, e, eq-eqb (ttlOf m) 1 t)),
-        (λ t z. rw (size, ttl, h .found, h .asker, g, e, ne-eqb (ttlOf m) 1 (λ y. absurd (omega arith)), eq-eqb (hopsOf m) 255 z)),
-        (λ t z. rw (size, ttl, h .found, h .asker, g, e, ne-eqb (ttlOf m) 1 (λ y. absurd (omega arith)), ne-eqb (hopsOf m) 255 z) (refl, refl, refl, refl)),
-      )
+  module _ (a : 27 ≤ sizeOf m) (b : 1 ≤ ttlOf m) where
+    size : ltb (sizeOf m) 27 ≡ false
+    size = le-ltb (sizeOf m) 27 a
 
-  hit-routed : (from : Origin) → SameLookUp f from → ((l n : ℕ) → from ≡ From l n → Since (λ _. false) w l n) → HitRouted from w m hit
-  hit-routed from h since =
+    alive : eqb (ttlOf m) 0 ≡ false
+    alive = ne-eqb (ttlOf m) 0 (λ z. absurd (omega arith))
+
+    hit-by : (from′ : Origin) → from ≡ from′ → HitBy from′ w m hit
+    unfolding hitStep
+    hit-by Unknown e = rw (size, alive, h .found, e)
+    hit-by Gone e = rw (size, alive, h .found, h .asker, e)
+    hit-by Here e = rw (size, alive, h .found, h .asker, e) (refl, refl, refl, refl)
+    hit-by (From j n) e =
+        let q = since j n e in
+        let seven : j ≤ 7 = q .below in
+        let g : eqb j gone ≡ false = ne-eqb j gone (λ z. absurd (omega arith)) in
+        let f : eqb j here ≡ false = ne-eqb j here (λ z. absurd (omega arith)) in (
+          seven,
+          q .live,
+          q .same,
+          (λ t. rw (size, alive, h .found, h .asker, e, g, f, eq-eqb (ttlOf m) 1 t)),
+          (λ t z. rw (size, alive, h .found, h .asker, e, g, f, more t, eq-eqb (hopsOf m) 255 z)),
+          (λ t z. rw (size, alive, h .found, h .asker, e, g, f, more t, ne-eqb (hopsOf m) 255 z)
+              (refl, refl, refl, refl)),
+        )
+      where
+        more : 2 ≤ ttlOf m → eqb (ttlOf m) 1 ≡ false
+        more t = ne-eqb (ttlOf m) 1 (λ z. absurd (omega arith))
+
+  of-hits : (P : Outcome → Type 0) → ((n : ℕ) → P (quiet n (w .state) route)) → P (hitDone (w .state) l m route)
+      → P hit
+  of-hits P f g = of-hit P (w .state) l m route (λ n _. f n) (eq-eqb (kindOf m) hitType k) (λ _. g)
+
+  hit-routed : HitRouted from w m hit
+  unfolding hitStep
+  hit-routed =
       record {
-        leaves = of-refused (λ (r : Outcome). r .state ≡ w .state) (firstOf (hitRules f m)) (w .state) route (hitTaken (w .state) f m route) (λ _. refl) (λ _. refl);
-        search = of-refused NotSearched (firstOf (hitRules f m)) (w .state) route (hitTaken (w .state) f m route) (λ _. (refl, refl, refl)) (λ _. (refl, refl, refl));
+        leaves = of-hits (λ (r : Outcome). r .state ≡ w .state) (λ _. refl) refl;
+        search = of-hits NotSearched (λ _. (refl, refl, refl)) (refl, refl, refl);
         short = λ a. rw (lt-ltb (sizeOf m) 27 a);
         spent = λ a b. rw (le-ltb (sizeOf m) 27 a, eq-eqb (ttlOf m) 0 b);
-        by = λ a b. hit-by from h since a b;
+        by = λ a b. hit-by a b from refl;
       }
 
 -- Every call, and every list
 module _ (base : List Query) (w : World) (v : Invariant base w) where
+  abbrev s : Station
+  s = w .state
+
+  abbrev z : Sized s
+  z = v .sized
+
+  abbrev o : inOrder s ≡ true
+  o = v .order
+
   module _ (l : ℕ) (m : List ℕ) (t : Terms) (route : List ℕ) where
-    message-hit : kindOf m ≡ 0x81 → Arrived (w .state) l m out route → HitRouted (origin (w .log) base (numberIn m)) w m (messageOutcome (w .state) l m t route)
-    unfolding hitOutcome
-    message-hit k a =
-        rw (by-type (w .state) (v .order) l m out route clock own a ∙ by-hit (w .state) (v .order) l m out route clock own k)
-        (hit-routed w m route (hitFound (w .state) m) (origin (w .log) base (numberIn m)) (looked-up base w v (numberIn m)) (λ l n. v .since (λ _. false) capacity (numberIn m) l n))
-
-    message-ping : kindOf m ≡ 0x00 → Arrived (w .state) l m out route → PingRouted (w .state) l clock own m (messageOutcome (w .state) l m t route)
-    message-ping k a =
-        rw (by-type (w .state) (v .order) l m out route clock own a ∙ by-ping (w .state) (v .order) l m out route clock own k)
-        (ping-routed (w .state) (v .sized) l (a .line) clock own m route)
-
-    message-pong : kindOf m ≡ 0x01 → Arrived (w .state) l m out route → PongRouted (w .state) l clock m (messageOutcome (w .state) l m t route)
-    message-pong k a =
-        rw (by-type (w .state) (v .order) l m out route clock own a ∙ by-pong (w .state) (v .order) l m out route clock own k)
-        (pong-routed (w .state) (v .sized) (v .order) l (a .line) clock m route)
-
-    pub message-routed : MessageRouted base w l m out route (messageOutcome (w .state) l m t route)
+    pub message-routed : MessageRouted usualLimit capacity base w l m (t .out) route (messageOutcome s l m t route)
     message-routed =
         record {
-          arrives = sent-if-arrived (w .state) (v .order) l m out route clock own;
-          query = query-answered (w .state) (v .order) l m out route clock own (origin (w .log) base (numberIn m)) (looked-up base w v (numberIn m) .found);
-          goes = goes-to (w .state) (v .order) l m out route clock own;
-          hit = message-hit;
-          noHit = queries-noHit (w .state) l clock own m out route (v .order);
-          pings = ping-search (w .state) l clock own m out route (v .order);
-          update = λ k a. update-only (w .state) (v .sized) (v .order) l m out route a k clock own;
-          broken = λ k a. update-broken (w .state) (v .sized) (v .order) l m out route a k clock own;
-          area = message-area (w .state) l clock own m out route;
-          part = λ k e.
-              let a = sent-if-arrived (w .state) (v .order) l m out route clock own .0 (inl e) in
-              update-part (w .state) (v .sized) (v .order) l m out route a k clock own e;
-          others = message-silent (w .state) l clock own m out route;
-          refused = λ ne. silent-of _ _ _ _ (refusal-frame .calls (w .state) .message l clock own m out route ne);
+          arrives = arrives;
+          query = λ k. query-answered s o l m t route k (origin capacity (w .log) base (numberIn m)) (looked .found);
+          goes = goes-to s l m t route;
+          hit = λ k a. rw (by-type s l m t route o usualLimit a ∙ by-hit s l m t route usualLimit k)
+              (hit-routed w l m route k _ looked (λ l n. v .since (λ _. false) capacity (numberIn m) l n));
+          noHit = queries-noHit s l m t route;
+          pings = ping-search s l m t route;
+          update = λ k a. update-only s z o l m t route a k;
+          broken = λ k a. update-broken s z o l m t route a k;
+          area = message-area s l m t route;
+          part = λ k e. update-part s z o l m t route (arrives .0 (inl e)) k e;
+          others = message-silent s l m t route;
+          refused = λ ne. silent-of _ _ _ _ (refusal-frame .calls s .message l m t route ne);
         }
+      where
+        arrives : SentIfArrived s l m (t .out) route (messageOutcome s l m t route)
+        arrives = sent-if-arrived s l m t route o
 
-    pings-routed : PingsRouted (w .state) l clock own m out route (messageOutcome (w .state) l m t route)
+        looked : SameLookUp (find (remembered s) (numberIn m)) (origin capacity (w .log) base (numberIn m))
+        looked = looked-up base w v (numberIn m)
+
+    pings-routed : PingsRouted s l (t .clock) (t .own) m (t .out) route (messageOutcome s l m t route)
     pings-routed =
         record {
-          ping = message-ping;
-          noHit = pings-noHit (w .state) l clock own m out route (v .sized) (v .order);
-          pong = message-pong;
+          ping = λ k a. rw (by-type s l m t route o usualLimit a ∙ by-ping s l m t route usualLimit k)
+              (ping-routed s z o l (a .line) t m route);
+          noHit = pings-noHit s l m t route z;
+          pong = λ k a. rw (by-type s l m t route o usualLimit a ∙ by-pong s l m t route usualLimit k)
+              (pong-routed s z o l (a .line) (t .clock) m route);
         }
 
-  routed : (c : Call) → Routed base w c (outcomeOf w c)
-  routed (Open l) = open-routed (w .state) (v .sized) (v .order) l
-  routed (Close l) = close-routed (w .state) (v .sized) (v .order) l
-  routed (Message l m t a) = (message-routed l clock own m out (lent a (w .area)), pings-routed l clock own m out (lent a (w .area)))
+  routed : (c : Call) → Routed usualLimit capacity base w c (outcomeOf w c)
+  routed (Open l) = open-routed s z o l
+  routed (Close l) = close-routed s z o l
+  routed (Message l m t a) = (message-routed l m t (lent a (w .area)), pings-routed l m t (lent a (w .area)))
   routed (Ask number text t a) =
       let route : List ℕ = lent a (w .area) in
       record {
-        query = own-answered (w .state) (v .order) number text out route (origin (w .log) base (numberIn number)) (looked-up base w v (numberIn number) .found);
-        goes = own-goes (w .state) (v .order) number text out route;
-        noHit = own-noHit (w .state) number text out route;
-        area = own-area (w .state) number text out route;
-        refused = λ ne. silent-of _ _ _ _ (refusal-frame .calls (w .state) .asks number text out route ne);
+        query = own-answered s o number text (t .out) route _ (looked-up base w v (numberIn number) .found);
+        goes = own-goes s o number text (t .out) route;
+        noHit = own-noHit s o number text (t .out) route;
+        area = own-area s number text (t .out) route;
+        refused = λ ne. silent-of _ _ _ _ (refusal-frame .calls s .asks number text (t .out) route ne);
       }
 
-all-routed : (base : List Query) (w : World) → Invariant base w → (cs : List Call) → AllRouted base w cs
+all-routed : (base : List Query) (w : World) → Invariant base w → (cs : List Call)
+    → AllRouted usualLimit capacity base w cs
 all-routed base w v [] = tt
 all-routed base w v (c ∷ cs) = (routed base w v c, all-routed base (step w c) (goes-on base w v c) cs)
 

@@ -151,7 +151,7 @@ module _ (s : Station) (l : ℕ) (m : List ℕ) (t : Terms) (route : List ℕ) w
 
   -- 7, and 6 and 8 of a query, of a message that has arrived
   module _ (o : inOrder s ≡ true) (a : Arrived s l m (t .out) route) where
-    by-its-type : answer ≡ firstOf (afterEarly s l m t route)
+    pub by-its-type : answer ≡ firstOf (afterEarly s l m t route)
     by-its-type = ap (λ (r : Outcome). r .answer) (by-type s l m t route o usualLimit a) ∙ type-number s l m t route
 
     seven-exactly : (answer ≡ 7) ↔ (Named m → ⊥)
@@ -197,7 +197,7 @@ module _ (s : Station) (number text : List ℕ) (out : ℕ) (route : List ℕ) w
   abbrev fromRoom : List (Bool × ℕ)
   fromRoom = (badAreas s out route, 2) ∷ fromSize
 
-  own-answer : ownOutcome s number text out route .answer ≡ firstOf ((not (inOrder s), 1) ∷ fromRoom)
+  pub own-answer : ownOutcome s number text out route .answer ≡ firstOf ((not (inOrder s), 1) ∷ fromRoom)
   unfolding asking ownAnswer
   own-answer = answer-taken _ s route (ownTaken usualLimit s number text route) refl
 
