@@ -45,6 +45,10 @@ pub refuted : (b : Bool) → (b ≡ true → ⊥) → b ≡ false
 refuted true h = absurd (h refl)
 refuted false h = refl
 
+pub decided : (b : Bool) → (b ≡ false → ⊥) → b ≡ true
+decided true h = refl
+decided false h = absurd (h refl)
+
 pub eqb-iff : (a b : ℕ) → (eqb a b ≡ true) ↔ (a ≡ b)
 eqb-iff a b = (eqb-true a b, eq-eqb a b)
 

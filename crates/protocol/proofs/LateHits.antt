@@ -1,6 +1,7 @@
--- Late hits by computation: a line closes and is given to another neighbour, and a hit to the query of the old one goes to nobody; and the
--- 513th query, by which the oldest of 512 is forgotten.
-use Prim.Native.Nat.{ℕ, zero, suc}
+-- Late hits by computation: a line closes and is given to another neighbour, and a hit to the query of the old one
+-- goes to nobody; and the 513th query, by which the oldest of 512 is forgotten.
+-- Assumes nothing.
+use Prim.Native.Nat.{ℕ}
 use mathlib.Core.Path.{_≡_, refl}
 use mathlib.Core.Bool.{true, false}
 use mathlib.Core.List.{List, [], _∷_, map}
@@ -12,14 +13,16 @@ use Rattle.keywords.specs.Keywords.{keywordsOf, pieces, filled}
 use Rattle.keywords.specs.Hash.{hashOf, word}
 use Rattle.tables.specs.Tables.{goodLength, tableInOrder}
 use Rattle.tables.specs.Admission.{withholds}
-use Rattle.protocol.specs.State.{Station, remembered}
+use Rattle.protocol.specs.State.{remembered}
 use Rattle.protocol.specs.declared.Own.{Own}
-use Rattle.protocol.specs.Memory.{here, Number, numberIn, Absent, At, find, remember, noTwice}
-use Rattle.protocol.specs.Lines.{emptyLine, storedPongs}
+use Rattle.protocol.specs.Memory.{Memory, memoryOf, capacity, here, Number, numberIn, queriesIn, Absent, At}
+use Rattle.protocol.specs.Memory.{find, remember, noTwice, memoryInOrder}
+use Rattle.protocol.specs.Outcomes.{Terms, termsOf}
+use Rattle.protocol.specs.Lines.{storedPongs}
 use Rattle.protocol.specs.Order.{lineInOrder, inOrder}
-use Rattle.protocol.specs.Queries.{untilZero, queryOutcome}
-use Rattle.protocol.specs.Hits.{hitOutcome}
-use Rattle.protocol.specs.Calls.{fresh, opening, closing, early, byType, arriving, asking}
+use Rattle.protocol.specs.Queries.{usualLimit, untilZero, queryStep}
+use Rattle.protocol.specs.Hits.{hitStep}
+use Rattle.protocol.specs.Calls.{fresh, opening, closing, early, byType, arriving, ownAnswer, asking}
 use Rattle.protocol.specs.Runs.{Call, Open, Close, Message, Ask, Same, World, run, start}
 use Rattle.protocol.specs.Arrived.{Arrived}
 use Rattle.protocol.specs.Demand2.{allTaken, Here, Gone, origin, AllRouted}
@@ -36,82 +39,83 @@ query = message (replicate 16 7) 0x80 3 1 (0 ∷ 0 ∷ 0x65 ∷ 0x62 ∷ 0 ∷ [
 hit : ℕ → List ℕ
 hit n = message (replicate 16 n) 0x81 2 0 (replicate 27 1)
 
--- line 3 asks and gets its hit; it closes, and is opened anew, and the late hits go to nobody; the number is still a repeat. A query asked
--- here gets its hit delivered; a number that nobody asked has none.
+terms : Terms
+terms = termsOf 0 own 4119
+
+by : ℕ → List ℕ → Call
+by l m = Message l m terms Same
+
+-- line 3 asks and gets its hit; it closes, and is opened anew, and the late hits go to nobody; the number is still a
+-- repeat. A query asked here gets its hit delivered; a number that nobody asked has none.
 lateHits : List Call
 lateHits =
     Open 3
     ∷ Open 5
-    ∷ Message 3 0 own query 4119 Same
-    ∷ Message 5 0 own (hit 7) 4119 Same
+    ∷ by 3 query
+    ∷ by 5 (hit 7)
     ∷ Close 3
-    ∷ Message 5 0 own (hit 7) 4119 Same
+    ∷ by 5 (hit 7)
     ∷ Open 3
-    ∷ Message 5 0 own (hit 7) 4119 Same
-    ∷ Message 3 0 own query 4119 Same
-    ∷ Ask (replicate 16 5) (0x65 ∷ 0x62 ∷ []) 4119 Same
-    ∷ Message 5 0 own (hit 5) 4119 Same
-    ∷ Message 5 0 own (hit 6) 4119 Same
+    ∷ by 5 (hit 7)
+    ∷ by 3 query
+    ∷ Ask (replicate 16 5) (0x65 ∷ 0x62 ∷ []) terms Same
+    ∷ by 5 (hit 5)
+    ∷ by 5 (hit 6)
     ∷ []
 
 late : World
 late = run (start (fresh 32 .state) (replicate 32 0)) lateHits
 
-late-answers : map (λ d. d .outcome .answer) (late .log) ≡ 10 ∷ 0 ∷ 0 ∷ 9 ∷ 11 ∷ 0 ∷ 11 ∷ 0 ∷ 0 ∷ 0 ∷ 0 ∷ 0 ∷ []
-unfolding own query hit lateHits late keptPlaces message keywordsOf pieces filled hashOf word goodLength tableInOrder withholds remembered find remember noTwice storedPongs lineInOrder inOrder untilZero queryOutcome hitOutcome fresh opening closing early byType arriving asking
-late-answers = refl
+-- the answers, and what is delivered; read off the log, the query of line 3 is gone, and the other was asked here; and
+-- after the list, what is brought by a hit of line 5 has arrived
+record LateHits : Type 0 where
+  answers : map (λ d. d .outcome .answer) (late .log)
+      ≡ 10 ∷ 0 ∷ 0 ∷ 9 ∷ 11 ∷ 0 ∷ 11 ∷ 0 ∷ 0 ∷ 0 ∷ 0 ∷ 0 ∷ []
+  delivered : map (λ d. d .outcome .delivered) (late .log) ≡ false ∷ true ∷ replicate 10 false
+  gone : origin capacity (late .log) [] (numberIn (replicate 16 7)) ≡ Gone
+  asked : origin capacity (late .log) [] (numberIn (replicate 16 5)) ≡ Here
+  arrived : Arrived (late .state) 5 (hit 7) 4119 (replicate 32 0)
 
-late-delivered : map (λ d. d .outcome .delivered) (late .log)
-    ≡ false ∷ true ∷ false ∷ false ∷ false ∷ false ∷ false ∷ false ∷ false ∷ false ∷ false ∷ false ∷ []
-unfolding own query hit lateHits late keptPlaces message keywordsOf pieces filled hashOf word goodLength tableInOrder withholds remembered find remember noTwice storedPongs lineInOrder inOrder untilZero queryOutcome hitOutcome fresh opening closing early byType arriving asking
-late-delivered = refl
-
--- read off the log: the query of line 3 is gone, the other was asked here
-late-origins : (origin (late .log) [] (numberIn (replicate 16 7)) ≡ Gone) × (origin (late .log) [] (numberIn (replicate 16 5)) ≡ Here)
-unfolding own query hit lateHits late keptPlaces message keywordsOf pieces filled hashOf word goodLength tableInOrder withholds remembered find remember noTwice storedPongs lineInOrder inOrder untilZero queryOutcome hitOutcome fresh opening closing early byType arriving asking allTaken
-late-origins = (refl, refl)
+late-hits : LateHits
+unfolding own query hit terms by lateHits late keptPlaces message keywordsOf pieces filled hashOf word goodLength
+    tableInOrder withholds queriesIn find remember noTwice memoryInOrder storedPongs lineInOrder inOrder untilZero
+    queryStep hitStep fresh opening closing early byType arriving ownAnswer asking allTaken
+late-hits =
+    record {
+      answers = refl;
+      delivered = refl;
+      gone = refl;
+      asked = refl;
+      arrived = record {
+        areas = record { output = leb-true 4119 4119 refl; long = leb-true 32 32 refl; room = refl };
+        line = leb-true 5 7 refl;
+        live = refl;
+        size = leb-true 27 4096 refl;
+        whole = leb-true 50 50 refl;
+      };
+    }
 
 -- the premises of demand 2 can be met
-late-routed : AllRouted (remembered (fresh 32 .state)) (start (fresh 32 .state) (replicate 32 0)) lateHits
+late-routed : AllRouted usualLimit capacity (remembered (fresh 32 .state)) (start (fresh 32 .state) (replicate 32 0))
+    lateHits
 late-routed = demand2 (fresh 32 .state) (replicate 32 0) lateHits (fresh-in-order 32 .sized) (fresh-in-order 32 .order)
 
--- and so can what is brought by a hit: after the list, one by line 5 has arrived
-late-arrived : Arrived (late .state) 5 (hit 7) 4119 (replicate 32 0)
-unfolding own query hit lateHits late keptPlaces message keywordsOf pieces filled hashOf word goodLength tableInOrder withholds remembered find remember noTwice storedPongs lineInOrder inOrder untilZero queryOutcome hitOutcome fresh opening closing early byType arriving asking
-late-arrived =
-    record {
-      areas = record { output = leb-true 4119 4119 refl; long = leb-true 32 32 refl; room = refl };
-      line = leb-true 5 7 refl;
-      live = refl;
-      size = leb-true 27 4096 refl;
-      whole = leb-true 50 50 refl;
-    }
-
--- a state that remembers 512 queries asked here, of the numbers 1 to 512, number 1 the oldest
-full : Station
-full =
-    record {
-      room = 4;
-      lines = replicate 8 (emptyLine false);
-      lo = counting 512 1;
-      hi = replicate 512 0;
-      asker = replicate 512 here;
-      count = 512;
-      next = 0;
-    }
+-- a memory of 512 queries asked here, of the numbers 1 to 512, number 1 the oldest
+full : Memory
+full = memoryOf (counting 512 1) (replicate 512 0) (replicate 512 here) 512 0
 
 small : ℕ → Number
 small n = record { lo = n; hi = 0 }
 
+more : Memory
+more = remember capacity full (small 600) here
+
 -- the oldest of 512 is known; after one more it is not, and the next is the oldest
-oldest : find (remembered full) (small 1) ≡ At 511 here
-unfolding counting full small keptPlaces remembered find
-oldest = refl
+record Oldest : Type 0 where
+  first : find (queriesIn capacity full) (small 1) ≡ At 511 here
+  forgotten : find (queriesIn capacity more) (small 1) ≡ Absent
+  next : find (queriesIn capacity more) (small 2) ≡ At 511 here
 
-forgotten : find (remembered (remember full (small 600) here)) (small 1) ≡ Absent
-unfolding counting full small keptPlaces remembered find remember
-forgotten = refl
-
-oldest-then : find (remembered (remember full (small 600) here)) (small 2) ≡ At 511 here
-unfolding counting full small keptPlaces remembered find remember
-oldest-then = refl
+oldest : Oldest
+unfolding counting full small more keptPlaces queriesIn find remember
+oldest = record { first = refl; forgotten = refl; next = refl }
