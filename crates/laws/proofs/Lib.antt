@@ -7,6 +7,7 @@ pub mod Chunks
 pub mod Text
 pub mod Decimal
 pub mod Refusals
+pub mod Words
 pub mod Overlay
 pub mod Rings
 pub mod RingScan

@@ -4,14 +4,16 @@
 use Prim.Native.Nat.{ℕ, zero, suc, _/_, _≤_, _<_}
 use native.Mathlib.Omega.{arith}
 use mathlib.Core.Path.{_≡_, refl, sym, ap, _∙_}
-use mathlib.Core.Bool.{Bool, true, false, cond, not, _||_, false≢true}
-use mathlib.Core.Logic.{_↔_, _⊎_, inl, inr, ⊎-elim, Iff·trans}
+use mathlib.Core.Bool.{Bool, true, false, not, _||_, false≢true}
+use mathlib.Core.Logic.{_↔_, ⊎-elim, Iff·trans}
 use mathlib.Core.List.{List, [], _∷_, _++_}
 use lib.Dec.{eqb, leb, ltb}
 use lib.ListN.{length, getD, drop}
-use borrow.Author.Tests.{ltb-true, ltb-false, leb-true, le-leb, le-ltb, lt-ltb, eqb-true, eq-eqb, not-true, not-false}
+use borrow.Author.Tests.{ltb-false, le-ltb, eqb-true, eq-eqb, not-true}
 use Rattle.laws.specs.Tests.{firstOf, any, all}
-use Rattle.laws.proofs.Refusals.{clash, or-split, or-left, or-right, answer-in}
+use Rattle.laws.proofs.Refusals.{or-split, or-left, or-right}
+use Rattle.laws.proofs.Words.{or-iff, none-iff, some-iff, no-iff, yes-iff, eqb-iff, other-iff, less-iff, not-less-iff}
+use Rattle.laws.proofs.Words.{most-iff, first-iff, past-iff}
 use Rattle.wire.specs.Header.{headerIn, kindOf, ttlOf, hopsOf, sizeOf, payloadOf}
 use Rattle.protocol.specs.State.{Station, lookedUp, lineAt}
 use Rattle.protocol.specs.Memory.{numberIn}
@@ -27,59 +29,6 @@ use Rattle.protocol.specs.Exactly.{QueryExactly, OwnExactly, Exactly}
 use Rattle.protocol.proofs.Outcomes.{answer-taken}
 use Rattle.protocol.proofs.Blind.{afterEarly, type-number, numbers, types-all}
 use Rattle.protocol.proofs.Arrived.{badAreas, areas-of, areas-fit, by-type}
-
--- tests and words
-or-iff : (a b : Bool) {A B : Type 0} → (a ≡ true) ↔ A → (b ≡ true) ↔ B → ((a || b) ≡ true) ↔ (A ⊎ B)
-or-iff a b {A} {B} x y = (there, back)
-  where
-    there : (a || b) ≡ true → A ⊎ B
-    there e = ⊎-elim (λ p. inl (x .0 p)) (λ p. inr (y .0 p)) (or-split a b e)
-
-    back : A ⊎ B → (a || b) ≡ true
-    back (inl p) = or-left a b (x .1 p)
-    back (inr p) = or-right a b (y .1 p)
-
-none-iff : (b : Bool) {X : Type 0} → (b ≡ true) ↔ X → (not b ≡ true) ↔ (X → ⊥)
-none-iff true x = ((λ e. absurd (false≢true e)), (λ n. absurd (n (x .0 refl))))
-none-iff false x = ((λ _ v. false≢true (x .1 v)), (λ _. refl))
-
-some-iff : (b : Bool) {X : Type 0} → (b ≡ true) ↔ X → (not b ≡ false) ↔ X
-some-iff b x = ((λ e. x .0 (not-false b e)), (λ v. ap not (x .1 v)))
-
-no-iff : (b : Bool) → (not b ≡ true) ↔ (b ≡ false)
-no-iff b = (not-true b, (λ e. ap not e))
-
-yes-iff : (b : Bool) → (not b ≡ false) ↔ (b ≡ true)
-yes-iff b = (not-false b, (λ e. ap not e))
-
-eqb-iff : (a b : ℕ) → (eqb a b ≡ true) ↔ (a ≡ b)
-eqb-iff a b = (eqb-true a b, eq-eqb a b)
-
-other-iff : (a b : ℕ) → (not (eqb a b) ≡ true) ↔ (a ≡ b → ⊥)
-other-iff a b = none-iff (eqb a b) (eqb-iff a b)
-
-less-iff : (a b : ℕ) → (ltb a b ≡ true) ↔ (a < b)
-less-iff a b = (ltb-true a b, lt-ltb a b)
-
-not-less-iff : (a b : ℕ) → (ltb a b ≡ false) ↔ (b ≤ a)
-not-less-iff a b = (ltb-false a b, le-ltb a b)
-
--- an ordered list: at a number's own test, which stands behind no other of that number, and past another test
-here : (n : ℕ) (b : Bool) (cs : List (Bool × ℕ)) → all (λ c. not (eqb (c .1) n)) cs ≡ true → eqb 0 n ≡ false
-    → (firstOf ((b, n) ∷ cs) ≡ n) ↔ (b ≡ true)
-here n b cs h z = go b
-  where
-    behind : firstOf cs ≡ n → ⊥
-    behind e = clash (eq-eqb (firstOf cs) n e) (not-true _ (answer-in (λ k. not (eqb k n)) cs (ap not z) h))
-
-    go : (b : Bool) → (cond b n (firstOf cs) ≡ n) ↔ (b ≡ true)
-    go true = ((λ _. refl), (λ _. refl))
-    go false = ((λ e. absurd (behind e)), (λ e. absurd (false≢true e)))
-
-past : (n : ℕ) {X Y : Type 0} (b : Bool) (k r : ℕ) → (k ≡ n → ⊥) → (b ≡ false) ↔ Y → (r ≡ n) ↔ X
-    → (cond b k r ≡ n) ↔ (Y × X)
-past n true k r h y x = ((λ z. absurd (h z)), (λ z. absurd (false≢true (sym (y .1 (z .0))))))
-past n false k r h y x = ((λ z. (y .0 refl, x .0 z)), (λ z. x .1 (z .1)))
 
 -- the words of the tests
 module _ (s : Station) (out : ℕ) (route : List ℕ) where
@@ -151,7 +100,7 @@ zero-iff k p = (zero-from k p, (λ z. from-zero k p (z .index) (z .behind) (z .w
 allowed-iff : (m : List ℕ) → ((eqb (ttlOf m) 0 || (ltb 15 (ttlOf m) || leb 7 (hopsOf m))) ≡ true) ↔ NotAllowed m
 allowed-iff m =
     or-iff (eqb (ttlOf m) 0) (ltb 15 (ttlOf m) || leb 7 (hopsOf m)) (eqb-iff (ttlOf m) 0)
-    (or-iff (ltb 15 (ttlOf m)) (leb 7 (hopsOf m)) (less-iff 15 (ttlOf m)) (leb-true 7 (hopsOf m), le-leb 7 (hopsOf m)))
+    (or-iff (ltb 15 (ttlOf m)) (leb 7 (hopsOf m)) (less-iff 15 (ttlOf m)) (most-iff 7 (hopsOf m)))
 
 -- a message call
 module _ (s : Station) (l : ℕ) (m : List ℕ) (t : Terms) (route : List ℕ) where
@@ -190,14 +139,14 @@ module _ (s : Station) (l : ℕ) (m : List ℕ) (t : Terms) (route : List ℕ) w
   early-exactly =
       rw (numbers s l m t route)
       (record {
-        one = Iff·trans (here 1 (not (inOrder s)) fromAreas lacks-one refl) (no-iff (inOrder s));
+        one = Iff·trans (first-iff 1 (not (inOrder s)) fromAreas lacks-one refl) (no-iff (inOrder s));
         two =
-            past 2 (not (inOrder s)) 1 (firstOf fromAreas) (λ z. absurd (omega arith)) (yes-iff (inOrder s))
-            (Iff·trans (here 2 bad fromLine lacks-two refl) (unfit-iff s (t .out) route));
+            past-iff 2 (not (inOrder s)) 1 fromAreas refl (yes-iff (inOrder s))
+            (Iff·trans (first-iff 2 bad fromLine lacks-two refl) (unfit-iff s (t .out) route));
         three =
-            past 3 (not (inOrder s)) 1 (firstOf fromAreas) (λ z. absurd (omega arith)) (yes-iff (inOrder s))
-            (past 3 bad 2 (firstOf fromLine) (λ z. absurd (omega arith)) (fit-iff s (t .out) route)
-            (Iff·trans (here 3 (notOpen l (lineAt s l .live)) fromExtent lacks-three refl) (closed-iff s l)));
+            past-iff 3 (not (inOrder s)) 1 fromAreas refl (yes-iff (inOrder s))
+            (past-iff 3 bad 2 fromLine refl (fit-iff s (t .out) route)
+            (Iff·trans (first-iff 3 (notOpen l (lineAt s l .live)) fromExtent lacks-three refl) (closed-iff s l)));
       })
 
   -- 7, and 6 and 8 of a query, of a message that has arrived
@@ -208,7 +157,8 @@ module _ (s : Station) (l : ℕ) (m : List ℕ) (t : Terms) (route : List ℕ) w
     seven-exactly : (answer ≡ 7) ↔ (Named m → ⊥)
     seven-exactly =
         rw by-its-type
-        (Iff·trans (here 7 (unnamed m) (typeRules s l (t .clock) m route) lacks-seven refl) (none-iff _ (named-iff m)))
+        (Iff·trans (first-iff 7 (unnamed m) (typeRules s l (t .clock) m route) lacks-seven refl)
+        (none-iff _ (named-iff m)))
 
     module _ (k : kindOf m ≡ 0x80) where
       abbrev notAllowed : Bool
@@ -225,12 +175,12 @@ module _ (s : Station) (l : ℕ) (m : List ℕ) (t : Terms) (route : List ℕ) w
           rw (by-its-type, k)
           (record {
             six =
-                Iff·trans (here 6 (not text) ((notAllowed, 8) ∷ last) refl refl)
+                Iff·trans (first-iff 6 (not text) ((notAllowed, 8) ∷ last) refl refl)
                 (none-iff text (zero-iff 2 (payloadOf m)));
             eight =
-                past 8 (not text) 6 (firstOf ((notAllowed, 8) ∷ last)) (λ z. absurd (omega arith))
+                past-iff 8 (not text) 6 ((notAllowed, 8) ∷ last) refl
                 (some-iff text (zero-iff 2 (payloadOf m)))
-                (Iff·trans (here 8 notAllowed last refl refl) (allowed-iff m));
+                (Iff·trans (first-iff 8 notAllowed last refl refl) (allowed-iff m));
           })
 
 -- an own query
@@ -252,30 +202,30 @@ module _ (s : Station) (number text : List ℕ) (out : ℕ) (route : List ℕ) w
   own-answer = answer-taken _ s route (ownTaken usualLimit s number text route) refl
 
   -- in order; and with areas that fit
-  ordered : (n : ℕ) {X : Type 0} → (1 ≡ n → ⊥) → (firstOf fromRoom ≡ n) ↔ X
+  ordered : (n : ℕ) {X : Type 0} → eqb 1 n ≡ false → (firstOf fromRoom ≡ n) ↔ X
       → (firstOf ((not (inOrder s), 1) ∷ fromRoom) ≡ n) ↔ ((inOrder s ≡ true) × X)
-  ordered n h x = past n (not (inOrder s)) 1 (firstOf fromRoom) h (yes-iff (inOrder s)) x
+  ordered n h x = past-iff n (not (inOrder s)) 1 fromRoom h (yes-iff (inOrder s)) x
 
-  fitted : (n : ℕ) {X : Type 0} → (1 ≡ n → ⊥) → (2 ≡ n → ⊥) → (firstOf fromSize ≡ n) ↔ X
+  fitted : (n : ℕ) {X : Type 0} → eqb 1 n ≡ false → eqb 2 n ≡ false → (firstOf fromSize ≡ n) ↔ X
       → (firstOf ((not (inOrder s), 1) ∷ fromRoom) ≡ n) ↔ ((inOrder s ≡ true) × (Areas s out route × X))
-  fitted n h g x = ordered n h (past n (badAreas s out route) 2 (firstOf fromSize) g (fit-iff s out route) x)
+  fitted n h g x = ordered n h (past-iff n (badAreas s out route) 2 fromSize g (fit-iff s out route) x)
 
   own-exactly : OwnExactly s text out route (ownOutcome s number text out route .answer)
   own-exactly =
       rw own-answer
       (record {
-        one = Iff·trans (here 1 (not (inOrder s)) fromRoom refl refl) (no-iff (inOrder s));
+        one = Iff·trans (first-iff 1 (not (inOrder s)) fromRoom refl refl) (no-iff (inOrder s));
         two =
-            ordered 2 (λ z. absurd (omega arith))
-            (Iff·trans (here 2 (badAreas s out route) fromSize refl refl) (unfit-iff s out route));
+            ordered 2 refl
+            (Iff·trans (first-iff 2 (badAreas s out route) fromSize refl refl) (unfit-iff s out route));
         five =
-            fitted 5 (λ z. absurd (omega arith)) (λ z. absurd (omega arith))
-            (Iff·trans (here 5 (ltb 4093 (length text)) fromZero refl refl) (less-iff 4093 (length text)));
+            fitted 5 refl refl
+            (Iff·trans (first-iff 5 (ltb 4093 (length text)) fromZero refl refl) (less-iff 4093 (length text)));
         six =
-            fitted 6 (λ z. absurd (omega arith)) (λ z. absurd (omega arith))
-            (past 6 (ltb 4093 (length text)) 5 (firstOf fromZero) (λ z. absurd (omega arith))
+            fitted 6 refl refl
+            (past-iff 6 (ltb 4093 (length text)) 5 fromZero refl
             (not-less-iff 4093 (length text))
-            (Iff·trans (here 6 (any (eqb 0) text) fromNumber refl refl) (zero-iff 0 text)));
+            (Iff·trans (first-iff 6 (any (eqb 0) text) fromNumber refl refl) (zero-iff 0 text)));
       })
 
 pub exactly : Exactly

@@ -342,5 +342,5 @@ module _ (s : Station) (l clock : ℕ) where
           inr (
             omega arith,
             rw (getD-take 10 eligible 9 firstPlace (omega arith), sym (y .is))
-            (rising-at eligible up 9 (y .at) (omega arith) b),
+                (rising-at eligible up 9 (y .at) (omega arith) b),
           )
