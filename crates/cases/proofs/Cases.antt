@@ -12,23 +12,29 @@ use Rattle.keywords.proofs.PlaceLaws.{place-cut}
 use Rattle.tables.specs.Tables.{goodLength, tableInOrder}
 use Rattle.tables.specs.Patch.{numbers, added, allFit}
 use Rattle.tables.proofs.PatchFacts.{addedAt, addedRun, together, run-at-once}
-use Rattle.tables.specs.Updates.{updateAnswer, updated, goodReset, goodPatch, inTurn, inRange, resetBy, movedOn, patchBy, brokenBy}
+use Rattle.tables.specs.Updates.{updateAnswer, updated, goodReset, goodPatch, inTurn, inRange, resetBy, movedOn}
+use Rattle.tables.specs.Updates.{patchBy, brokenBy}
 use Rattle.tables.specs.Admission.{withholds}
-use Rattle.protocol.specs.Memory.{remembered, find, remember, noTwice}
+use Rattle.protocol.specs.Memory.{queriesIn, find, remember, noTwice, memoryInOrder}
 use Rattle.protocol.specs.Lines.{storedPongs}
 use Rattle.protocol.specs.Order.{lineInOrder, inOrder}
-use Rattle.protocol.specs.Queries.{untilZero, queryOutcome}
-use Rattle.protocol.specs.Hits.{hitOutcome}
-use Rattle.protocol.specs.Pings.{walk, pingOutcome, pongOutcome}
-use Rattle.protocol.specs.Calls.{fresh, opening, closing, early, updateOutcome, byType, arriving, asking}
-use Rattle.cases.specs.Cases.{cases, Holds, Stands, AllHold, begun, own, update, number, query, p1, p2, p3, p4, eb, ebckl, ebcklmen, both, opened, waits, settles}
+use Rattle.protocol.specs.Queries.{untilZero, queryStep}
+use Rattle.protocol.specs.Hits.{hitStep}
+use Rattle.protocol.specs.Pings.{walk, pongsSent, pingStep, pongStep}
+use Rattle.protocol.specs.Calls.{fresh, opening, closing, early, updateStep, byType, arriving, ownAnswer, asking}
+use Rattle.cases.specs.Cases.{cases, Holds, Stands, AllHold, begun, own, update, number, query, p1, p2, p3, p4}
+use Rattle.cases.specs.Cases.{eb, ebckl, ebcklmen, both, opened, waits, settles}
 
 eleven : length cases ≡ 11
 unfolding cases
 eleven = refl
 
 pub all-hold : AllHold cases
-unfolding cases begun own update number query p1 p2 p3 p4 eb ebckl ebcklmen both opened waits settles keptPlaces message isSeparator lower keywordsOf pieces filled xor32 hashOf word goodLength tableInOrder numbers added allFit updateAnswer updated goodReset goodPatch inTurn inRange resetBy movedOn patchBy brokenBy withholds remembered find remember noTwice storedPongs lineInOrder inOrder untilZero queryOutcome hitOutcome walk pingOutcome pongOutcome fresh opening closing early updateOutcome byType arriving asking
+unfolding cases begun own update number query p1 p2 p3 p4 eb ebckl ebcklmen both opened waits settles
+    keptPlaces message isSeparator lower keywordsOf pieces filled xor32 hashOf word goodLength tableInOrder numbers
+    added allFit updateAnswer updated goodReset goodPatch inTurn inRange resetBy movedOn patchBy brokenBy withholds
+    queriesIn find remember noTwice memoryInOrder storedPongs lineInOrder inOrder untilZero queryStep hitStep walk
+    pongsSent pingStep pongStep fresh opening closing early updateStep byType arriving ownAnswer asking
 all-hold = (refl, (refl, (refl, (refl, (refl, (refl, (refl, (refl, (refl, (refl, (refl, tt)))))))))))
 
 -- the places of Q1 and Q2 in a table of four entries, from those at 13 bits by the law over the bits
@@ -48,7 +54,9 @@ unfolding ebcklmen lower xor32 hashOf word
 ebcklmen-at-two = at-two ebcklmen 1062 refl
 
 -- the numbers of P2 and of P3 in a run of two messages come to what they come to at once, by the law over the bits
-in-two : (bits v : ℕ) → addedRun bits 0 ((0 ∷ v ∷ []) ∷ (0 ∷ v ∷ []) ∷ []) (8 ∷ 8 ∷ 8 ∷ 8 ∷ []) ≡ addedAt bits 0 (0 ∷ v ∷ 0 ∷ v ∷ []) (8 ∷ 8 ∷ 8 ∷ 8 ∷ [])
+in-two : (bits v : ℕ)
+    → addedRun bits 0 ((0 ∷ v ∷ []) ∷ (0 ∷ v ∷ []) ∷ []) (8 ∷ 8 ∷ 8 ∷ 8 ∷ [])
+    ≡ addedAt bits 0 (0 ∷ v ∷ 0 ∷ v ∷ []) (8 ∷ 8 ∷ 8 ∷ 8 ∷ [])
 unfolding together
 in-two bits v = run-at-once bits 0 ((0 ∷ v ∷ []) ∷ (0 ∷ v ∷ []) ∷ []) (8 ∷ 8 ∷ 8 ∷ 8 ∷ []) (omega arith)
 

@@ -1,5 +1,5 @@
--- The worked cases of RULES 18: eleven in one list. A case is a whole message that arrives after some calls, or a keyword and
--- its place; each with what it must come to, by the definitions that the contracts cite.
+-- The worked cases of RULES 18: eleven in one list. A case is a whole message that arrives after some calls, or a
+-- keyword and its place; each with what it must come to, by the definitions that the contracts cite.
 use Prim.Native.Nat.{ℕ, suc}
 use mathlib.Core.Path.{_≡_}
 use mathlib.Core.Bool.{Bool, true, false, cond}
@@ -10,14 +10,14 @@ use Rattle.wire.specs.Header.{message}
 use Rattle.keywords.specs.Hash.{placeOf}
 use Rattle.tables.specs.Tables.{waiting, settled, broken}
 use Rattle.protocol.specs.declared.Own.{Own}
-use Rattle.protocol.specs.Memory.{numberIn, seen}
-use Rattle.protocol.specs.Lines.{lineAt, heldAt}
-use Rattle.protocol.specs.Outcomes.{Outcome}
+use Rattle.protocol.specs.Memory.{numberIn}
+use Rattle.protocol.specs.State.{lineAt, heldAt, seen}
+use Rattle.protocol.specs.Outcomes.{Terms, Outcome, termsOf}
 use Rattle.protocol.specs.Calls.{fresh, messageOutcome}
 use Rattle.protocol.specs.Runs.{Call, Open, Message, Same, World, run, start}
 
--- what is seen of a call with a message: its answer, the lines sent to, all bytes written, the mark and the entries of line 1's table
--- after it, and whether the message's number is remembered after it
+-- what is seen of a call with a message: its answer, the lines sent to, all bytes written, the mark and the entries of
+-- line 1's table after it, and whether the message's number is remembered after it
 pub record Seen : Type 0 where
   pub answer : ℕ
   pub to : List ℕ
@@ -38,9 +38,12 @@ begun = start (fresh 32 .state) (replicate 32 0)
 unfoldable pub own : Own
 own = record { port = 6346; address = 127 ∷ 0 ∷ 0 ∷ 1 ∷ []; files = 0; kilobytes = 0; calls = true }
 
--- the shortest output area that a call takes
-abbrev pub output : ℕ
-output = 4119
+-- what a call brings besides: a clock, and an output area of n bytes; 4,119 is the shortest that a call takes
+abbrev pub terms : ℕ → ℕ → Terms
+terms clock n = termsOf clock own n
+
+abbrev pub at : ℕ → Terms
+at clock = terms clock 4119
 
 -- the places of the flags that are set, rising, where the first flag's place is l
 abbrev pub placesFrom : ℕ → List Bool → List ℕ
@@ -58,9 +61,13 @@ seenOf m o =
       remembered = seen (o .state) (numberIn m);
     }
 
+-- bytes that arrive by a line at a clock, with areas that fit
+abbrev pub by : ℕ → ℕ → List ℕ → Call
+by line clock m = Message line m (at clock) Same
+
 -- a message of a line in a world, through the definition that the message call's contract cites
 abbrev pub arrives : World → ℕ → List ℕ → Outcome
-arrives w line m = messageOutcome (w .state) line 0 own m output (w .area)
+arrives w line m = messageOutcome (w .state) line m (at 0) (w .area)
 
 -- a case holds
 abbrev pub Holds : Case → Type 0
@@ -76,7 +83,9 @@ unfoldable pub update : List ℕ → List ℕ
 update payload = message (replicate 16 1) 0x30 1 0 payload
 
 unfoldable pub number : List ℕ
-number = 0xA0 ∷ 0xA1 ∷ 0xA2 ∷ 0xA3 ∷ 0xA4 ∷ 0xA5 ∷ 0xA6 ∷ 0xA7 ∷ 0xA8 ∷ 0xA9 ∷ 0xAA ∷ 0xAB ∷ 0xAC ∷ 0xAD ∷ 0xAE ∷ 0xAF ∷ []
+number =
+    0xA0 ∷ 0xA1 ∷ 0xA2 ∷ 0xA3 ∷ 0xA4 ∷ 0xA5 ∷ 0xA6 ∷ 0xA7
+    ∷ 0xA8 ∷ 0xA9 ∷ 0xAA ∷ 0xAB ∷ 0xAC ∷ 0xAD ∷ 0xAE ∷ 0xAF ∷ []
 
 abbrev pub queryPayload : List ℕ → List ℕ
 queryPayload text = 0 ∷ 0 ∷ (text ++ (0 ∷ []))
@@ -114,7 +123,7 @@ unfoldable pub opened : List Call
 opened = Open 0 ∷ Open 1 ∷ []
 
 abbrev pub fromOne : List ℕ → Call
-fromOne payload = Message 1 0 own (update payload) output Same
+fromOne payload = by 1 0 (update payload)
 
 unfoldable pub waits : List Call
 waits = opened ++ (fromOne p1 ∷ [])
@@ -132,7 +141,14 @@ updates before payload answer mark entries =
 abbrev pub asks : ℕ → ℕ → List ℕ → ℕ → List ℕ → List ℕ → Bool → Case
 asks ttl hops text answer to written remembered =
     Arrives settles 0 (query ttl hops text)
-    (record { answer = answer; to = to; written = written; mark = settled; entries = 8 ∷ 1 ∷ 8 ∷ 1 ∷ []; remembered = remembered })
+    (record {
+      answer = answer;
+      to = to;
+      written = written;
+      mark = settled;
+      entries = 8 ∷ 1 ∷ 8 ∷ 1 ∷ [];
+      remembered = remembered;
+    })
 
 -- a query as sent on: its number as it came, bytes 16 to 22 as told, its payload as it came
 abbrev pub sentOn : List ℕ → List ℕ → List ℕ

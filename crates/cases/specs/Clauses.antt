@@ -9,24 +9,24 @@ use lib.ListN.{replicate, set}
 use Rattle.laws.specs.Tests.{all}
 use Rattle.wire.specs.Header.{message}
 use Rattle.tables.specs.declared.Table.{Table}
-use Rattle.protocol.specs.declared.Pong.{Pong}
 use Rattle.protocol.specs.declared.Line.{Line}
-use Rattle.protocol.specs.declared.Station.{Station}
-use Rattle.protocol.specs.Lines.{emptyLine, lineAt, withLine, withTable}
+use Rattle.protocol.specs.Memory.{memoryOf}
+use Rattle.protocol.specs.Lines.{emptyLine, withTable}
+use Rattle.protocol.specs.State.{Station, lineAt, withLine, withMemory}
 use Rattle.protocol.specs.Order.{inOrder}
-use Rattle.protocol.specs.Calls.{fresh}
-use Rattle.protocol.specs.Runs.{Call, Open, Ask, Same, World, run, start}
-use Rattle.cases.specs.Cases.{begun, output, number, query, eb, opened, settles}
-use Rattle.cases.specs.Precedence.{by, ping}
+use Rattle.protocol.specs.Runs.{Ask, Same, run}
+use Rattle.cases.specs.Cases.{begun, at, by, query, eb, settles}
+use Rattle.cases.specs.Precedence.{ping}
 
--- lines 0 and 1 open, line 1 with a table and line 0 with two pongs and a ping time, three queries remembered: by line 0, by line 1, from here
+-- lines 0 and 1 open, line 1 with a table and line 0 with two pongs and a ping time, three queries remembered: by line
+-- 0, by line 1, from here
 unfoldable pub full : Station
 full =
     run begun
     (settles
     ++ (by 0 0 (query 3 1 eb)
     ∷ by 1 0 (message (replicate 16 2) 0x80 3 1 (0 ∷ 0 ∷ 0 ∷ []))
-    ∷ Ask (replicate 16 3) eb output Same
+    ∷ Ask (replicate 16 3) eb (at 0) Same
     ∷ by 0 0 (message (replicate 16 4) 0x01 1 7 (replicate 14 5))
     ∷ by 0 0 (message (replicate 16 4) 0x01 1 0 (replicate 14 6))
     ∷ by 0 0 (ping 7 0)
@@ -34,11 +34,16 @@ full =
 
 -- the same state with other remembered queries
 abbrev pub withRing : List ℕ → List ℕ → ℕ → ℕ → Station → Station
-withRing lo asker count next s =
-    record { room = s .room; lines = s .lines; lo = lo; hi = s .hi; asker = asker; count = count; next = next }
+withRing lo asker count next s = withMemory s (memoryOf lo (s .memory .hi) asker count next)
+
+abbrev pub numbers : List ℕ
+numbers = full .memory .lo
+
+abbrev pub askers : List ℕ
+askers = full .memory .asker
 
 abbrev pub withAsker : ℕ → ℕ → Station
-withAsker place a = withRing (full .lo) (set (full .asker) place a) 3 3 full
+withAsker place a = withRing numbers (set askers place a) 3 3 full
 
 -- with another line record
 abbrev pub pongsOf : ℕ → ℕ → ℕ → ℕ → Line → Line
@@ -72,7 +77,15 @@ pingedClosed =
 
 abbrev pub table : (mark length infinity place size bits at : ℕ) → Table
 table mark length infinity place size bits at =
-    record { mark = mark; length = length; infinity = infinity; nextplace = place; runsize = size; runbits = bits; nextentry = at }
+    record {
+      mark = mark;
+      length = length;
+      infinity = infinity;
+      nextplace = place;
+      runsize = size;
+      runbits = bits;
+      nextentry = at;
+    }
 
 -- line 1, which is open, with this table, and line 2, which is closed
 abbrev pub openTable : Table → Station
@@ -96,24 +109,15 @@ isJudged j = cond (j .good) (inOrder (j .state)) (not (inOrder (j .state)))
 
 -- all numbers are 0: one that is remembered is twice as soon as two are
 abbrev pub alike : ℕ → Station
-alike count =
-    record {
-      room = full .room;
-      lines = full .lines;
-      lo = replicate 512 0;
-      hi = replicate 512 0;
-      asker = full .asker;
-      count = count;
-      next = count;
-    }
+alike count = withMemory full (memoryOf (replicate 512 0) (replicate 512 0) askers count count)
 
 -- the ring of remembered queries
 unfoldable pub ringClauses : List Judged
 ringClauses =
     good full
     -- 513 remembered; the next place past the ring
-    ∷ bad (withRing (full .lo) (full .asker) 513 3 full)
-    ∷ bad (withRing (full .lo) (full .asker) 0 512 full)
+    ∷ bad (withRing numbers askers 513 3 full)
+    ∷ bad (withRing numbers askers 0 512 full)
     -- a number twice among the kept places; one that a place which is not kept has too
     ∷ bad (alike 2)
     ∷ good (alike 1)
@@ -126,12 +130,12 @@ ringClauses =
     ∷ good (withAsker 1 8)
     ∷ good (withAsker 1 9)
     ∷ good (withAsker 1 1)
-    ∷ bad (withRing (full .lo) (set (full .asker) 511 10) 3 1 full)
+    ∷ bad (withRing numbers (set askers 511 10) 3 1 full)
     -- one is kept: the place just before the next, going round, and no other place is asked
-    ∷ good (withRing (full .lo) (set (set (full .asker) 511 9) 0 10) 1 0 full)
-    ∷ bad (withRing (full .lo) (set (set (full .asker) 511 10) 0 9) 1 0 full)
-    ∷ good (withRing (full .lo) (set (full .asker) 0 10) 1 2 full)
-    ∷ bad (withRing (full .lo) (set (full .asker) 1 10) 1 2 full)
+    ∷ good (withRing numbers (set (set askers 511 9) 0 10) 1 0 full)
+    ∷ bad (withRing numbers (set (set askers 511 10) 0 9) 1 0 full)
+    ∷ good (withRing numbers (set askers 0 10) 1 2 full)
+    ∷ bad (withRing numbers (set askers 1 10) 1 2 full)
     ∷ []
 
 -- line records

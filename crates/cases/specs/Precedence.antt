@@ -1,19 +1,16 @@
--- The order of refusals (RULES 2), by calls that deserve two numbers: each is answered by the one that comes first. One
--- list, over the definitions that the contracts cite; a rule that takes another's place in definition and code alike
--- makes a row of it wrong.
+-- The order of refusals (RULES 2), by calls that deserve two numbers: each is answered by the one that comes first.
+-- One list, over the definitions that the contracts cite; a rule that takes another's place in definition and code
+-- alike makes a row of it wrong.
 use Prim.Native.Nat.{ℕ}
 use mathlib.Core.Path.{_≡_}
-use mathlib.Core.Bool.{Bool, true, false}
+use mathlib.Core.Bool.{Bool, true}
 use mathlib.Core.List.{List, [], _∷_, _++_}
 use lib.Dec.{eqb}
 use lib.ListN.{replicate, take}
 use Rattle.laws.specs.Tests.{all}
 use Rattle.wire.specs.Header.{header, message}
-use Rattle.protocol.specs.declared.Station.{Station}
-use Rattle.protocol.specs.Outcomes.{Outcome}
-use Rattle.protocol.specs.Calls.{fresh}
-use Rattle.protocol.specs.Runs.{Call, Open, Close, Message, Ask, Area, Same, Other, World, run, start, outcomeOf}
-use Rattle.cases.specs.Cases.{begun, own, output, number, update, query, p1, p2, p4, eb, opened, waits}
+use Rattle.protocol.specs.Runs.{Call, Open, Close, Message, Ask, Same, Other, run, outcomeOf}
+use Rattle.cases.specs.Cases.{begun, terms, at, by, number, update, query, p1, p4, eb, opened, waits}
 
 -- after some calls, a call is answered by this number
 pub record Answer : Type 0 where
@@ -26,10 +23,6 @@ row before call number = record { before = before; call = call; number = number 
 
 abbrev pub isAnswered : Answer → Bool
 isAnswered a = eqb (outcomeOf (run begun (a .before)) (a .call) .answer) (a .number)
-
--- bytes that arrive by a line at a clock, with areas that fit
-abbrev pub by : ℕ → ℕ → List ℕ → Call
-by line clock m = Message line clock own m output Same
 
 -- a header that says n bytes of payload, and no payload
 abbrev pub bare : ℕ → ℕ → ℕ → ℕ → List ℕ
@@ -46,14 +39,15 @@ unfoldable pub came : List Call
 came = opened ++ (by 0 0 (query 3 1 eb) ∷ [])
 
 unfoldable pub asked : List Call
-asked = opened ++ (Ask number eb output Same ∷ [])
+asked = opened ++ (Ask number eb (at 0) Same ∷ [])
 
 unfoldable pub precedence : List Answer
 precedence =
-    -- areas before the line: the output area, a route area that is too short, and one of another room, each with no such line
-    row opened (Message 8 0 own (query 3 1 eb) 4118 Same) 2
-    ∷ row opened (Message 8 0 own (query 3 1 eb) output (Other (replicate 31 0))) 2
-    ∷ row opened (Message 2 0 own (query 3 1 eb) output (Other (replicate 40 0))) 2
+    -- areas before the line: the output area, a route area that is too short, and one of another room, each with no
+    -- such line
+    row opened (Message 8 (query 3 1 eb) (terms 0 4118) Same) 2
+    ∷ row opened (Message 8 (query 3 1 eb) (at 0) (Other (replicate 31 0))) 2
+    ∷ row opened (Message 2 (query 3 1 eb) (at 0) (Other (replicate 40 0))) 2
     -- the line before the extent: a line over 7, and a closed one, with no byte
     ∷ row opened (by 8 0 []) 3
     ∷ row opened (by 2 0 []) 3
@@ -96,12 +90,12 @@ precedence =
     ∷ row waits (by 1 0 (update (1 ∷ 2 ∷ 2 ∷ 0 ∷ 4 ∷ 0x10 ∷ []))) 15
     ∷ row waits (by 1 0 (update p4)) 16
     -- own queries: areas, length, a zero byte, the number
-    ∷ row came (Ask number (replicate 4094 0) 4118 Same) 2
-    ∷ row came (Ask number (replicate 4094 0) output (Other (replicate 31 0))) 2
-    ∷ row came (Ask number (replicate 4094 0) output (Other (replicate 40 0))) 2
-    ∷ row came (Ask number (replicate 4094 0) output Same) 5
-    ∷ row came (Ask number (replicate 4093 0) output Same) 6
-    ∷ row came (Ask number eb output Same) 9
+    ∷ row came (Ask number (replicate 4094 0) (terms 0 4118) Same) 2
+    ∷ row came (Ask number (replicate 4094 0) (at 0) (Other (replicate 31 0))) 2
+    ∷ row came (Ask number (replicate 4094 0) (at 0) (Other (replicate 40 0))) 2
+    ∷ row came (Ask number (replicate 4094 0) (at 0) Same) 5
+    ∷ row came (Ask number (replicate 4093 0) (at 0) Same) 6
+    ∷ row came (Ask number eb (at 0) Same) 9
     -- openings and closings: any line over 7; opened twice, closed twice
     ∷ row opened (Open 8) 3
     ∷ row opened (Open 0) 3
