@@ -79,7 +79,7 @@ pub broken-in-words : BrokenInWords
 broken-in-words s l z h = marked-broken s z l h
 
 -- entries written at the front of one of eight parts
-part-inside : (l room n area : ℕ) → l ≤ 7 → n ≤ room → area / 8 ≡ room → l * room + n ≤ area
+pub part-inside : (l room n area : ℕ) → l ≤ 7 → n ≤ room → area / 8 ≡ room → l * room + n ≤ area
 part-inside l room n area h k e =
     let p : suc l * room ≤ 8 * room = mul-le-mul-right room (omega arith) in
     omega arith
@@ -106,7 +106,7 @@ module _ (s : Station) (z : Sized s) (o : inOrder s ≡ true) (l : ℕ) (m : Lis
   abbrev outcome : Outcome
   outcome = messageOutcome s l m t route
 
-  as-update : outcome ≡ updateDone s l m route
+  pub as-update : outcome ≡ updateDone s l m route
   unfolding byType updateStep
   as-update = by-type s l m t route o usualLimit a ∙ rw k
 

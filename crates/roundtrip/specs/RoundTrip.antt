@@ -1,5 +1,6 @@
--- RULES 13.5: the writer's bytes, taken by the message call of a station whose line has the old table, settled, or where there was
--- no old table anything at all, are each answered 0, and leave the new table, settled, and nothing else changed.
+-- RULES 13.5: the writer's bytes, taken by the message call of a station whose line has the old table, settled, or
+-- where there was no old table anything at all, are each answered 0, and leave the new table, settled, and nothing
+-- else changed.
 use Prim.Native.Nat.{ℕ, _+_, _*_, _/_, _≤_, _<_}
 use mathlib.Core.Path.{_≡_}
 use mathlib.Core.Bool.{Bool, true}
@@ -9,12 +10,12 @@ use Rattle.laws.specs.Parts.{over}
 use Rattle.tables.specs.Tables.{Held, settled}
 use Rattle.tablewriter.specs.Writer.{messagesOf, writerResult, writerOut}
 use Rattle.tablewriter.specs.RoundTrip.{settledTable, settledAs}
-use Rattle.protocol.specs.declared.Station.{Station}
-use Rattle.protocol.specs.Memory.{remembered}
-use Rattle.protocol.specs.Lines.{lineAt, withLine, withTable, heldAt}
+use Rattle.protocol.specs.Lines.{withTable}
+use Rattle.protocol.specs.State.{Station, remembered, lineAt, withLine, heldAt}
+use Rattle.protocol.specs.Outcomes.{Terms}
 use Rattle.protocol.specs.Order.{inOrder}
 use Rattle.protocol.specs.Kept.{Sized}
-use Rattle.roundtrip.specs.Feeding.{Turn, Fed, fed, AllTaken}
+use Rattle.roundtrip.specs.Feeding.{Fed, fed, AllTaken}
 
 -- a station in order with line L open, and a route area that fits it
 pub record Listening (s : Station) (L : ℕ) (area : List ℕ) : Type 0 where
@@ -41,7 +42,8 @@ pub record Exchanged (s : Station) (L : ℕ) (route new : List ℕ) (infinity me
   -- the whole state and the whole route area
   pub state : f .state ≡ withLine s L (withTable (lineAt s L) (settledTable (length new) infinity))
   pub area : f .area ≡ over (L * s .room) new route
-  -- and so, part by part: the table and its entries, the other lines, the remembered queries, the bytes outside the table
+  -- and so, part by part: the table and its entries, the other lines, the remembered queries, the bytes outside the
+  -- table
   pub held : heldAt (f .state) L (f .area) ≡ settledAs new infinity
   pub others : (k : ℕ) → (k ≡ L → ⊥) → lineAt (f .state) k ≡ lineAt s k
   pub memory : remembered (f .state) ≡ remembered s
@@ -52,24 +54,15 @@ pub record Exchanged (s : Station) (L : ℕ) (route new : List ℕ) (infinity me
 abbrev pub StationRoundTrip : Type 0
 StationRoundTrip =
     (number : List ℕ) (had : Bool) (old : List ℕ) (oldInfinity : ℕ) (new : List ℕ) (infinity size : ℕ) (out : List ℕ)
-    (t : ℕ → Turn) (s : Station) (L : ℕ) (area : List ℕ)
+    (t : ℕ → Terms) (s : Station) (L : ℕ) (area : List ℕ)
     → length number ≡ 16
     → writerResult number had old oldInfinity new infinity size out .answer ≡ 0
     → length new ≤ s .room
     → Listening s L area
     → ((i : ℕ) → 4119 ≤ t i .out)
     → (had ≡ true → SettledAt (heldAt s L area) old infinity)
-    → Exchanged
-    s
-    L
-    area
-    new
-    infinity
-    (length (messagesOf number had old new infinity size))
+    → Exchanged s L area new infinity (length (messagesOf number had old new infinity size))
     (writerResult number had old oldInfinity new infinity size out .written)
-    (fed
-    t
-    L
-    s
-    area
-    (take (writerResult number had old oldInfinity new infinity size out .written) (writerOut number had old oldInfinity new infinity size out)))
+    (fed t L s area
+    (take (writerResult number had old oldInfinity new infinity size out .written)
+    (writerOut number had old oldInfinity new infinity size out)))

@@ -1,4 +1,6 @@
--- A tally over a list of calls, by computation: two cut messages and one of a line that is not open are counted, the rest is not.
+-- A tally over a list of calls, by computation: two cut messages and one of a line that is not open are counted, the
+-- rest is not.
+-- Assumes nothing.
 use Prim.Native.Nat.{_-_}
 use mathlib.Core.Path.{_≡_, refl}
 use mathlib.Core.Bool.{true}
@@ -7,10 +9,11 @@ use lib.ListN.{replicate}
 use Rattle.laws.specs.Ring.{keptPlaces}
 use Rattle.tables.specs.Tables.{tableInOrder}
 use Rattle.protocol.specs.declared.Own.{Own}
-use Rattle.protocol.specs.Memory.{remembered, find, remember, noTwice}
+use Rattle.protocol.specs.Memory.{queriesIn, find, remember, noTwice, memoryInOrder}
 use Rattle.protocol.specs.Lines.{storedPongs}
 use Rattle.protocol.specs.Order.{lineInOrder, inOrder}
-use Rattle.protocol.specs.Calls.{fresh, opening, closing, early, arriving, asking}
+use Rattle.protocol.specs.Outcomes.{Terms, termsOf}
+use Rattle.protocol.specs.Calls.{fresh, opening, closing, early, arriving, ownAnswer, asking}
 use Rattle.protocol.specs.Runs.{Call, Open, Close, Message, Ask, Same, World, start}
 use Rattle.tally.specs.Counts.{answerCount, oneMore, bump, bumps}
 use Rattle.tallyhistory.specs.Calls.{answersOf, messages, tallyOf}
@@ -18,16 +21,19 @@ use Rattle.tallyhistory.specs.Calls.{answersOf, messages, tallyOf}
 own : Own
 own = record { port = 6346; address = 127 ∷ 0 ∷ 0 ∷ 1 ∷ []; files = 0; kilobytes = 0; calls = true }
 
+terms : Terms
+terms = termsOf 0 own 4119
+
 begun : World
 begun = start (fresh 32 .state) (replicate 32 0)
 
 calls : List Call
 calls =
     Open 0
-    ∷ Message 0 0 own [] 4119 Same
-    ∷ Message 1 0 own [] 4119 Same
-    ∷ Ask (replicate 16 5) [] 4119 Same
-    ∷ Message 0 0 own (0 ∷ []) 4119 Same
+    ∷ Message 0 [] terms Same
+    ∷ Message 1 [] terms Same
+    ∷ Ask (replicate 16 5) [] terms Same
+    ∷ Message 0 (0 ∷ []) terms Same
     ∷ Close 0
     ∷ []
 
@@ -36,5 +42,6 @@ unfolding calls messages
 three = refl
 
 tallied : tallyOf begun calls ≡ 0 ∷ 0 ∷ 0 ∷ 1 ∷ 2 ∷ replicate (answerCount - 5) 0
-unfolding own begun calls answersOf oneMore bump bumps keptPlaces tableInOrder remembered find remember noTwice storedPongs lineInOrder inOrder fresh opening closing early arriving asking
+unfolding own terms begun calls answersOf oneMore bump bumps keptPlaces tableInOrder queriesIn find remember noTwice
+    memoryInOrder storedPongs lineInOrder inOrder fresh opening closing early arriving ownAnswer asking
 tallied = refl

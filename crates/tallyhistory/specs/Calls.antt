@@ -1,5 +1,5 @@
--- The tally kept beside the state over any list of calls. Each arriving message counts once, by its answer, whatever that is; openings,
--- closings and own queries do not count.
+-- The tally kept beside the state over any list of calls. Each arriving message counts once, by its answer, whatever
+-- that is; openings, closings and own queries do not count.
 use Prim.Native.Nat.{ℕ, suc, _<_, min}
 use mathlib.Core.Path.{_≡_}
 use mathlib.Core.Bool.{Bool, true, false, cond}
@@ -14,8 +14,8 @@ use Rattle.tally.specs.History.{NoneFull, zeros}
 abbrev pub isMessage : Call → Bool
 isMessage (Open l) = false
 isMessage (Close l) = false
-isMessage (Message l clock own m out a) = true
-isMessage (Ask n text out a) = false
+isMessage (Message l m t a) = true
+isMessage (Ask n text t a) = false
 
 -- the answers of the messages among these calls, in their order
 unfoldable pub answersOf : World → List Call → List ℕ
@@ -31,8 +31,8 @@ messages (c ∷ cs) = cond (isMessage c) (suc (messages cs)) (messages cs)
 abbrev pub tallyOf : World → List Call → List ℕ
 tallyOf w cs = bumps zeros (answersOf w cs)
 
--- from any world, whatever the calls: every message is answered by one of the answer numbers, each count is how many messages had its
--- answer, or full where that is more, and while none is full they sum up to the number of messages
+-- from any world, whatever the calls: every message is answered by one of the answer numbers, each count is how many
+-- messages had its answer, or full where that is more, and while none is full they sum up to the number of messages
 pub record TallyOfCalls (w : World) (cs : List Call) : Type 0 where
   pub known : all (λ n. ltb n answerCount) (answersOf w cs) ≡ true
   pub each : (k : ℕ) → k < answerCount → getD (tallyOf w cs) k 0 ≡ min full (occurrences k (answersOf w cs))
