@@ -1,38 +1,58 @@
-// Floor 4: the ordered refusals of the calls, as number functions: plain values in, a number of RULES 2.1 out, 0 where nothing is refused.
+// Floor 4: the ordered refusals of the calls, as number functions: plain values in, a number of RULES 2.1 out, 0 where nothing is refused. Each
+// makes the tests of its rules, which are those of crate protocol; a function beside it has their numbers and their order.
+ghost use Prim.Native.Nat.{_+_};
 ghost use mathlib.Core.Path.{_≡_};
-ghost use Prim.Native.Nat.{_<_, _≤_};
-ghost use lib.ListN.{length};
-ghost use Rattle.wire.specs.Header.{sizeOf};
-ghost use Rattle.refusals.specs.Numbers.{extentNumber, earlyNumber, closingNumber, openingNumber, ownNumber, queryNumber, hitNumber};
+ghost use mathlib.Core.Bool.{not};
+ghost use mathlib.Core.List.{[], _∷_};
+ghost use Rattle.laws.specs.Tests.{firstOf};
+ghost use Rattle.protocol.specs.Queries.{queryRules};
+ghost use Rattle.protocol.specs.Hits.{hitRules};
+ghost use Rattle.protocol.specs.Calls.{unfitAreas, earlyRules, openingRules, closingRules, ownRules};
+use protocol::GONE;
+use protocol::HERE;
+use protocol::LINES;
+use protocol::Lookup;
+use wire::HEADER_SIZE;
+use wire::Header;
+use wire::LARGEST_MESSAGE;
+use wire::LARGEST_PAYLOAD;
 
-// The payload length that a message's header says; 0 where there is no whole header.
-pub fn payload_size(m: &[u8]) -> u32
-    ensures { λ r. ⌜ r ≡ sizeOf (now (m .entry)) ⌝ }
+// The longest text of an own query: two bytes of speed and a zero byte go with it.
+const LARGEST_TEXT: usize = LARGEST_PAYLOAD - 3;
+
+// Do the areas that a message or an own query is lent not fit: one is too short, or the route area has another room?
+fn unfit_areas(room: usize, out: usize, route: usize) -> bool
+    ensures { λ r. ⌜ r ≡ unfitAreas room out route ⌝ }
 {
-    if m.len() < 19 {
-        return 0;
-    }
-    wire::little4(&m[19..])
+    (out < LARGEST_MESSAGE) | ((route < 32) | (route / 8 != room))
 }
 
-// Is the message whole: 4 short of its header, 5 over the largest payload, 4 short of its payload.
-pub fn extent(m: &[u8]) -> u8
-    ensures { λ r. ⌜ r ≡ extentNumber (now (m .entry)) ⌝ }
+// The number of the first that holds: state, areas, line, less than a header, payload too long, less than the payload.
+fn early_number(order: bool, unfit: bool, closed: bool, short: bool, over: bool, part: bool) -> u8
+    ensures { λ r. ⌜ r ≡ firstOf ((not order, 1) ∷ (unfit, 2) ∷ (closed, 3) ∷ (short, 4) ∷ (over, 5) ∷ (part, 4) ∷ []) ⌝ }
 {
-    if m.len() < 23 {
+    if !order {
+        return 1;
+    }
+    if unfit {
+        return 2;
+    }
+    if closed {
+        return 3;
+    }
+    if short {
         return 4;
     }
-    let size = payload_size(m) as usize;
-    if 4096 < size {
+    if over {
         return 5;
     }
-    if m.len() < 23 + size {
+    if part {
         return 4;
     }
     0
 }
 
-// The refusals of an arriving message before its type counts.
+// The refusals of an arriving message before its type counts: `len` bytes of it are there, and its header says `size` for its payload.
 pub fn early(
     order: bool,
     room: usize,
@@ -40,42 +60,32 @@ pub fn early(
     route: usize,
     line: u32,
     live: bool,
-    m: &[u8],
+    len: usize,
+    size: u32,
 ) -> u8
-    ensures { λ r. ⌜ r ≡ earlyNumber order room out route line live (now (m .entry)) ⌝ }
+    ensures { λ r. ⌜ r ≡ firstOf (earlyRules order room out route line live len size) ⌝ }
 {
-    if !order {
-        return 1;
-    }
-    if out < 4119 {
-        return 2;
-    }
-    if route < 32 {
-        return 2;
-    }
-    if route / 8 != room {
-        return 2;
-    }
-    if 8 <= line {
-        return 3;
-    }
-    if !live {
-        return 3;
-    }
-    extent(m)
+    let unfit = unfit_areas(room, out, route);
+    let closed = !(line < LINES) | !live;
+    let n = size as usize;
+    early_number(
+        order,
+        unfit,
+        closed,
+        len < HEADER_SIZE,
+        LARGEST_PAYLOAD < n,
+        len < HEADER_SIZE + n,
+    )
 }
 
-// The refusals of closing a line.
-pub fn closing(order: bool, line: u32, live: bool) -> u8
-    ensures { λ r. ⌜ r ≡ closingNumber order line live ⌝ }
+// State, line.
+fn line_number(order: bool, unfit: bool) -> u8
+    ensures { λ r. ⌜ r ≡ firstOf ((not order, 1) ∷ (unfit, 3) ∷ []) ⌝ }
 {
     if !order {
         return 1;
     }
-    if 8 <= line {
-        return 3;
-    }
-    if !live {
+    if unfit {
         return 3;
     }
     0
@@ -83,21 +93,41 @@ pub fn closing(order: bool, line: u32, live: bool) -> u8
 
 // The refusals of opening a line.
 pub fn opening(order: bool, line: u32, live: bool) -> u8
-    ensures { λ r. ⌜ r ≡ openingNumber order line live ⌝ }
+    ensures { λ r. ⌜ r ≡ firstOf (openingRules order line live) ⌝ }
+{
+    line_number(order, !(line < LINES) | live)
+}
+
+// The refusals of closing a line.
+pub fn closing(order: bool, line: u32, live: bool) -> u8
+    ensures { λ r. ⌜ r ≡ firstOf (closingRules order line live) ⌝ }
+{
+    line_number(order, !(line < LINES) | !live)
+}
+
+// State, areas, text too long, a zero byte in it, number remembered.
+fn own_number(order: bool, unfit: bool, over: bool, zero: bool, found: bool) -> u8
+    ensures { λ r. ⌜ r ≡ firstOf ((not order, 1) ∷ (unfit, 2) ∷ (over, 5) ∷ (zero, 6) ∷ (found, 9) ∷ []) ⌝ }
 {
     if !order {
         return 1;
     }
-    if 8 <= line {
-        return 3;
+    if unfit {
+        return 2;
     }
-    if live {
-        return 3;
+    if over {
+        return 5;
+    }
+    if zero {
+        return 6;
+    }
+    if found {
+        return 9;
     }
     0
 }
 
-// The refusals of an own query.
+// The refusals of an own query, whose text has `size` bytes and a zero byte or none.
 pub fn own(
     order: bool,
     room: usize,
@@ -105,83 +135,83 @@ pub fn own(
     route: usize,
     size: usize,
     zero: bool,
-    seen: bool,
+    known: Lookup,
 ) -> u8
-    ensures { λ r. ⌜ r ≡ ownNumber order room out route size zero seen ⌝ }
+    ensures { λ r. ⌜ r ≡ firstOf (ownRules order room out route size zero known) ⌝ }
 {
-    if !order {
-        return 1;
-    }
-    if out < 4119 {
-        return 2;
-    }
-    if route < 32 {
-        return 2;
-    }
-    if route / 8 != room {
-        return 2;
-    }
-    if 4093 < size {
-        return 5;
-    }
-    if zero {
-        return 6;
-    }
-    if seen {
-        return 9;
-    }
-    0
+    own_number(
+        order,
+        unfit_areas(room, out, route),
+        LARGEST_TEXT < size,
+        zero,
+        known.found,
+    )
 }
 
-// The refusals of an arriving query.
-pub fn query(limit: u8, ended: bool, ttl: u8, hops: u8, seen: bool) -> u8
-    ensures { λ r. ⌜ r ≡ queryNumber limit ended ttl hops seen ⌝ }
+// No text, TTL or Hops not permitted, number remembered, Hops that can't grow.
+fn query_number(ended: bool, unfit: bool, found: bool, hops255: bool) -> u8
+    ensures { λ r. ⌜ r ≡ firstOf ((not ended, 6) ∷ (unfit, 8) ∷ (found, 9) ∷ (hops255, 12) ∷ []) ⌝ }
 {
     if !ended {
         return 6;
     }
-    if ttl == 0 {
+    if unfit {
         return 8;
     }
-    if 15 < ttl {
-        return 8;
-    }
-    if limit <= hops {
-        return 8;
-    }
-    if seen {
+    if found {
         return 9;
     }
-    if hops == 255 {
+    if hops255 {
+        return 12;
+    }
+    0
+}
+
+// The refusals of an arriving query, whose text is ended by a zero byte or not.
+pub fn query(limit: u8, h: Header, ended: bool, known: Lookup) -> u8
+    ensures { λ r. ⌜ r ≡ firstOf (queryRules limit h ended known) ⌝ }
+{
+    let unfit = (h.ttl == 0) | ((15 < h.ttl) | (limit <= h.hops));
+    query_number(ended, unfit, known.found, h.hops == 255)
+}
+
+// Payload too short, no TTL, no such query, its line closed since, and for one that goes on: no TTL left, Hops that can't grow.
+fn hit_number(short: bool, ttl0: bool, found: bool, gone: bool, ttl1: bool, hops255: bool) -> u8
+    ensures { λ r. ⌜ r ≡ firstOf ((short, 6) ∷ (ttl0, 8) ∷ (not found, 10) ∷ (gone, 11) ∷ (ttl1, 8) ∷ (hops255, 12) ∷ []) ⌝ }
+{
+    if short {
+        return 6;
+    }
+    if ttl0 {
+        return 8;
+    }
+    if !found {
+        return 10;
+    }
+    if gone {
+        return 11;
+    }
+    if ttl1 {
+        return 8;
+    }
+    if hops255 {
         return 12;
     }
     0
 }
 
 // The refusals of a hit. One for a query that was asked here is delivered before the last two.
-pub fn hit(size: u32, ttl: u8, hops: u8, found: bool, asker: u8) -> u8
-    ensures { λ r. ⌜ r ≡ hitNumber size ttl hops found asker ⌝ }
+pub fn hit(h: Header, known: Lookup) -> u8
+    ensures { λ r. ⌜ r ≡ firstOf (hitRules h known) ⌝ }
 {
-    if size < 27 {
-        return 6;
-    }
-    if ttl == 0 {
-        return 8;
-    }
-    if !found {
-        return 10;
-    }
-    if asker == 9 {
-        return 11;
-    }
-    if asker == 8 {
-        return 0;
-    }
-    if ttl == 1 {
-        return 8;
-    }
-    if hops == 255 {
-        return 12;
-    }
-    0
+    let away = known.asker != HERE;
+    let gone = known.asker == GONE;
+    hit_number(
+        h.size < 27,
+        h.ttl == 0,
+        known.found,
+        gone,
+        away & (h.ttl == 1),
+        away & (h.hops == 255),
+    )
 }

@@ -1,40 +1,20 @@
--- Each return has what its tests showed.
+-- The areas' test is what its function ensures; the others are the rules' own.
+use mathlib.Core.Path.{_∙_}
 use borrow.Author.Needs.{needs}
-use borrow.Author.Tests.{eq-eqb, le-ltb, lt-ltb, ne-eqb}
-use Rattle.refusals.specs.Numbers.{earlyNumber, extentNumber}
 use Rattle.refusals.proofs.early.Statement.{statement}
 use Rattle.refusals.proofs.early.Tie as tie
 
+unfit-areas-requires : tie.Need-unfit-areas-requires
+unfit-areas-requires c κs = search needs
+
+add-early-number : tie.Need-add-early-number
+add-early-number c = search needs
+
+early-number-requires : tie.Need-early-number-requires
+early-number-requires c κs = search needs
+
 returns : tie.Need-returns
-unfolding earlyNumber
-returns c = simp (c .if1 .taken)
-
-returns-2 : tie.Need-returns-2
-unfolding earlyNumber
-returns-2 c = simp (c .before .if1 .left, lt-ltb _ _ (c .if2 .taken))
-
-returns-3 : tie.Need-returns-3
-unfolding earlyNumber
-returns-3 c = simp (c .before .before .if1 .left, le-ltb _ _ (c .before .if2 .left), lt-ltb _ _ (c .if3 .taken))
-
-returns-4 : tie.Need-returns-4
-unfolding earlyNumber
-returns-4 c = simp (c .before .before .before .if1 .left, le-ltb _ _ (c .before .before .if2 .left), le-ltb _ _ (c .before .if3 .left), ne-eqb _ _ (c .if4 .taken))
-
-returns-5 : tie.Need-returns-5
-unfolding earlyNumber
-returns-5 c = simp (c .before .before .before .before .if1 .left, le-ltb _ _ (c .before .before .before .if2 .left), le-ltb _ _ (c .before .before .if3 .left), eq-eqb _ _ (c .before .if4 .left), le-ltb _ _ (c .if5 .taken))
-
-returns-6 : tie.Need-returns-6
-unfolding earlyNumber
-returns-6 c = simp (c .before .before .before .before .before .if1 .left, le-ltb _ _ (c .before .before .before .before .if2 .left), le-ltb _ _ (c .before .before .before .if3 .left), eq-eqb _ _ (c .before .before .if4 .left), lt-ltb _ _ (c .before .if5 .left), c .if6 .taken)
-
-extent-requires : tie.Need-extent-requires
-extent-requires c κs = search needs
-
-returns-7 : tie.Need-returns-7
-unfolding earlyNumber extentNumber
-returns-7 c = simp (c .before .before .before .before .before .before .if1 .left, le-ltb _ _ (c .before .before .before .before .before .if2 .left), le-ltb _ _ (c .before .before .before .before .if3 .left), eq-eqb _ _ (c .before .before .before .if4 .left), lt-ltb _ _ (c .before .before .if5 .left), c .before .if6 .left) (c .extent .ensures)
+returns c = c .early-number .ensures ∙ rw (c .before .unfit-areas .ensures)
 
 pub early-spec : {M : Type 1} → statement M
-early-spec = tie.close (tie.spec returns returns-2 returns-3 returns-4 returns-5 returns-6 extent-requires returns-7)
+early-spec = tie.close (tie.spec unfit-areas-requires add-early-number early-number-requires returns)
