@@ -1,8 +1,8 @@
 -- Walks over a ring's places: a step back, a step onward, and what is left of the places before one.
 use mathlib.Core.Path.{_≡_, refl, sym, ap, _∙_}
 use mathlib.Core.List.{List, [], _∷_, _++_}
-use Prim.Native.Nat.{ℕ, zero, suc, _+_, _-_, _%_, _≤_, _<_}
-use native.Mathlib.Nat.{mod-eq-of-lt, add-mod-right, mod-self}
+use Prim.Native.Nat.{ℕ, zero, suc, _+_, _-_, _%_, _≤_, _<_, min}
+use native.Mathlib.Nat.{mod-eq-of-lt, add-mod-right, mod-self, sub-zero, min-zero, zero-min, suc-min-suc}
 use native.Mathlib.Numerals.{add-one}
 use native.Mathlib.Omega.{arith}
 use lib.ListN.{length}
@@ -32,19 +32,23 @@ module _ (capacity : ℕ) where
   places-end h (suc n) =
       rw (back-zero h, back-pos capacity h (omega arith))
 
-  -- the p + n places before p: the p below it, and n more going round
-  places-below : 0 < capacity → (p n : ℕ) → p ≤ capacity → placesBefore capacity p (p + n) ≡ placesBefore capacity p p ++ placesBefore capacity capacity n
-  places-below h zero n m = let e : 0 + n ≡ n = omega arith in rw e (places-end h n)
-  places-below h (suc p) n m =
-      let e : suc p + n ≡ suc (p + n) = omega arith in
-      let q : back capacity (suc p) ≡ p = back-pos (suc p) (omega arith) m ∙ omega arith in
-      rw (e, q) (ap (λ (l : List ℕ). p ∷ l) (places-below h p n (omega arith)))
+  -- the n places before p: those below it, and the rest going round
+  pub places-split : (p n : ℕ) → p < capacity → placesBefore capacity p n ≡ placesBefore capacity p (min n p) ++ placesBefore capacity capacity (n - min n p)
+  places-split zero n h = rw (min-zero, sub-zero) (places-end h n)
+  places-split (suc p) zero h = rw zero-min
+  places-split (suc p) (suc n) h =
+      let q : back capacity (suc p) ≡ p = back-pos (suc p) (omega arith) (omega arith) ∙ omega arith in
+      let e : suc n - suc (min n p) ≡ n - min n p = omega arith in
+      rw (suc-min-suc, e, q) (ap (_∷_ p) (places-split p n (omega arith)))
 
-  pub places-round : (p n : ℕ) → p < capacity → p ≤ n → placesBefore capacity p n ≡ placesBefore capacity p p ++ placesBefore capacity capacity (n - p)
-  places-round p n h m =
-      let e : n ≡ p + (n - p) = omega arith in
-      let z : 0 < capacity = omega arith in
-      ap (placesBefore capacity p) e ∙ places-below z p (n - p) (omega arith)
+  -- the rest stands before the least of those below p
+  pub places-rest : (p n : ℕ) → p < capacity → placesBefore capacity (p - min n p) (n - min n p) ≡ placesBefore capacity capacity (n - min n p)
+  places-rest zero n h = rw (min-zero, sub-zero n) (places-end h n)
+  places-rest (suc p) zero h = rw zero-min
+  places-rest (suc p) (suc n) h =
+      let d : suc p - suc (min n p) ≡ p - min n p = omega arith in
+      let e : suc n - suc (min n p) ≡ n - min n p = omega arith in
+      rw (suc-min-suc, d, e) (places-rest p n (omega arith))
 
   pub places-length : (p n : ℕ) → length (placesBefore capacity p n) ≡ n
   places-length p zero = refl

@@ -6,12 +6,13 @@ use native.Mathlib.Omega.{arith}
 use mathlib.Core.Path.{_≡_, refl, sym, ap, ap₂, _∙_}
 use mathlib.Core.Bool.{Bool, true, false, not}
 use mathlib.Core.List.{List, [], _∷_, map}
-use lib.Dec.{eqb, ltb}
+use lib.Dec.{eqb, leb, ltb}
 use lib.ListN.{length, getD, take}
-use borrow.Author.Tests.{eqb-false, ne-eqb, not-true, lt-ltb, le-leb, ltb-true, ltb-false}
+use borrow.Author.Tests.{eqb-false, ne-eqb, not-true, lt-ltb, le-leb, leb-true, ltb-true, ltb-false}
 use Rattle.laws.specs.Tests.{all}
-use Rattle.laws.specs.Ring.{back, onward, placesBefore, ringFits, keptPlaces}
+use Rattle.laws.specs.Ring.{back, onward, placesBefore, ringPlace, ringFits, keptPlaces}
 use Rattle.laws.proofs.Refusals.{and-fst, and-snd, and-intro, of-choice}
+use Rattle.laws.proofs.RingScan.{places-length}
 
 -- functions that agree where a test holds map a list that passes it alike
 module _ {A B : Type 0} where
@@ -81,6 +82,13 @@ module _ (c : ℕ) (some : 0 < c) where
   places-take (suc m) zero p = rw min-zero
   places-take (suc m) (suc n) p = rw suc-min-suc (ap (_∷_ (back c p)) (places-take m n (back c p)))
 
+  place-at : (n p i : ℕ) → i < n → n ≤ c → getD (placesBefore c p n) i 0 ≡ ringPlace c p i
+  place-at zero p i h m = absurd (omega arith)
+  place-at (suc n) p zero h m = refl
+  place-at (suc n) p (suc i) h m =
+      let e : c - suc i ≡ suc (c - suc (suc i)) = omega arith in
+      place-at n (back c p) i (omega arith) (omega arith) ∙ rw e (round p (c - suc (suc i)))
+
   pub kept-below : (p n : ℕ) → all (λ x. ltb x c) (keptPlaces c p n) ≡ true
   unfolding keptPlaces
   kept-below p n = of-choice (λ (xs : List ℕ). all (λ x. ltb x c) xs ≡ true) (ringFits c p n) (placesBefore c p n) [] (λ _. places-below n p) (λ _. refl)
@@ -88,6 +96,17 @@ module _ (c : ℕ) (some : 0 < c) where
   kept-all : (p n : ℕ) → p < c → n ≤ c → keptPlaces c p n ≡ placesBefore c p n
   unfolding keptPlaces
   kept-all p n hp hn = rw (le-leb n c hn, lt-ltb p c hp)
+
+-- the place of the i-th of the kept
+pub kept-at : (c p n i : ℕ) → i < length (keptPlaces c p n) → getD (keptPlaces c p n) i 0 ≡ ringPlace c p i
+unfolding keptPlaces
+kept-at c p n i =
+    of-choice (λ (xs : List ℕ). i < length xs → getD xs i 0 ≡ ringPlace c p i) (ringFits c p n) (placesBefore c p n) []
+    (λ f h.
+    let m : n ≤ c = leb-true n c (and-fst (leb n c) (ltb p c) f) in
+    let k : p < c = ltb-true p c (and-snd (leb n c) (ltb p c) f) in
+    place-at c (omega arith) n p i (rw places-length at h) m)
+    (λ f h. absurd (omega arith))
 
 -- one more is put at the next place: reading the ring anew gives the new one and then the old ones, within the capacity
 module _ {B : Type 0} (k p n : ℕ) (hp : p < suc k) (hn : n ≤ suc k) (new old : ℕ → B) where

@@ -17,6 +17,10 @@ abbrev pub placesBefore : ℕ → ℕ → ℕ → List ℕ
 placesBefore capacity p zero = []
 placesBefore capacity p (suc n) = back capacity p ∷ placesBefore capacity (back capacity p) n
 
+-- the place behind which i others stand before p, going round: the newest of a ring, where p is next and i 0
+abbrev pub ringPlace : ℕ → ℕ → ℕ → ℕ
+ringPlace capacity p i = (p + (capacity - suc i)) % capacity
+
 -- a ring's count and next place are within its capacity
 abbrev pub ringFits : ℕ → ℕ → ℕ → Bool
 ringFits capacity next count = leb count capacity && ltb next capacity
