@@ -1,17 +1,22 @@
 -- What the leaves of the test of order cite.
 use Prim.Native.Nat.{ℕ, _%_}
 use mathlib.Core.Path.{_≡_}
-use mathlib.Core.Bool.{Bool, true, not, _&&_}
+use mathlib.Core.Bool.{Bool, true, false, not, _&&_}
 use mathlib.Core.List.{List}
 use lib.Bits.{bitOr}
 use lib.Dec.{eqb, leb}
 use lib.ListN.{length, getD}
-use Rattle.laws.specs.Tests.{all}
-use Rattle.protocol.specs.Memory.{Query, gone, sameNumber, noTwice}
+use Rattle.laws.specs.Tests.{any, all}
+use Rattle.protocol.specs.Memory.{Memory, Query, queryAt, gone, sameNumber, noTwice}
+use Rattle.memory.specs.Queries.{queriesBefore}
 
 -- q has the number of p
 abbrev pub sameAs : Query → Query → Bool
 sameAs p q = sameNumber (q .number) (p .number)
+
+-- the number at the ring's next place stands among those before it
+abbrev pub isMet : ℕ → Memory → Bool
+isMet n q = any (sameAs (queryAt q (q .next))) (queriesBefore n q)
 
 -- the filter's word for a number, by the lowest ten bits of its first half
 abbrev pub wordOf : List ℕ → Query → ℕ
@@ -26,6 +31,11 @@ pub record Passed (filter : List ℕ) (qs : List Query) : Type 0 where
   pub size : length filter ≡ 1024
   pub apart : noTwice qs ≡ true
   pub has : all (marked filter) qs ≡ true
+
+-- what a test tells of the queries that it went through: they were passed, or a number stands twice
+abbrev pub Tested : Bool → List ℕ → List Query → Type 0
+Tested true filter qs = Passed filter qs
+Tested false filter qs = noTwice qs ≡ false
 
 -- an asker is a line, here or gone, and not this line
 abbrev pub fitsBeside : ℕ → ℕ → Bool

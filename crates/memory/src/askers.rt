@@ -1,34 +1,26 @@
 // Whether every remembered query's asker is an open line, here or gone. The tests pass over bytes without a way out, so that many
 // bytes are tested at a time.
-ghost use Prim.Native.Nat.{_<_, _≤_};
+ghost use Prim.Native.Nat.{ℕ, _<_, _≤_};
 ghost use mathlib.Core.Path.{_≡_};
-ghost use mathlib.Core.Bool.{_&&_, _||_};
+ghost use mathlib.Core.Bool.{Bool, false, _||_};
 ghost use lib.ListN.{length, getD};
 ghost use Rattle.laws.specs.Ring.{placesBefore};
 ghost use Rattle.laws.specs.Tests.{all};
-ghost use Rattle.memory.specs.Queries.{askerFitsIn};
+ghost use Rattle.protocol.specs.Memory.{askerFits};
 ghost use Rattle.memory.specs.Order.{fitsBeside};
+use crate::places::below;
+use protocol::GONE;
+use protocol::NOBODY;
 
-fn both(a: bool, b: bool) -> bool
-    ensures { λ r. ⌜ r ≡ (a && b) ⌝ }
-{
-    if a { b } else { false }
-}
-
-fn fits_beside(line: u8, a: u8) -> bool
-    ensures { λ r. ⌜ r ≡ fitsBeside line a ⌝ }
-{
-    if a <= 9 { a != line } else { false }
-}
-
-// Are the askers of the part all at most 9, and none of them this line?
+// Are the askers of the part lines, here or gone, and none of them this line?
 fn all_fit_beside(part: &[u8], line: u8) -> bool
     ensures { λ r. ⌜ r ≡ all (fitsBeside line) (now (part .entry)) ⌝ }
 {
     let mut good = true;
     let mut i = 0;
     while i < part.len() {
-        good = both(good, fits_beside(line, part[i]));
+        let a = part[i];
+        good = good & ((a <= GONE) & (a != line));
         i += 1;
     }
     good
@@ -44,35 +36,27 @@ fn open_or_absent(live: bool, part: &[u8], line: u8) -> bool
     }
 }
 
-// One pass for each closed line, and one before them with 10, which is no line.
+// One pass for each closed line, and one before them for nobody, who is no line.
 fn part_fits(part: &[u8], live: [bool; 8]) -> bool
-    ensures { λ r. ⌜ r ≡ all (askerFitsIn live) (now (part .entry)) ⌝ }
+    ensures { λ r. ⌜ r ≡ all (askerFits (λ k. getD live k false)) (now (part .entry)) ⌝ }
 {
-    if !all_fit_beside(part, 10) {
-        return false;
-    }
+    let mut good = all_fit_beside(part, NOBODY);
     let mut k = 0;
     while k < 8 {
-        if !open_or_absent(live[k], part, k as u8) {
-            return false;
-        }
+        good = good & open_or_absent(live[k], part, k as u8);
         k += 1;
     }
-    true
+    good
 }
 
-// The kept places are those just below `next`, and, where these are fewer than `count`, those at the end of the slice.
-pub(crate) fn askers_fit(asker: &[u8], next: usize, count: usize, live: [bool; 8]) -> bool
+pub(crate) fn askers_fit(asker: &[u8], count: usize, next: usize, live: [bool; 8]) -> bool
     requires { ⌜ (next < length (now asker)) × (count ≤ length (now asker)) ⌝ }
-    ensures { λ r. ⌜ r ≡ all (λ p. askerFitsIn live (getD (now (asker .entry)) p 0)) (placesBefore (length (now (asker .entry))) next count) ⌝ }
+    ensures { λ r.
+        let fits : ℕ → Bool = λ p. askerFits (λ k. getD live k false) (getD (now (asker .entry)) p 0) in
+        ⌜ r ≡ all fits (placesBefore (length (now (asker .entry))) next count) ⌝ }
 {
-    if count <= next {
-        let from = next - count;
-        return part_fits(&asker[from..next], live);
-    }
-    if !part_fits(&asker[..next], live) {
-        return false;
-    }
-    let from = asker.len() - (count - next);
-    part_fits(&asker[from..], live)
+    let first = below(count, next);
+    let from = next - first;
+    let end = asker.len() - (count - first);
+    part_fits(&asker[from..next], live) & part_fits(&asker[end..], live)
 }

@@ -2,11 +2,12 @@
 ghost use mathlib.Core.Path.{_≡_};
 ghost use mathlib.Core.List.{map};
 ghost use Rattle.protocol.specs.Memory.{left};
+use protocol::GONE;
 
 fn left_by(line: u8, asker: u8) -> u8
     ensures { λ r. ⌜ r ≡ left line asker ⌝ }
 {
-    if asker == line { 9 } else { asker }
+    if asker == line { GONE } else { asker }
 }
 
 // All places are marked, kept or not: only the kept ones are ever read.

@@ -1,8 +1,18 @@
-// Floor 4: leaves over the ring of remembered queries. They take slices of any length, whose capacity is the length of `lo`; the test of
-// order takes a state's arrays.
+// Floor 4: leaves over the ring of remembered queries. They take slices of any length, whose capacity is the length of `lo`; what the station
+// calls for its own ring of 512 takes arrays.
 mod askers;
 pub mod leave;
 mod numbers;
 pub mod order;
 pub mod places;
+pub mod remember;
 pub mod search;
+
+use protocol::Lookup;
+
+// Whether the remembered queries are in order, and what is known of a number.
+#[repr(C)]
+pub struct Survey {
+    pub order: bool,
+    pub known: Lookup,
+}

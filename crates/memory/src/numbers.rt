@@ -1,81 +1,80 @@
 // Whether no number stands twice among the remembered queries, in one pass over them.
-ghost use Prim.Native.Nat.{_+_, _-_, _<_, _≤_};
+ghost use Prim.Native.Nat.{_+_, _<_, _≤_};
 ghost use mathlib.Core.Path.{_≡_};
-ghost use mathlib.Core.Bool.{true, false};
+ghost use mathlib.Core.Bool.{false};
 ghost use lib.ListN.{length};
-ghost use Rattle.laws.specs.Tests.{any};
-ghost use Rattle.protocol.specs.Memory.{noTwice};
-ghost use Rattle.memory.specs.Queries.{queryIn, queriesBefore};
-ghost use Rattle.memory.specs.Order.{sameAs, Passed};
+ghost use Rattle.protocol.specs.Memory.{memoryOf};
+ghost use Rattle.memory.specs.Queries.{queriesBefore};
+ghost use Rattle.memory.specs.Order.{isMet, Passed, Tested};
+use crate::places::below;
 use crate::places::word_at;
 use crate::search::find;
 
-// Does the number at place p stand among the i queries before it? They are looked through only where it may.
-fn met<'a>(maybe: bool, lo: &'a [u64], hi: &'a [u64], asker: &'a [u8], p: usize, i: usize) -> bool
-    requires { ⌜ (p < length (now lo)) × (i ≤ length (now lo)) ⌝ }
-    requires { ⌜ (maybe ≡ false → any (sameAs (queryIn (now lo) (now hi) (now asker) p)) (queriesBefore (now lo) (now hi) (now asker) p i) ≡ false) ⌝ }
-    ensures { λ r. ⌜ r ≡ any (sameAs (queryIn (now (lo .entry)) (now (hi .entry)) (now (asker .entry)) p)) (queriesBefore (now (lo .entry)) (now (hi .entry)) (now (asker .entry)) p i) ⌝ }
+// Does the number at place p stand among the n queries before it? They are looked through only where it may.
+fn met<'a>(maybe: bool, lo: &'a [u64], hi: &'a [u64], asker: &'a [u8], p: usize, n: usize) -> bool
+    requires { ⌜ (p < length (now lo)) × (n ≤ length (now lo)) ⌝ }
+    requires { ⌜ (maybe ≡ false → isMet (length (now lo)) (memoryOf (now lo) (now hi) (now asker) n p) ≡ false) ⌝ }
+    ensures { λ r. ⌜ r ≡ isMet (length (now (lo .entry))) (memoryOf (now (lo .entry)) (now (hi .entry)) (now (asker .entry)) n p) ⌝ }
 {
     if maybe {
-        let r = find(lo, hi, asker, p, i, lo[p], word_at(hi, p));
+        let r = find(lo, hi, asker, n, p, lo[p], word_at(hi, p));
         r.found
     } else {
         false
     }
 }
 
-// The queries at the places `from` to `to`, behind `passed` others. A word of the filter joins the first halves passed that agree in
-// their lowest ten bits: a number with a bit that its word lacks was not passed.
+// The n queries from place `from` on, behind `passed` older ones. A word of the filter joins the first halves passed that agree in their lowest
+// ten bits: a number with a bit that its word lacks was not passed.
 fn no_twice_in<'a>(
-    lo: &'a [u64; 512],
-    hi: &'a [u64; 512],
-    asker: &'a [u8; 512],
+    lo: &'a [u64],
+    hi: &'a [u64],
+    asker: &'a [u8],
     from: usize,
-    to: usize,
+    n: usize,
     passed: usize,
     filter: &mut [u64; 1024],
 ) -> bool
-    requires { ⌜ (from ≤ to) × (to ≤ length (now lo)) × (passed + (to - from) ≤ length (now lo)) × (length (now lo) ≡ 512) ⌝ }
-    requires { ⌜ Passed (now filter) (queriesBefore (now lo) (now hi) (now asker) from passed) ⌝ }
-    ensures { λ r. ⌜ r ≡ noTwice (queriesBefore (now (lo .entry)) (now (hi .entry)) (now (asker .entry)) to (passed + (to - from))) ⌝ }
-    ensures { λ r. ⌜ (r ≡ true → Passed (now (filter .exit)) (queriesBefore (now (lo .entry)) (now (hi .entry)) (now (asker .entry)) to (passed + (to - from)))) ⌝ }
+    requires { ⌜ (from + n ≤ length (now lo)) × (passed + n ≤ length (now lo)) ⌝ }
+    requires { ⌜ Passed (now filter) (queriesBefore (length (now lo)) (memoryOf (now lo) (now hi) (now asker) passed from)) ⌝ }
+    ensures { λ r.
+        let ring = memoryOf (now (lo .entry)) (now (hi .entry)) (now (asker .entry)) (passed + n) (from + n) in
+        ⌜ Tested r (now (filter .exit)) (queriesBefore (length (now (lo .entry))) ring) ⌝ }
 {
-    let mut p = from;
-    while p < to {
+    let mut i = 0;
+    while i < n {
+        let p = from + i;
         let a = lo[p];
         let h = (a % 1024) as usize;
         let word = filter[h];
         let more = word | a;
-        if met(more == word, lo, hi, asker, p, passed + (p - from)) {
+        if met(more == word, lo, hi, asker, p, passed + i) {
             return false;
         }
         filter[h] = more;
-        p += 1;
+        i += 1;
     }
     true
 }
 
-// The kept places are those just below `next`, and, where these are fewer than `count`, those at the end of the arrays. The filter is
-// handed in empty: bits that no number brought only cost look-ups.
+// The oldest queries are those at the end of the slices. The filter is handed in empty: bits that no number brought only cost look-ups.
 pub(crate) fn no_twice<'a>(
-    lo: &'a [u64; 512],
-    hi: &'a [u64; 512],
-    asker: &'a [u8; 512],
-    next: usize,
+    lo: &'a [u64],
+    hi: &'a [u64],
+    asker: &'a [u8],
     count: usize,
+    next: usize,
     filter: &mut [u64; 1024],
 ) -> bool
-    requires { ⌜ (next < length (now lo)) × (count ≤ length (now lo)) × (length (now filter) ≡ 1024) × (length (now lo) ≡ 512) ⌝ }
-    ensures { λ r. ⌜ r ≡ noTwice (queriesBefore (now (lo .entry)) (now (hi .entry)) (now (asker .entry)) next count) ⌝ }
-    ensures { λ r. ⌜ (r ≡ true → Passed (now (filter .exit)) (queriesBefore (now (lo .entry)) (now (hi .entry)) (now (asker .entry)) next count)) ⌝ }
+    requires { ⌜ (next < length (now lo)) × (count ≤ length (now lo)) × (length (now filter) ≡ 1024) ⌝ }
+    ensures { λ r.
+        let ring = memoryOf (now (lo .entry)) (now (hi .entry)) (now (asker .entry)) count next in
+        ⌜ Tested r (now (filter .exit)) (queriesBefore (length (now (lo .entry))) ring) ⌝ }
 {
-    if count <= next {
-        return no_twice_in(lo, hi, asker, next - count, next, 0, filter);
-    }
-    let capacity = lo.len();
-    let round = count - next;
-    if !no_twice_in(lo, hi, asker, capacity - round, capacity, 0, filter) {
+    let first = below(count, next);
+    let rest = count - first;
+    if !no_twice_in(lo, hi, asker, lo.len() - rest, rest, 0, filter) {
         return false;
     }
-    no_twice_in(lo, hi, asker, 0, next, round, filter)
+    no_twice_in(lo, hi, asker, next - first, first, rest, filter)
 }

@@ -1,7 +1,7 @@
-// Elements of slices, read without a bound, and whether a ring fits its slices.
+// Elements of slices, read without a bound, and the lesser of two numbers.
+ghost use Prim.Native.Nat.{min};
 ghost use mathlib.Core.Path.{_≡_};
 ghost use lib.ListN.{getD};
-ghost use Rattle.laws.specs.Ring.{ringFits};
 
 // The number at place i; 0 past the end.
 pub fn word_at(s: &[u64], i: usize) -> u64
@@ -16,13 +16,10 @@ pub fn byte_at(s: &[u8], i: usize) -> u8
     if i < s.len() { s[i] } else { 0 }
 }
 
-// Are a ring's count and next place within its capacity?
-pub fn ring_fits(capacity: usize, next: usize, count: usize) -> bool
-    ensures { λ r. ⌜ r ≡ ringFits capacity next count ⌝ }
+// The kept places of a ring are those just below `next`, as many as there are or are kept, and the rest at the end of its slices. This many are
+// below.
+pub(crate) fn below(count: usize, next: usize) -> usize
+    ensures { λ r. ⌜ r ≡ min count next ⌝ }
 {
-    if count <= capacity {
-        next < capacity
-    } else {
-        false
-    }
+    if count < next { count } else { next }
 }
