@@ -1,5 +1,6 @@
 // The numbers of a PATCH, of 4 or 8 bits each: tried against entries, and added to them. Data of 4 bits is unpacked, a block at a time, to numbers
 // of 8 bits with the same values, so that every number goes through the loops of `bytes_fit` and `add_bytes`.
+use wire::wide;
 ghost use mathlib.Core.Path.{_≡_};
 ghost use mathlib.Core.Bool.{true};
 ghost use Prim.Native.Nat.{_+_, _*_, _%_, _≤_, _<_, _^_, min};
@@ -19,12 +20,6 @@ pub(crate) fn number_count(bits: u8, n: usize) -> usize
         return n * 2;
     }
     n
-}
-
-fn wide(x: u8) -> u16
-    ensures { λ r. ⌜ (r ≡ x) × (r < 256) ⌝ }
-{
-    x as u16
 }
 
 // The entry with an 8-bit number added, modulo 256: no branch, so that sums of many entries are taken at once.

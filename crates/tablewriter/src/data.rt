@@ -1,6 +1,7 @@
 // The data of a run, byte by byte: the differences of the entries as two's complement numbers.
 use crate::good::base_at;
 use crate::run::Plan;
+use wire::wide;
 ghost use mathlib.Core.Path.{_≡_};
 ghost use mathlib.Core.Bool.{true};
 ghost use Prim.Native.Nat.{_+_, _-_, _*_, _%_, _≤_, _<_};
@@ -19,12 +20,6 @@ pub(crate) fn data_length(small: bool, n: usize) -> usize
     n
 }
 
-fn wide(x: u8) -> u16
-    ensures { λ r. ⌜ (r ≡ x) × (r < 256) ⌝ }
-{
-    x as u16
-}
-
 // The difference e - b in 8 bits.
 fn difference(e: u8, b: u8) -> u8
     ensures { λ r. ⌜ r ≡ rawIn 256 e b ⌝ }
@@ -33,7 +28,7 @@ fn difference(e: u8, b: u8) -> u8
 }
 
 // Entries i and i + 1 as one number, the first in its low byte: they are read at once.
-fn pair_at(entries: &[u8], i: usize) -> u16
+fn pair_at(entries: &[u8], i: usize) -> u32
     requires { ⌜ i + 1 < length (now entries) ⌝ }
     ensures { λ r. ⌜ r ≡ pairOf (now (entries .entry)) i ⌝ }
 {
@@ -41,7 +36,7 @@ fn pair_at(entries: &[u8], i: usize) -> u16
 }
 
 // What the differences of entries i and i + 1 are taken from, as one number.
-fn base_pair<'a>(plan: Plan, old: &'a [u8], new: &'a [u8], i: usize) -> u16
+fn base_pair<'a>(plan: Plan, old: &'a [u8], new: &'a [u8], i: usize) -> u32
     requires { ⌜ (length (baseBy plan (now old) (now new)) ≡ length (now new)) × (i + 1 < length (now new)) ⌝ }
     ensures { λ r. ⌜ (r ≡ pairOf (baseBy plan (now (old .entry)) (now (new .entry))) i) × (getD (baseBy plan (now (old .entry)) (now (new .entry))) i 0 < 256) ⌝ }
 {
@@ -52,7 +47,7 @@ fn base_pair<'a>(plan: Plan, old: &'a [u8], new: &'a [u8], i: usize) -> u16
 }
 
 // The last four bits of e - b.
-fn low_bits(e: u16, b: u16) -> u16
+fn low_bits(e: u32, b: u32) -> u32
     ensures { λ r. ⌜ r ≡ (e % 16 + 16 - b % 16) % 16 ⌝ }
 {
     (e % 16 + 16 - b % 16) % 16
