@@ -18,8 +18,8 @@ use Rattle.tables.specs.declared.Table.{Table}
 use Rattle.tables.specs.Tables.{Held, heldIn}
 use Rattle.tables.specs.Updates.{isPatch, updated, patchBy, brokenBy}
 use Rattle.tables.proofs.KeepLaws.{moved-length, patched-length}
-use Rattle.tablewriter.specs.RoundTrip.{answerTo, after}
-use Rattle.tablewriter.proofs.Whole.{Whole}
+use Rattle.tablemessages.specs.RoundTrip.{answerTo, after}
+use Rattle.tablemessages.proofs.Whole.{Whole}
 use Rattle.protocol.specs.declared.Line.{Line}
 use Rattle.protocol.specs.declared.Station.{Station}
 use Rattle.protocol.specs.declared.Own.{Own}

@@ -11,8 +11,8 @@ use Rattle.wire.specs.Header.{message}
 use Rattle.tables.specs.Tables.{goodLength, tableInOrder}
 use Rattle.tables.specs.Patch.{numbers, packed, added, allFit}
 use Rattle.tables.specs.Updates.{updateAnswer, updated, goodReset, goodPatch, inTurn, inRange, resetBy, movedOn, patchBy, brokenBy}
-use Rattle.tablewriter.specs.Writer.{allNear, raws, dataOf, chunks, runFrom, messagesOf, joined, goodTable, writerAnswer, writerBytes, writerResult, writerOut}
-use Rattle.tablewriter.specs.RoundTrip.{settledAs}
+use Rattle.tablemessages.specs.Writer.{allNear, raws, dataOf, chunks, runFrom, messagesOf, joined, goodTable, writerAnswer, writerBytes, writerResult, writerOut}
+use Rattle.tablemessages.specs.RoundTrip.{settledAs}
 use Rattle.protocol.specs.declared.Station.{Station}
 use Rattle.protocol.specs.Memory.{remembered, noTwice}
 use Rattle.protocol.specs.Lines.{storedPongs, heldAt}

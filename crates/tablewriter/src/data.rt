@@ -1,14 +1,14 @@
 // The data of a run, byte by byte: the differences of the entries as two's complement numbers.
 use crate::good::base_at;
-use crate::run::Plan;
+use tablemessages::Plan;
 use wire::wide;
 ghost use mathlib.Core.Path.{_≡_};
 ghost use mathlib.Core.Bool.{true};
 ghost use Prim.Native.Nat.{_+_, _-_, _*_, _%_, _≤_, _<_};
 ghost use lib.ListN.{length, getD, take, drop};
 ghost use Rattle.laws.specs.Parts.{over};
-ghost use Rattle.tablewriter.specs.Writer.{allNear};
-ghost use Rattle.tablewriter.specs.Steps.{Sound, rawIn, pairOf, pairIn, baseBy, dataBy, dataLength};
+ghost use Rattle.tablemessages.specs.Writer.{allNear};
+ghost use Rattle.tablemessages.specs.Steps.{Sound, rawIn, pairOf, pairIn, baseBy, dataBy, dataLength};
 
 // How many bytes of data n entries take.
 pub(crate) fn data_length(small: bool, n: usize) -> usize

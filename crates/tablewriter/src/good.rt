@@ -5,8 +5,8 @@ ghost use Prim.Native.Nat.{_+_, _<_, min};
 ghost use lib.ListN.{length, getD};
 ghost use Rattle.laws.specs.Tests.{all};
 ghost use Rattle.tables.specs.Tables.{goodLength};
-ghost use Rattle.tablewriter.specs.Writer.{baseOf, near, allNear, goodTable, inRange};
-ghost use Rattle.tablewriter.specs.Steps.{mayWrite};
+ghost use Rattle.tablemessages.specs.Writer.{baseOf, near, allNear, goodTable, inRange};
+ghost use Rattle.tablemessages.specs.Steps.{mayWrite};
 
 const LENGTHS: [usize; 15] = [
     4,

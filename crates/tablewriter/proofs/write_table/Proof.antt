@@ -6,12 +6,12 @@ use lib.ListN.{length}
 use borrow.Author.Needs.{needs}
 use borrow.Author.Tests.{not-true, not-false}
 use Rattle.laws.specs.Parts.{over}
-use Rattle.tablewriter.specs.Writer.{baseOf, dataOf, partsOf, messagesOf, joined}
-use Rattle.tablewriter.specs.Steps.{mayWrite}
-use Rattle.tablewriter.proofs.AnswerLaws.{bad-given, too-many, too-short, all-well, refused, accepted, reset-few, bytes-length}
-use Rattle.tablewriter.proofs.DataLaws.{base-length}
-use Rattle.tablewriter.proofs.GoodLaws.{GoodCall, call-to}
-use Rattle.tablewriter.proofs.CallLaws.{data-count, data-few, count-same, plan-fits, all-same}
+use Rattle.tablemessages.specs.Writer.{baseOf, dataOf, partsOf, messagesOf, joined}
+use Rattle.tablemessages.specs.Steps.{mayWrite}
+use Rattle.tablemessages.proofs.AnswerLaws.{bad-given, too-many, too-short, all-well, refused, accepted, reset-few, bytes-length}
+use Rattle.tablemessages.proofs.DataLaws.{base-length}
+use Rattle.tablemessages.proofs.GoodLaws.{GoodCall, call-to}
+use Rattle.tablemessages.proofs.CallLaws.{data-count, data-few, count-same, plan-fits, all-same}
 use Rattle.tablewriter.proofs.write_table.Statement.{statement}
 use Rattle.tablewriter.proofs.write_table.Tie as tie
 

@@ -3,8 +3,8 @@ use mathlib.Core.Path.{_≡_, refl, sym, ap, _∙_}
 use mathlib.Core.Bool.{_&&_, and-true}
 use native.Mathlib.Omega.{arith}
 use lib.ListN.{length, drop, getD}
-use Rattle.tablewriter.specs.Writer.{baseOf, near, allNear}
-use Rattle.tablewriter.proofs.DataLaws.{near-more, near-end}
+use Rattle.tablemessages.specs.Writer.{baseOf, near, allNear}
+use Rattle.tablemessages.proofs.DataLaws.{near-more, near-end}
 use borrow.Author.Needs.{needs}
 use Rattle.tablewriter.proofs.good.all_near.Statement.{statement}
 use Rattle.tablewriter.proofs.good.all_near.Tie as tie

@@ -3,7 +3,7 @@ use mathlib.Core.Bool.{true, false}
 use lib.ListN.{length}
 use borrow.Author.Tests.{lt-leb, le-leb, not-true, not-false}
 use Rattle.tables.specs.Tables.{goodLength}
-use Rattle.tablewriter.specs.Writer.{goodTable}
+use Rattle.tablemessages.specs.Writer.{goodTable}
 use borrow.Author.Needs.{needs}
 use Rattle.tablewriter.proofs.good.good_table.Statement.{statement}
 use Rattle.tablewriter.proofs.good.good_table.Tie as tie

@@ -1,6 +1,6 @@
 use mathlib.Core.Path.{sym, _∙_}
 use borrow.Author.Tests.{lt-leb, le-leb, eq-eqb, ne-eqb, not-true, not-false}
-use Rattle.tablewriter.specs.Steps.{mayWrite}
+use Rattle.tablemessages.specs.Steps.{mayWrite}
 use borrow.Author.Needs.{needs}
 use Rattle.tablewriter.proofs.good.may_write.Statement.{statement}
 use Rattle.tablewriter.proofs.good.may_write.Tie as tie

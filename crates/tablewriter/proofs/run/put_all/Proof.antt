@@ -3,8 +3,8 @@ use mathlib.Core.Path.{ap, _∙_}
 use native.Mathlib.Omega.{arith}
 use lib.ListN.{length, length-take, length-drop}
 use Rattle.laws.specs.Parts.{over}
-use Rattle.tablewriter.specs.Steps.{resetLength}
-use Rattle.tablewriter.proofs.AllLaws.{more-room, all-had, all-stored}
+use Rattle.tablemessages.specs.Steps.{resetLength}
+use Rattle.tablemessages.proofs.AllLaws.{more-room, all-had, all-stored}
 use borrow.Author.Needs.{needs}
 use Rattle.tablewriter.proofs.run.put_all.Statement.{statement}
 use Rattle.tablewriter.proofs.run.put_all.Tie as tie

@@ -1,5 +1,5 @@
-use Rattle.tablewriter.specs.Steps.{dataBy}
-use Rattle.tablewriter.proofs.MessageLaws.{patch-stored}
+use Rattle.tablemessages.specs.Steps.{dataBy}
+use Rattle.tablemessages.proofs.MessageLaws.{patch-stored}
 use Prim.Native.Nat.{ℕ, _-_}
 use mathlib.Core.Path.{_≡_, refl, _∙_}
 use mathlib.Core.List.{List, [], _∷_}

@@ -2,9 +2,9 @@ use Prim.Native.Nat.{_+_, _-_, _≤_, _<_, min}
 use mathlib.Core.Path.{_≡_, ap, sym, _∙_}
 use native.Mathlib.Omega.{arith}
 use lib.ListN.{length, length-take, length-drop}
-use Rattle.tablewriter.specs.Steps.{dataBy}
-use Rattle.tablewriter.proofs.PlanLaws.{plan-length}
-use Rattle.tablewriter.proofs.TurnLaws.{At, begins, ends, turn, turn-data, turn-place, turn-room}
+use Rattle.tablemessages.specs.Steps.{dataBy}
+use Rattle.tablemessages.proofs.PlanLaws.{plan-length}
+use Rattle.tablemessages.proofs.TurnLaws.{At, begins, ends, turn, turn-data, turn-place, turn-room}
 use borrow.Author.Needs.{needs}
 use Rattle.tablewriter.proofs.run.put_run.Statement.{statement}
 use Rattle.tablewriter.proofs.run.put_run.Tie as tie

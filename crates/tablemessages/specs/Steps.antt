@@ -6,8 +6,8 @@ use mathlib.Core.List.{List, [], _++_}
 use lib.Dec.{eqb, leb}
 use lib.ListN.{length, getD}
 use Rattle.tables.specs.Patch.{packed}
-use Rattle.tablewriter.specs.declared.run.Plan.{Plan}
-use Rattle.tablewriter.specs.Writer.{baseOf, allNear, raws, partsOf, update, resetPayload, patchPayload, runFrom, joined, goodTable}
+use Rattle.tablemessages.specs.declared.Plan.{Plan}
+use Rattle.tablemessages.specs.Writer.{baseOf, allNear, raws, partsOf, update, resetPayload, patchPayload, runFrom, joined, goodTable}
 
 -- the tables and the data size may be written: all that is 14 but a run that is too long
 unfoldable pub mayWrite : Bool → List ℕ → ℕ → List ℕ → ℕ → ℕ → Bool

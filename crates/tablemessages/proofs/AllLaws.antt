@@ -10,9 +10,9 @@ use Rattle.laws.specs.Parts.{over}
 use Rattle.laws.proofs.Over.{over-length}
 use Rattle.laws.proofs.Writing.{written-next, lent-part}
 use Rattle.wire.proofs.HeaderLaws.{message-length}
-use Rattle.tablewriter.specs.declared.run.Plan.{Plan}
-use Rattle.tablewriter.specs.Writer.{update, resetPayload}
-use Rattle.tablewriter.specs.Steps.{Runs, dataBy, leftOf, allBy}
+use Rattle.tablemessages.specs.declared.Plan.{Plan}
+use Rattle.tablemessages.specs.Writer.{update, resetPayload}
+use Rattle.tablemessages.specs.Steps.{Runs, dataBy, leftOf, allBy}
 
 -- more room does no harm
 pub more-room : (number : List ℕ) (p : Plan) (old new : List ℕ) (r s : ℕ) → Runs number p old new r → r ≤ s → Runs number p old new s

@@ -8,8 +8,8 @@ use Rattle.wire.specs.Header.{message}
 use Rattle.tables.specs.Tables.{heldIn, noTable, goodLength}
 use Rattle.tables.specs.Patch.{numbers, packed, added, allFit}
 use Rattle.tables.specs.Updates.{updateAnswer, updated, goodReset, goodPatch, inTurn, inRange, resetBy, movedOn, patchBy, brokenBy}
-use Rattle.tablewriter.specs.Writer.{allNear, raws, dataOf, chunks, runFrom, messagesOf, joined, goodTable, writerAnswer, writerBytes, writerOut}
-use Rattle.tablewriter.specs.RoundTrip.{afterAll, settledAs}
+use Rattle.tablemessages.specs.Writer.{allNear, raws, dataOf, chunks, runFrom, messagesOf, joined, goodTable, writerAnswer, writerBytes, writerOut}
+use Rattle.tablemessages.specs.RoundTrip.{afterAll, settledAs}
 
 new : List ℕ
 new = 8 ∷ 1 ∷ 8 ∷ 1 ∷ []

@@ -11,10 +11,10 @@ use Rattle.laws.specs.Parts.{over}
 use Rattle.laws.proofs.Over.{over-length}
 use Rattle.laws.proofs.Writing.{written-next, lent-part, take-min, drop-min, take-through, drop-through}
 use Rattle.wire.proofs.HeaderLaws.{message-length}
-use Rattle.tablewriter.specs.declared.run.Plan.{Plan}
-use Rattle.tablewriter.specs.Writer.{chunks, partsOf, runFrom, joined, patchPayload}
-use Rattle.tablewriter.specs.Steps.{bitsBy, patchWith, leftOf}
-use Rattle.tablewriter.proofs.RunLaws.{parts-next}
+use Rattle.tablemessages.specs.declared.Plan.{Plan}
+use Rattle.tablemessages.specs.Writer.{chunks, partsOf, runFrom, joined, patchPayload}
+use Rattle.tablemessages.specs.Steps.{bitsBy, patchWith, leftOf}
+use Rattle.tablemessages.proofs.RunLaws.{parts-next}
 
 -- the next message, and what is left after it
 pub left-next : (number : List ℕ) (p : Plan) (place : ℕ) (d : List ℕ) → 1 ≤ p .size → 0 < length d

@@ -10,9 +10,9 @@ use borrow.Author.Tests.{lt-ltb, le-ltb}
 use Rattle.laws.specs.Tests.{firstOf}
 use Rattle.laws.specs.Parts.{over}
 use Rattle.wire.proofs.HeaderLaws.{message-length}
-use Rattle.tablewriter.specs.Writer.{baseOf, bitsFor, dataOf, partsOf, runFrom, update, resetPayload, messagesOf, joined, goodTable, runRules, writerAnswer, writtenAs, writerBytes, writerResult, writerOut}
-use Rattle.tablewriter.specs.Steps.{mayWrite, resetLength}
-use Rattle.tablewriter.proofs.RunLaws.{parts-joined, run-length}
+use Rattle.tablemessages.specs.Writer.{baseOf, bitsFor, dataOf, partsOf, runFrom, update, resetPayload, messagesOf, joined, goodTable, runRules, writerAnswer, writtenAs, writerBytes, writerResult, writerOut}
+use Rattle.tablemessages.specs.Steps.{mayWrite, resetLength}
+use Rattle.tablemessages.proofs.RunLaws.{parts-joined, run-length}
 
 fourteen : (a b c : Bool) → _≡_ {A = ℕ} (cond a 14 (cond b 14 (cond c 14 14))) 14
 fourteen true b c = refl

@@ -7,10 +7,10 @@ use mathlib.Core.List.{List}
 use native.Mathlib.Omega.{arith}
 use native.Mathlib.Decide.{decLe}
 use lib.ListN.{length}
-use Rattle.tablewriter.specs.Writer.{baseOf, dataOf, partsOf, messagesOf, joined, writerAnswer}
-use Rattle.tablewriter.specs.Steps.{mayWrite}
-use Rattle.tablewriter.proofs.GoodLaws.{GoodCall, call-to, call-of}
-use Rattle.tablewriter.proofs.AnswerLaws.{bad-given, too-many, too-short, all-well}
+use Rattle.tablemessages.specs.Writer.{baseOf, dataOf, partsOf, messagesOf, joined, writerAnswer}
+use Rattle.tablemessages.specs.Steps.{mayWrite}
+use Rattle.tablemessages.proofs.GoodLaws.{GoodCall, call-to, call-of}
+use Rattle.tablemessages.proofs.AnswerLaws.{bad-given, too-many, too-short, all-well}
 
 module _ (number : List ℕ) (had : Bool) (old : List ℕ) (oldInfinity : ℕ) (new : List ℕ) (infinity size : ℕ) (out : List ℕ) where
   abbrev answer : ℕ

@@ -8,7 +8,7 @@ use native.Mathlib.Decide.{decLe}
 use native.Mathlib.Omega.{arith}
 use lib.ListN.{length, take, drop, length-append, length-drop, take-append-drop}
 use Rattle.wire.proofs.HeaderLaws.{message-length}
-use Rattle.tablewriter.specs.Writer.{chunks, partsOf, runFrom, joined, update, patchPayload}
+use Rattle.tablemessages.specs.Writer.{chunks, partsOf, runFrom, joined, update, patchPayload}
 
 -- a part off n bytes leaves one part less
 one-less : (size n r : ℕ) → 1 ≤ size → 1 ≤ n → r ≡ n - size → suc ((r + size - 1) / size) ≡ (n + size - 1) / size

@@ -11,13 +11,13 @@ use Rattle.laws.proofs.Chunks.{Each}
 use Rattle.tables.specs.Patch.{numbers}
 use Rattle.tables.specs.Tables.{Held}
 use Rattle.tables.proofs.PatchFacts.{Width}
-use Rattle.tablewriter.specs.Writer.{baseOf, bitsFor, raws, dataOf, partsOf, runFrom, messagesOf, joined, writerAnswer, writerBytes, writerResult, writerOut}
-use Rattle.tablewriter.specs.RoundTrip.{RoundTrip, BytesRoundTrip, ReadAs, Stands, settledAs, runPayloads, payloadsOf}
-use Rattle.tablewriter.proofs.Differences.{AllReach, raws-length, raws-added, raws-fit}
-use Rattle.tablewriter.proofs.Parts.{parts-joined}
-use Rattle.tablewriter.proofs.Whole.{Short, all-whole, payloads-short}
-use Rattle.tablewriter.proofs.Reading.{Awaits, RunFits, settledTo, resetTo, reset-taken, run-read, read-more}
-use Rattle.tablewriter.proofs.Accepted.{good-length, Accepted, accepted, Based, based, reach, data-numbers}
+use Rattle.tablemessages.specs.Writer.{baseOf, bitsFor, raws, dataOf, partsOf, runFrom, messagesOf, joined, writerAnswer, writerBytes, writerResult, writerOut}
+use Rattle.tablemessages.specs.RoundTrip.{RoundTrip, BytesRoundTrip, ReadAs, Stands, settledAs, runPayloads, payloadsOf}
+use Rattle.tablemessages.proofs.Differences.{AllReach, raws-length, raws-added, raws-fit}
+use Rattle.tablemessages.proofs.Parts.{parts-joined}
+use Rattle.tablemessages.proofs.Whole.{Short, all-whole, payloads-short}
+use Rattle.tablemessages.proofs.Reading.{Awaits, RunFits, settledTo, resetTo, reset-taken, run-read, read-more}
+use Rattle.tablemessages.proofs.Accepted.{good-length, Accepted, accepted, Based, based, reach, data-numbers}
 
 -- what is held before the run, the table that differences are taken from
 pub record From (h : Held) (base : List ℕ) (infinity : ℕ) : Type 0 where

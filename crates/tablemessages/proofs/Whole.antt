@@ -11,9 +11,9 @@ use lib.Seq.{take-append-le, drop-append-le, take-append-seam, drop-append-seam}
 use Rattle.laws.proofs.Chunks.{Each}
 use Rattle.wire.proofs.HeaderLaws.{message-length, message-kind, message-ttl, message-hops, message-size, message-payload}
 use Rattle.wire.specs.Header.{kindOf, ttlOf, hopsOf, sizeOf, payloadOf, routeUpdate}
-use Rattle.tablewriter.specs.Writer.{baseOf, update, resetPayload, patchPayload, bitsFor, dataOf, partsOf, runFrom, messagesOf, joined}
-use Rattle.tablewriter.specs.RoundTrip.{messagesFrom, messagesIn, runPayloads, payloadsOf}
-use Rattle.tablewriter.proofs.Parts.{part-sizes}
+use Rattle.tablemessages.specs.Writer.{baseOf, update, resetPayload, patchPayload, bitsFor, dataOf, partsOf, runFrom, messagesOf, joined}
+use Rattle.tablemessages.specs.RoundTrip.{messagesFrom, messagesIn, runPayloads, payloadsOf}
+use Rattle.tablemessages.proofs.Parts.{part-sizes}
 
 -- an update with this payload, whole
 pub record Whole (payload m : List ℕ) : Type 0 where

@@ -13,8 +13,8 @@ use Rattle.laws.proofs.Chunks.{each-all, each-replicate, one-of, and-first, and
 use Rattle.tables.specs.Patch.{numbers, numberCount}
 use Rattle.tables.specs.Tables.{lengths, goodLength, goodInfinity}
 use Rattle.tables.proofs.PatchFacts.{Width, four, eight, read-packed}
-use Rattle.tablewriter.specs.Writer.{baseOf, bitsFor, allNear, raws, dataOf, partsOf, messagesOf, joined, goodTable, writerAnswer}
-use Rattle.tablewriter.proofs.Differences.{Entries, AllReach, all-near, all-byte, raws-length, raws-below}
+use Rattle.tablemessages.specs.Writer.{baseOf, bitsFor, allNear, raws, dataOf, partsOf, messagesOf, joined, goodTable, writerAnswer}
+use Rattle.tablemessages.proofs.Differences.{Entries, AllReach, all-near, all-byte, raws-length, raws-below}
 
 -- a table that may be written
 pub record Good (es : List ℕ) (infinity : ℕ) : Type 0 where

@@ -11,7 +11,7 @@ use Rattle.laws.specs.Parts.{over}
 use Rattle.wire.specs.Header.{message, routeUpdate}
 use Rattle.tables.specs.Patch.{packed}
 use Rattle.tables.specs.Tables.{goodLength, goodInfinity}
-use Rattle.tablewriter.specs.declared.Written.{Written}
+use Rattle.tablemessages.specs.declared.Written.{Written}
 
 -- what differences are taken from: the old table, or every entry Infinity, as a RESET leaves it
 abbrev pub baseOf : Bool → List ℕ → List ℕ → ℕ → List ℕ

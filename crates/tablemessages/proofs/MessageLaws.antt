@@ -12,9 +12,9 @@ use Rattle.laws.proofs.Over.{over-length}
 use Rattle.laws.proofs.Writing.{written-next, stored-next, lent-part}
 use Rattle.wire.specs.Header.{header, message, withHeader}
 use Rattle.wire.proofs.HeaderLaws.{header-length, header-room, message-stored}
-use Rattle.tablewriter.specs.declared.run.Plan.{Plan}
-use Rattle.tablewriter.specs.Writer.{update, resetPayload, patchPayload}
-use Rattle.tablewriter.specs.Steps.{bitsBy, patchWith}
+use Rattle.tablemessages.specs.declared.Plan.{Plan}
+use Rattle.tablemessages.specs.Writer.{update, resetPayload, patchPayload}
+use Rattle.tablemessages.specs.Steps.{bitsBy, patchWith}
 
 module _ (number : List ℕ) (long : length number ≡ 16) (out mid : List ℕ) where
   pub reset-stored : (n infinity : ℕ) (bytes : List ℕ) → 29 ≤ length out → mid ≡ withHeader number 0x30 1 0 6 out → bytes ≡ littleBytes 4 n

@@ -11,8 +11,8 @@ use borrow.Author.Tests.{leb-true, le-leb, eqb-true, eq-eqb}
 use Rattle.laws.specs.Tests.{any, all}
 use Rattle.laws.proofs.Writing.{all-stop, all-on}
 use Rattle.tables.specs.Tables.{goodLength, goodInfinity, lengths}
-use Rattle.tablewriter.specs.Writer.{inRange, goodTable}
-use Rattle.tablewriter.specs.Steps.{mayWrite}
+use Rattle.tablemessages.specs.Writer.{inRange, goodTable}
+use Rattle.tablemessages.specs.Steps.{mayWrite}
 
 -- what a test holds of each of a list, it holds of one among them
 among : (f : ℕ → Bool) (n : ℕ) (l : List ℕ) → any (eqb n) l ≡ true → all f l ≡ true → f n ≡ true

@@ -6,12 +6,12 @@ use mathlib.Core.List.{List, _++_}
 use native.Mathlib.Omega.{arith}
 use lib.ListN.{length}
 use Rattle.tables.specs.Patch.{packed}
-use Rattle.tablewriter.specs.declared.run.Plan.{Plan}
-use Rattle.tablewriter.specs.Writer.{baseOf, allNear, raws, dataOf, partsOf, runFrom, update, resetPayload, messagesOf, joined}
-use Rattle.tablewriter.specs.Steps.{Fits, dataLength, dataBy, leftOf, allBy, resetLength}
-use Rattle.tablewriter.proofs.DataLaws.{base-length, data-length}
-use Rattle.tablewriter.proofs.RunLaws.{parts-count, parts-joined, run-length}
-use Rattle.tablewriter.proofs.GoodLaws.{GoodCall, call-few}
+use Rattle.tablemessages.specs.declared.Plan.{Plan}
+use Rattle.tablemessages.specs.Writer.{baseOf, allNear, raws, dataOf, partsOf, runFrom, update, resetPayload, messagesOf, joined}
+use Rattle.tablemessages.specs.Steps.{Fits, dataLength, dataBy, leftOf, allBy, resetLength}
+use Rattle.tablemessages.proofs.DataLaws.{base-length, data-length}
+use Rattle.tablemessages.proofs.RunLaws.{parts-count, parts-joined, run-length}
+use Rattle.tablemessages.proofs.GoodLaws.{GoodCall, call-few}
 
 abbrev pub planOf : Bool → ℕ → Bool → ℕ → ℕ → Plan
 planOf had infinity small size count = record { had = had; infinity = infinity; small = small; size = size; count = count }

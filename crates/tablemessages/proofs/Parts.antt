@@ -6,7 +6,7 @@ use native.Mathlib.Omega.{arith}
 use native.Mathlib.Nat.{le-refl}
 use lib.ListN.{length, drop, length-take, length-drop, take-append-drop}
 use Rattle.laws.proofs.Chunks.{Each}
-use Rattle.tablewriter.specs.Writer.{chunks, partsOf, joined}
+use Rattle.tablemessages.specs.Writer.{chunks, partsOf, joined}
 
 chunks-joined : (n size : ℕ) (d : List ℕ) → 1 ≤ size → length d ≤ n → joined (chunks n size d) ≡ d
 unfolding chunks joined

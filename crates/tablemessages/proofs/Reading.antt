@@ -16,9 +16,9 @@ use Rattle.tables.specs.Patch.{numbers}
 use Rattle.tables.specs.Tables.{Held, waiting, running, ready, goodLength, goodInfinity}
 use Rattle.tables.specs.Updates.{goodReset, goodPatch, inTurn, inRange, isPatch, updateAnswer, updated, resetBy, movedOn, patchBy}
 use Rattle.tables.proofs.PatchFacts.{Width, four, eight, numbers-append, addedAt, fitAt, addedAt-length, added-twice, fit-twice}
-use Rattle.tablewriter.specs.Writer.{update, resetPayload, patchPayload, runFrom, joined}
-use Rattle.tablewriter.specs.RoundTrip.{answerTo, after, answersTo, afterAll, settledTable, ReadAs, runPayloads}
-use Rattle.tablewriter.proofs.Whole.{Short, Whole, whole}
+use Rattle.tablemessages.specs.Writer.{update, resetPayload, patchPayload, runFrom, joined}
+use Rattle.tablemessages.specs.RoundTrip.{answerTo, after, answersTo, afterAll, settledTable, ReadAs, runPayloads}
+use Rattle.tablemessages.proofs.Whole.{Short, Whole, whole}
 
 -- an update that was taken
 pub record Taken (room : ℕ) (h : Held) (m : List ℕ) (then : Held) : Type 0 where

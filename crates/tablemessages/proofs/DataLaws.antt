@@ -11,8 +11,8 @@ use lib.Dec.{leb}
 use borrow.Author.Tests.{le-leb, leb-true, leb-false}
 use Rattle.tables.specs.Patch.{packed}
 use Rattle.tables.proofs.TestLaws.{same-test}
-use Rattle.tablewriter.specs.Writer.{baseOf, near, allNear, raw, raws}
-use Rattle.tablewriter.specs.Steps.{rawIn, pairIn, dataLength}
+use Rattle.tablemessages.specs.Writer.{baseOf, near, allNear, raw, raws}
+use Rattle.tablemessages.specs.Steps.{rawIn, pairIn, dataLength}
 
 -- one raw number for each entry
 module _ (bits : ℕ) where

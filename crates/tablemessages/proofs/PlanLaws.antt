@@ -6,10 +6,10 @@ use mathlib.Core.List.{List}
 use native.Mathlib.Omega.{arith}
 use lib.ListN.{length, getD}
 use Rattle.tables.specs.Patch.{packed}
-use Rattle.tablewriter.specs.declared.run.Plan.{Plan}
-use Rattle.tablewriter.specs.Writer.{raws}
-use Rattle.tablewriter.specs.Steps.{Sound, rawIn, pairIn, baseBy, dataBy, dataLength}
-use Rattle.tablewriter.proofs.DataLaws.{data-length, pair-at, single-at}
+use Rattle.tablemessages.specs.declared.Plan.{Plan}
+use Rattle.tablemessages.specs.Writer.{raws}
+use Rattle.tablemessages.specs.Steps.{Sound, rawIn, pairIn, baseBy, dataBy, dataLength}
+use Rattle.tablemessages.proofs.DataLaws.{data-length, pair-at, single-at}
 
 module _ (p : Plan) (old new : List ℕ) (s : Sound p old new) where
   pub plan-length : length (dataBy p old new) ≡ dataLength (p .small) (length new)

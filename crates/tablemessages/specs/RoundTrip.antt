@@ -9,7 +9,7 @@ use Rattle.wire.specs.Header.{ttlOf, hopsOf, sizeOf, payloadOf}
 use Rattle.tables.specs.declared.Table.{Table}
 use Rattle.tables.specs.Tables.{Held, settled}
 use Rattle.tables.specs.Updates.{updateAnswer, updated}
-use Rattle.tablewriter.specs.Writer.{baseOf, bitsFor, dataOf, partsOf, resetPayload, patchPayload, messagesOf, writerAnswer, writerResult, writerOut}
+use Rattle.tablemessages.specs.Writer.{baseOf, bitsFor, dataOf, partsOf, resetPayload, patchPayload, messagesOf, writerAnswer, writerResult, writerOut}
 
 -- a whole message handed to the table's rules
 abbrev pub answerTo : ℕ → Held → List ℕ → ℕ

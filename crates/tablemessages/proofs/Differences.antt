@@ -10,7 +10,7 @@ use lib.ListN.{length}
 use Rattle.laws.proofs.Chunks.{Each, and-both, and-first, and-second}
 use Rattle.tables.specs.Patch.{half, gain, loss, sumOf, fits, added, allFit}
 use Rattle.tables.proofs.PatchFacts.{Width, Below, small-number, large-number, twice-half, fits-exactly}
-use Rattle.tablewriter.specs.Writer.{near, allNear, raw, raws}
+use Rattle.tablemessages.specs.Writer.{near, allNear, raw, raws}
 
 -- the difference of two entries is a number of `bits` bits
 pub record Reaches (bits e b : ℕ) : Type 0 where
