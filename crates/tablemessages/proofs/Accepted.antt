@@ -1,5 +1,5 @@
 -- What an answer 0 of the writer says of its tables, and the numbers of the data that it then writes. Assumes nothing.
-use Prim.Native.Nat.{ℕ, _/_, _%_, _≤_}
+use Prim.Native.Nat.{ℕ, _/_, _%_, _≤_, _<_}
 use mathlib.Core.Path.{_≡_, refl, sym, _∙_}
 use mathlib.Core.Bool.{Bool, true, false, cond, _&&_}
 use mathlib.Core.List.{List}
@@ -58,6 +58,13 @@ good-length n h =
       most = leb-true n 65536 (and-first (leb n 65536) (eqb (n % 2) 0) rest);
       even = eqb-true (n % 2) 0 (and-second (leb n 65536) (eqb (n % 2) 0) rest);
     }
+
+pub too-long : (n : ℕ) → 65536 < n → false ≡ goodLength n
+too-long n h = go (goodLength n) refl
+  where
+    go : (b : Bool) → goodLength n ≡ b → false ≡ b
+    go false e = refl
+    go true e = let most = good-length n e .most in absurd (omega arith)
 
 -- what an answer 0 of the writer says
 pub record Accepted (had : Bool) (old new : List ℕ) (infinity size : ℕ) : Type 0 where
