@@ -58,7 +58,8 @@ pub over-lent : (k n : ℕ) (l ys : List ℕ) → k ≤ length (take n l) → le
     → putMid k (length (take n l) - k) l ys ≡ over 0 (take k (take n l) ++ ys) l
 over-lent k n l ys h e =
     let m : k ≤ n = omega (arith, length-take n l) in
-    let w : k + (length (take n l) - k) ≡ 0 + length (take k l ++ ys) = simp (length-append, length-take) (rw e (simp length-take (omega (arith, length-take n l)))) in
+    let w : k + (length (take n l) - k) ≡ 0 + length (take k l ++ ys) =
+    simp (length-append, length-take) (rw e (simp length-take (omega (arith, length-take n l)))) in
     ap (λ z. take k l ++ (ys ++ z)) (drop-drop (length (take n l) - k) k l ∙ ap (λ j. drop j l) w)
     ∙ sym (append-assoc (take k l) ys (drop (0 + length (take k l ++ ys)) l))
     ∙ ap (λ z. over 0 (z ++ ys) l) (sym (take-take k n l m))

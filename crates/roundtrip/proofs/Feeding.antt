@@ -123,7 +123,8 @@ module _ (s : Station) (L : ℕ) (area : List ℕ) (w : Listening s L area) (m :
     unfolding updateOutcome
     held-then =
         let x : List ℕ = over (L * s .room) (now′ .entries) area in
-        let t : lineAt (left .state) L .table ≡ now′ .table = ap (λ (y : Line). y .table) (line-set s L (withTable (lineAt s L) (now′ .table)) (line-below s L area w)) in
+        let t : lineAt (left .state) L .table ≡ now′ .table =
+        ap (λ (y : Line). y .table) (line-set s L (withTable (lineAt s L) (now′ .table)) (line-below s L area w)) in
         let same : now′ .table .length ≡ length (now′ .entries) = full .table ∙ sym (full .entries) in
         let g : take (now′ .table .length) (partOf (s .room) L x) ≡ now′ .entries
         = take-take (now′ .table .length) (s .room) (drop (L * s .room) x) (omega (arith, full .table))
@@ -136,7 +137,8 @@ module _ (s : Station) (L : ℕ) (area : List ℕ) (w : Listening s L area) (m :
     unfolding updateOutcome
     listens-on t =
         let e : messageOutcome s L (t .clock) (t .own) m 4119 area ≡ left = alone (t .clock) (t .own) 4119 (omega arith) in
-        let k : Kept s (left .state) = subst (λ (o : Outcome). Kept s (o .state)) e (order-kept s (w .sized) (w .order) .message L (t .clock) (t .own) m 4119 area) in
+        let k : Kept s (left .state) = subst (λ (o : Outcome). Kept s (o .state)) e
+        (order-kept s (w .sized) (w .order) .message L (t .clock) (t .own) m 4119 area) in
         let long : length (left .route) ≡ length area = over-length (L * s .room) (now′ .entries) area (rw (full .entries) (part-inside s L area w n within)) in
         record {
           sized = k .sized;

@@ -25,7 +25,8 @@ use Rattle.roundtrip.proofs.Feeding.{Full, Sendable, line-below, part-i
 -- as many bytes written over others in the same place leave no trace of them
 over-twice : (from : ℕ) (a b area : List ℕ) → length a ≡ length b → from + length a ≤ length area → over from b (over from a area) ≡ over from b area
 over-twice from a b area e h =
-    let front : take from (over from a area) ≡ take from area = take-at (take from area) (a ++ drop (from + length a) area) from (length-take-le from area (omega arith)) in
+    let front : take from (over from a area) ≡ take from area =
+    take-at (take from area) (a ++ drop (from + length a) area) from (length-take-le from area (omega arith)) in
     ap₂ (λ x y. x ++ (b ++ y)) front (over-behind from a area (from + length b) h (omega arith))
 
 -- a state with other lines
@@ -34,7 +35,8 @@ withLines s ls = record { room = s .room; lines = ls; lo = s .lo; hi = s .hi; as
 
 -- a line that gets one table after another has the last
 table-twice : (s : Station) (L : ℕ) (t u : Table) → L < length (s .lines)
-    → withLine (withLine s L (withTable (lineAt s L) t)) L (withTable (lineAt (withLine s L (withTable (lineAt s L) t)) L) u) ≡ withLine s L (withTable (lineAt s L) u)
+    → withLine (withLine s L (withTable (lineAt s L) t)) L (withTable (lineAt (withLine s L (withTable (lineAt s L) t)) L) u)
+    ≡ withLine s L (withTable (lineAt s L) u)
 table-twice s L t u h =
     let x : Line = withTable (lineAt s L) t in
     ap (λ (y : Line). withLine (withLine s L x) L (withTable y u)) (line-set s L x h)

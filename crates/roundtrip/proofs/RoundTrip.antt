@@ -19,7 +19,8 @@ use Rattle.tables.specs.declared.Table.{Table}
 use Rattle.tables.specs.Tables.{Held, settled, betweenRuns, tableInOrder, heldIn}
 use Rattle.tables.specs.Updates.{isPatch}
 use Rattle.tables.proofs.OrderLaws.{limits}
-use Rattle.tablemessages.specs.Writer.{baseOf, bitsFor, dataOf, partsOf, runOf, messagesOf, joined, resetPayload, update, writerAnswer, writerBytes, writerResult, writerOut}
+use Rattle.tablemessages.specs.Writer.{baseOf, bitsFor, dataOf, partsOf, runOf, messagesOf, joined, resetPayload, update, writerAnswer, writerBytes}
+use Rattle.tablemessages.specs.Writer.{writerResult, writerOut}
 use Rattle.tablemessages.specs.RoundTrip.{after, runPayloads, payloadsOf, Stands, ReadAs, settledTable, settledAs}
 use Rattle.tablemessages.proofs.Whole.{Small, Whole, AllWhole, payloads-small, all-whole}
 use Rattle.tablemessages.proofs.Reading.{resetTo, reset-taken}
@@ -74,7 +75,8 @@ module _ (number : List ℕ) (sixteen : length number ≡ 16) (old new : List �
       (a .each)
       (each-of-map payloadOf Small ms (rw (a .payloads) (payloads-small had old new infinity size k)))
 
-  full-with-old : (room : ℕ) (h : Held) → Accepted true old new infinity size → Full (length new) h → AllFull (length new) room h (messagesOf number true old new infinity size)
+  full-with-old : (room : ℕ) (h : Held) → Accepted true old new infinity size → Full (length new) h
+      → AllFull (length new) room h (messagesOf number true old new infinity size)
   unfolding messagesOf payloadsOf
   full-with-old room h a f =
       let w : AllWhole number true old new infinity size = all-whole number true old new infinity size sixteen (a .data-size .1) in
@@ -100,7 +102,8 @@ module _ (number : List ℕ) (sixteen : length number ≡ 16) (old new : List �
       = ap (drop 1) (w .payloads) in (
         f,
         patches-full (length new) room (after room h reset) run
-            (each-of-map payloadOf Patch run (rw payloads (run-patches 1 (length (partsOf size (dataOf new base))) (bitsFor new base) (partsOf size (dataOf new base)))))
+            (each-of-map payloadOf Patch run
+            (rw payloads (run-patches 1 (length (partsOf size (dataOf new base))) (bitsFor new base) (partsOf size (dataOf new base)))))
             f,
       )
 
@@ -123,7 +126,8 @@ module _ (s : Station) (L : ℕ) (area : List ℕ) (w : Listening s L area) wher
       }
 
   -- what the two equations say, part by part
-  module _ (new : List ℕ) (infinity messages bytes : ℕ) (f : Fed) (within : length new ≤ s .room) (r : FedTo s L area messages bytes (settledAs new infinity) f) where
+  module _ (new : List ℕ) (infinity messages bytes : ℕ) (f : Fed) (within : length new ≤ s .room)
+      (r : FedTo s L area messages bytes (settledAs new infinity) f) where
     abbrev newLine : Line
     newLine = withTable (lineAt s L) (settledTable (length new) infinity)
 
@@ -152,7 +156,8 @@ module _ (s : Station) (L : ℕ) (area : List ℕ) (w : Listening s L area) wher
           others = λ k ne. ap (λ (y : Station). lineAt y k) (r .state) ∙ line-other s L newLine k ne;
           memory = ap remembered (r .state);
           before = ap (take (L * s .room)) (r .area)
-              ∙ take-at (take (L * s .room) area) (new ++ drop (L * s .room + length new) area) (L * s .room) (length-take-le (L * s .room) area (omega (arith, inside)));
+              ∙ take-at (take (L * s .room) area) (new ++ drop (L * s .room + length new) area) (L * s .room)
+              (length-take-le (L * s .room) area (omega (arith, inside)));
           behind = ap (drop (L * s .room + length new)) (r .area)
               ∙ over-behind (L * s .room) new area (L * s .room + length new) inside (le-refl (L * s .room + length new));
         }
@@ -186,7 +191,8 @@ module _ (number : List ℕ) (sixteen : length number ≡ 16) (old : List ℕ) (
       let ms : List (List ℕ) = messagesOf number had old new infinity size in
       let h : Held = heldAt s L area in
       let stands : had ≡ true → Stands h old infinity = λ e. stands-at s L area w old infinity (q e) in
-      let r : ReadAs (s .room) h ms (settledAs new infinity) = round-trip number had old oldInfinity new infinity size outLength (s .room) h sixteen ok within stands in
+      let r : ReadAs (s .room) h ms (settledAs new infinity) =
+      round-trip number had old oldInfinity new infinity size outLength (s .room) h sixteen ok within stands in
       subst
       (λ (last : Held). FedTo s L area (length ms) (length (joined ms)) last (fed t L s area (joined ms)))
       (r .held)
@@ -203,7 +209,8 @@ station-round-trip number had old oldInfinity new infinity size out t s L area s
     let ms : List (List ℕ) = messagesOf number had old new infinity size in
     let n : ℕ = writerResult number had old oldInfinity new infinity size out .written in
     let long : n ≡ length (joined ms) = rw ok in
-    let e : take n (writerOut number had old oldInfinity new infinity size out) ≡ joined ms = written-bytes number had old oldInfinity new infinity size out ok in
+    let e : take n (writerOut number had old oldInfinity new infinity size out) ≡ joined ms =
+    written-bytes number had old oldInfinity new infinity size out ok in
     let f : FedTo s L area (length ms) (length (joined ms)) (settledAs new infinity) (fed t L s area (joined ms))
     = writer-fed number sixteen old oldInfinity new infinity size (length out) had t s L area ok within w outs q in
     exchanged s L area w new infinity (length ms) n

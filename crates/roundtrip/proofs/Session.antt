@@ -11,7 +11,8 @@ use Rattle.wire.specs.Header.{message}
 use Rattle.tables.specs.Tables.{goodLength, tableInOrder}
 use Rattle.tables.specs.Patch.{numbers, packed, added, allFit}
 use Rattle.tables.specs.Updates.{updateAnswer, updated, goodReset, goodPatch, inTurn, inRange, resetBy, movedOn, patchBy, brokenBy}
-use Rattle.tablemessages.specs.Writer.{allNear, raws, dataOf, chunks, runFrom, messagesOf, joined, goodTable, writerAnswer, writerBytes, writerResult, writerOut}
+use Rattle.tablemessages.specs.Writer.{allNear, raws, dataOf, chunks, runFrom, messagesOf, joined, goodTable, writerAnswer, writerBytes, writerResult}
+use Rattle.tablemessages.specs.Writer.{writerOut}
 use Rattle.tablemessages.specs.RoundTrip.{settledAs}
 use Rattle.protocol.specs.declared.Station.{Station}
 use Rattle.protocol.specs.Memory.{remembered, noTwice}
@@ -50,19 +51,27 @@ second : Fed
 second = fed turn 1 (first .state) (first .area) (joined (messagesOf number true new next 8 2))
 
 first-answers : map (λ o. o .answer) (first .outcomes) ≡ 0 ∷ 0 ∷ 0 ∷ []
-unfolding number new turn station area first fedBy joined messagesOf allNear raws dataOf chunks runFrom message packed keptPlaces goodLength tableInOrder numbers added allFit updateAnswer updated goodReset goodPatch inTurn inRange resetBy movedOn patchBy brokenBy remembered noTwice storedPongs lineInOrder inOrder fresh opening early updateOutcome byType arriving
+unfolding number new turn station area first fedBy joined messagesOf allNear raws dataOf chunks runFrom message packed keptPlaces
+    goodLength tableInOrder numbers added allFit updateAnswer updated goodReset goodPatch inTurn inRange resetBy movedOn patchBy brokenBy
+    remembered noTwice storedPongs lineInOrder inOrder fresh opening early updateOutcome byType arriving
 first-answers = refl
 
 first-held : heldAt (first .state) 1 (first .area) ≡ settledAs new 8
-unfolding number new turn station area first fedBy joined messagesOf allNear raws dataOf chunks runFrom message packed keptPlaces goodLength tableInOrder numbers added allFit updateAnswer updated goodReset goodPatch inTurn inRange resetBy movedOn patchBy brokenBy remembered noTwice storedPongs lineInOrder inOrder fresh opening early updateOutcome byType arriving
+unfolding number new turn station area first fedBy joined messagesOf allNear raws dataOf chunks runFrom message packed keptPlaces
+    goodLength tableInOrder numbers added allFit updateAnswer updated goodReset goodPatch inTurn inRange resetBy movedOn patchBy brokenBy
+    remembered noTwice storedPongs lineInOrder inOrder fresh opening early updateOutcome byType arriving
 first-held = refl
 
 second-used : second .used ≡ 30
-unfolding number new next turn station area first second fedBy joined messagesOf allNear raws dataOf chunks runFrom message packed keptPlaces goodLength tableInOrder numbers added allFit updateAnswer updated goodReset goodPatch inTurn inRange resetBy movedOn patchBy brokenBy remembered noTwice storedPongs lineInOrder inOrder fresh opening early updateOutcome byType arriving
+unfolding number new next turn station area first second fedBy joined messagesOf allNear raws dataOf chunks runFrom message packed
+    keptPlaces goodLength tableInOrder numbers added allFit updateAnswer updated goodReset goodPatch inTurn inRange resetBy movedOn patchBy
+    brokenBy remembered noTwice storedPongs lineInOrder inOrder fresh opening early updateOutcome byType arriving
 second-used = refl
 
 second-area : second .area ≡ 9 ∷ 9 ∷ 9 ∷ 9 ∷ 1 ∷ 1 ∷ 8 ∷ 8 ∷ replicate 27 9
-unfolding number new next turn station area first second fedBy joined messagesOf allNear raws dataOf chunks runFrom message packed keptPlaces goodLength tableInOrder numbers added allFit updateAnswer updated goodReset goodPatch inTurn inRange resetBy movedOn patchBy brokenBy remembered noTwice storedPongs lineInOrder inOrder fresh opening early updateOutcome byType arriving
+unfolding number new next turn station area first second fedBy joined messagesOf allNear raws dataOf chunks runFrom message packed
+    keptPlaces goodLength tableInOrder numbers added allFit updateAnswer updated goodReset goodPatch inTurn inRange resetBy movedOn patchBy
+    brokenBy remembered noTwice storedPongs lineInOrder inOrder fresh opening early updateOutcome byType arriving
 second-area = refl
 
 -- a station that listens
@@ -77,5 +86,8 @@ unfolding station fresh opening inOrder lineInOrder tableInOrder remembered noTw
 four = refl
 
 met : Exchanged station 1 area new 8 3 87 first
-unfolding number new turn first messagesOf allNear raws dataOf chunks runFrom message packed writerAnswer goodTable joined goodLength writerOut writerBytes writerResult
-met = station-round-trip number false [] 0 new 8 1 (replicate 87 0) turn station 1 area refl refl (omega (arith, four)) listening (λ i. omega arith) (λ e. absurd (mathlib.Core.Bool.false≢true e))
+unfolding number new turn first messagesOf allNear raws dataOf chunks runFrom message packed writerAnswer goodTable joined goodLength
+    writerOut writerBytes writerResult
+met =
+    station-round-trip number false [] 0 new 8 1 (replicate 87 0) turn station 1 area refl refl (omega (arith, four)) listening (λ i. omega arith)
+    (λ e. absurd (mathlib.Core.Bool.false≢true e))

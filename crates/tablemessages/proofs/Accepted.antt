@@ -79,7 +79,8 @@ refused e = omega arith
 short : _≡_ {A = ℕ} 2 0 → ⊥
 short e = omega arith
 
-module _ (number : List ℕ) (had : Bool) (old : List ℕ) (oldInfinity : ℕ) (new : List ℕ) (infinity size room : ℕ) (e : writerAnswer number had old oldInfinity new infinity size room ≡ 0) where
+module _ (number : List ℕ) (had : Bool) (old : List ℕ) (oldInfinity : ℕ) (new : List ℕ) (infinity size room : ℕ)
+    (e : writerAnswer number had old oldInfinity new infinity size room ≡ 0) where
   new-passed : goodTable new infinity ≡ true
   unfolding writerAnswer
   new-passed = decided (goodTable new infinity) (λ q. refused (rw q at e))

@@ -10,7 +10,8 @@ use borrow.Author.Tests.{lt-ltb, le-ltb}
 use Rattle.laws.specs.Tests.{firstOf}
 use Rattle.laws.specs.Parts.{over}
 use Rattle.wire.proofs.HeaderLaws.{message-length}
-use Rattle.tablemessages.specs.Writer.{baseOf, bitsFor, dataOf, partsOf, runFrom, update, resetPayload, messagesOf, joined, goodTable, runRules, writerAnswer, writtenAs, writerBytes, writerResult, writerOut}
+use Rattle.tablemessages.specs.Writer.{baseOf, bitsFor, dataOf, partsOf, runFrom, update, resetPayload, messagesOf, joined, goodTable, runRules}
+use Rattle.tablemessages.specs.Writer.{writerAnswer, writtenAs, writerBytes, writerResult, writerOut}
 use Rattle.tablemessages.specs.Steps.{mayWrite, resetLength}
 use Rattle.tablemessages.proofs.RunLaws.{parts-joined, run-length}
 
@@ -39,11 +40,13 @@ module _ (number : List ℕ) (had : Bool) (old : List ℕ) (oldInfinity : ℕ) (
   answer-by : writerAnswer number had old oldInfinity new infinity size (length out)
       ≡ cond (mayWrite had old oldInfinity new infinity size)
       (firstOf
-      (runRules (length (partsOf size (dataOf new (baseOf had old new infinity)))) (length (joined (messagesOf number had old new infinity size))) (length out)))
+      (runRules (length (partsOf size (dataOf new (baseOf had old new infinity)))) (length (joined (messagesOf number had old new infinity size)))
+      (length out)))
       14
   unfolding writerAnswer mayWrite
   answer-by =
-      first-four (goodTable new infinity) had (goodTable old oldInfinity) (eqb (length old) (length new)) (eqb oldInfinity infinity) (leb 1 size) (leb size 4091) _
+      first-four (goodTable new infinity) had (goodTable old oldInfinity) (eqb (length old) (length new)) (eqb oldInfinity infinity) (leb 1 size)
+      (leb size 4091) _
 
   pub bad-given : mayWrite had old oldInfinity new infinity size ≡ false → writerAnswer number had old oldInfinity new infinity size (length out) ≡ 14
   bad-given h = answer-by ∙ rw h
@@ -99,7 +102,12 @@ pub bytes-length : (had : Bool) (number old new : List ℕ) (infinity size : ℕ
 unfolding messagesOf joined
 bytes-length true number old new infinity size h k =
     let d = dataOf new old in
-    omega (arith, run-length number (length (partsOf size d)) (bitsFor new old) 1 (partsOf size d) h, ap length (parts-joined size k (length d) d (omega arith)))
+    omega (
+      arith,
+      run-length number (length (partsOf size d)) (bitsFor new old) 1 (partsOf size d) h,
+      ap length
+          (parts-joined size k (length d) d (omega arith)),
+    )
 bytes-length false number old new infinity size h k =
     let b = baseOf false old new infinity in
     let d = dataOf new b in

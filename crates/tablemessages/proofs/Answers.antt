@@ -27,12 +27,14 @@ module _ (number : List ℕ) (had : Bool) (old : List ℕ) (oldInfinity : ℕ) (
 
   -- one of four
   outcome : ((good → ⊥) × (answer ≡ 14))
-      ⊎ ((good × (255 < count) × (answer ≡ 14)) ⊎ ((good × (count ≤ 255) × (length out < total) × (answer ≡ 2)) ⊎ (good × (count ≤ 255) × (total ≤ length out) × (answer ≡ 0))))
+      ⊎ ((good × (255 < count) × (answer ≡ 14)) ⊎
+      ((good × (count ≤ 255) × (length out < total) × (answer ≡ 2)) ⊎ (good × (count ≤ 255) × (total ≤ length out) × (answer ≡ 0))))
   outcome = by (mayWrite had old oldInfinity new infinity size) refl (decLe count 255) (decLe total (length out))
     where
       by : (t : Bool) → mayWrite had old oldInfinity new infinity size ≡ t → Dec (count ≤ 255) → Dec (total ≤ length out)
           → ((good → ⊥) × (answer ≡ 14))
-          ⊎ ((good × (255 < count) × (answer ≡ 14)) ⊎ ((good × (count ≤ 255) × (length out < total) × (answer ≡ 2)) ⊎ (good × (count ≤ 255) × (total ≤ length out) × (answer ≡ 0))))
+          ⊎ ((good × (255 < count) × (answer ≡ 14)) ⊎
+          ((good × (count ≤ 255) × (length out < total) × (answer ≡ 2)) ⊎ (good × (count ≤ 255) × (total ≤ length out) × (answer ≡ 0))))
       by false e a b =
           inl (λ g. false≢true (sym e ∙ call-of had old oldInfinity new infinity size g), bad-given number had old oldInfinity new infinity size out e)
       by true e (no a) b =
@@ -47,7 +49,8 @@ module _ (number : List ℕ) (had : Bool) (old : List ℕ) (oldInfinity : ℕ) (
   pub fourteen-exactly : (answer ≡ 14) ↔ ((good × (count ≤ 255)) → ⊥)
   fourteen-exactly = (
     λ e w.
-        ⊎-elim (λ x. x .0 (w .0)) (λ y. ⊎-elim (λ x. omega (arith, x .1, w .1)) (λ z. ⊎-elim (λ x. omega (arith, x .3)) (λ x. omega (arith, x .3)) z) y) outcome,
+        ⊎-elim (λ x. x .0 (w .0)) (λ y. ⊎-elim (λ x. omega (arith, x .1, w .1))
+        (λ z. ⊎-elim (λ x. omega (arith, x .3)) (λ x. omega (arith, x .3)) z) y) outcome,
     λ f. ⊎-elim (λ x. x .1) (λ y. ⊎-elim (λ x. x .2) (λ z. ⊎-elim (λ x. absurd (f (x .0, x .1))) (λ x. absurd (f (x .0, x .1))) z) y) outcome,
   )
 

@@ -13,7 +13,8 @@ use borrow.Author.Tests.{leb-true, le-leb}
 use Rattle.wire.specs.Header.{numberOf, kindOf, ttlOf, hopsOf, sizeOf, payloadOf}
 use Rattle.wire.proofs.HeaderLaws.{message-length, message-number, message-kind, message-ttl, message-hops, message-size, message-payload}
 use Rattle.tables.specs.Patch.{packed}
-use Rattle.tablemessages.specs.Writer.{allNear, bitsFor, raws, dataOf, chunks, partsOf, update, resetPayload, patchPayload, runFrom, runOf, writerBytes, writerOut}
+use Rattle.tablemessages.specs.Writer.{allNear, bitsFor, raws, dataOf, chunks, partsOf, update, resetPayload, patchPayload, runFrom, runOf}
+use Rattle.tablemessages.specs.Writer.{writerBytes, writerOut}
 use Rattle.tablemessages.specs.Steps.{dataLength}
 use Rattle.tablemessages.proofs.DataLaws.{near-at, data-length}
 use Rattle.tablemessages.proofs.RunLaws.{parts-count}

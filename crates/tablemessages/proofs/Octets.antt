@@ -13,7 +13,8 @@ use Rattle.laws.proofs.Over.{over-length}
 use Rattle.laws.proofs.Chunks.{Each, each-append, each-take, each-drop, little-bytes}
 use Rattle.wire.specs.Header.{message, routeUpdate}
 use Rattle.tables.proofs.PatchFacts.{Width, four, eight, Below, packed-bytes}
-use Rattle.tablemessages.specs.Writer.{baseOf, bitsFor, raws, dataOf, chunks, partsOf, runOf, update, resetPayload, patchPayload, runFrom, messagesOf, joined, writerAnswer, writerBytes, writerOut}
+use Rattle.tablemessages.specs.Writer.{baseOf, bitsFor, raws, dataOf, chunks, partsOf, runOf, update, resetPayload, patchPayload, runFrom}
+use Rattle.tablemessages.specs.Writer.{messagesOf, joined, writerAnswer, writerBytes, writerOut}
 use Rattle.tablemessages.proofs.Differences.{AllReach, raws-below}
 use Rattle.tablemessages.proofs.Accepted.{Accepted, accepted, room-passed, Based, based, reach}
 

@@ -38,7 +38,8 @@ module _ (p : Plan) (old new : List ℕ) (s : Sound p old new) where
   pub wide-length : p .small ≡ false → length (dataBy p old new) ≡ length new
   wide-length e = plan-length ∙ ap (λ t. dataLength t (length new)) e
 
-  pub wide-at : p .small ≡ false → (j : ℕ) → j < length (dataBy p old new) → getD (dataBy p old new) j 0 ≡ rawIn 256 (getD new j 0) (getD (baseBy p old new) j 0)
+  pub wide-at : p .small ≡ false → (j : ℕ) → j < length (dataBy p old new)
+      → getD (dataBy p old new) j 0 ≡ rawIn 256 (getD new j 0) (getD (baseBy p old new) j 0)
   unfolding dataBy
   wide-at e j h =
       ap (λ t. getD (packed (cond t 4 8) (raws (cond t 4 8) new (baseBy p old new))) j 0) e

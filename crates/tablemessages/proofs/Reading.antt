@@ -198,11 +198,13 @@ module _ {bits : ℕ} (w : Width bits) (room size : ℕ) (number : List ℕ) (si
         omega arith
 
     run-within : h .table .nextentry + length (numbers bits d) ≤ length (h .entries)
-    run-within = let long : h .table .nextentry + length (numbers bits d) + length (numbers bits (joined (e ∷ ds))) ≡ length (h .entries) = run-long in omega arith
+    run-within =
+        let long : h .table .nextentry + length (numbers bits d) + length (numbers bits (joined (e ∷ ds))) ≡ length (h .entries) = run-long in omega arith
 
     -- what is left to add fits just as it did before this message
     run-fit : (fitAt bits (h .table .infinity) (h .table .nextentry) (numbers bits d) (h .entries)
-        && fitAt bits (h .table .infinity) (h .table .nextentry + length (numbers bits d)) (numbers bits (joined (e ∷ ds))) (addedAt bits (h .table .nextentry) (numbers bits d) (h .entries)))
+        && fitAt bits (h .table .infinity) (h .table .nextentry + length (numbers bits d)) (numbers bits (joined (e ∷ ds)))
+        (addedAt bits (h .table .nextentry) (numbers bits d) (h .entries)))
         ≡ true
     run-fit =
         fit-twice bits (h .table .nextentry) (numbers bits d) (h .entries) run-within (h .table .infinity) (numbers bits (joined (e ∷ ds)))
@@ -215,7 +217,8 @@ module _ {bits : ℕ} (w : Width bits) (room size : ℕ) (number : List ℕ) (si
           long = rw (addedAt-length bits (h .table .nextentry) (numbers bits d) (h .entries) run-within) run-long;
           fit = and-second
               (fitAt bits (h .table .infinity) (h .table .nextentry) (numbers bits d) (h .entries))
-              (fitAt bits (h .table .infinity) (h .table .nextentry + length (numbers bits d)) (numbers bits (joined (e ∷ ds))) (addedAt bits (h .table .nextentry) (numbers bits d) (h .entries)))
+              (fitAt bits (h .table .infinity) (h .table .nextentry + length (numbers bits d)) (numbers bits (joined (e ∷ ds)))
+              (addedAt bits (h .table .nextentry) (numbers bits d) (h .entries)))
               run-fit;
         }
 
@@ -241,7 +244,8 @@ module _ {bits : ℕ} (w : Width bits) (room size : ℕ) (number : List ℕ) (si
         (λ q. absurd (omega arith))
         (and-first
         (fitAt bits (h .table .infinity) (h .table .nextentry) (numbers bits d) (h .entries))
-        (fitAt bits (h .table .infinity) (h .table .nextentry + length (numbers bits d)) (numbers bits (joined (e ∷ ds))) (addedAt bits (h .table .nextentry) (numbers bits d) (h .entries)))
+        (fitAt bits (h .table .infinity) (h .table .nextentry + length (numbers bits d)) (numbers bits (joined (e ∷ ds)))
+        (addedAt bits (h .table .nextentry) (numbers bits d) (h .entries)))
         run-fit))
 
     -- and it comes to the same
@@ -258,4 +262,5 @@ module _ {bits : ℕ} (w : Width bits) (room size : ℕ) (number : List ℕ) (si
   run-read place d (c ∷ ds) h low e short r =
       read-more
       (run-first place d c ds h r low (omega arith) (short .0))
-      (rw (run-same place d c ds h r) at (run-read (suc place) c ds (movedTo place size bits d h) (omega arith) (omega arith) (short .1) (run-on place d c ds h r)))
+      (rw (run-same place d c ds h r) at (run-read (suc place) c ds (movedTo place size bits d h) (omega arith) (omega arith) (short .1)
+      (run-on place d c ds h r)))

@@ -11,7 +11,8 @@ use Rattle.laws.proofs.Chunks.{Each}
 use Rattle.tables.specs.Patch.{numbers}
 use Rattle.tables.specs.Tables.{Held}
 use Rattle.tables.proofs.PatchFacts.{Width}
-use Rattle.tablemessages.specs.Writer.{baseOf, bitsFor, raws, dataOf, partsOf, runFrom, messagesOf, joined, writerAnswer, writerBytes, writerResult, writerOut}
+use Rattle.tablemessages.specs.Writer.{baseOf, bitsFor, raws, dataOf, partsOf, runFrom, messagesOf, joined, writerAnswer, writerBytes}
+use Rattle.tablemessages.specs.Writer.{writerResult, writerOut}
 use Rattle.tablemessages.specs.RoundTrip.{RoundTrip, BytesRoundTrip, ReadAs, Stands, settledAs, runPayloads, payloadsOf}
 use Rattle.tablemessages.proofs.Differences.{AllReach, raws-length, raws-added, raws-fit}
 use Rattle.tablemessages.proofs.Parts.{parts-joined}
@@ -47,7 +48,8 @@ from-reset n infinity =
       entries = refl;
     }
 
-module _ (new base : List ℕ) (infinity : ℕ) (b : Based new base infinity) (room : ℕ) (number : List ℕ) (sixteen : length number ≡ 16) (h : Held) (from : From h base infinity) where
+module _ (new base : List ℕ) (infinity : ℕ) (b : Based new base infinity) (room : ℕ) (number : List ℕ) (sixteen : length number ≡ 16)
+    (h : Held) (from : From h base infinity) where
   r : Width (bitsFor new base) × AllReach (bitsFor new base) new base
   r = reach new base infinity b
 

@@ -67,4 +67,10 @@ unfolding runFrom joined
 run-length number size bits place [] h = refl
 run-length number size bits place (d ∷ ds) h =
     length-append (update number (patchPayload place size bits d)) (joined (runFrom number (suc place) size bits ds))
-    ∙ omega (arith, length-append d (joined ds), message-length number 0x30 1 0 (patchPayload place size bits d) h, run-length number size bits (suc place) ds h)
+    ∙ omega (
+      arith,
+      length-append d (joined ds),
+      message-length number 0x30 1 0 (patchPayload place size bits d) h,
+      run-length number size bits
+          (suc place) ds h,
+    )

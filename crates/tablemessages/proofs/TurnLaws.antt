@@ -22,7 +22,8 @@ pub left-next : (number : List ℕ) (p : Plan) (place : ℕ) (d : List ℕ) → 
 unfolding leftOf patchWith runFrom joined
 left-next number p place d some h =
     ap (λ ps. joined (runFrom number place (p .count) (bitsBy p) ps)) (parts-next (p .size) some d h)
-    ∙ ap (λ k. patchWith number p place (take (p .size) d) ++ joined (runFrom number k (p .count) (bitsBy p) (partsOf (p .size) (drop (p .size) d)))) (sym (add-one place))
+    ∙ ap (λ k. patchWith number p place (take (p .size) d) ++ joined (runFrom number k (p .count) (bitsBy p) (partsOf (p .size) (drop (p .size) d))))
+    (sym (add-one place))
 
 pub left-none : (number : List ℕ) (p : Plan) (place : ℕ) (d : List ℕ) → length d ≤ 0 → leftOf number p place d ≡ []
 unfolding leftOf chunks runFrom joined

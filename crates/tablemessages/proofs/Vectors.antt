@@ -30,7 +30,8 @@ unfolding new messagesOf allNear raws dataOf chunks runFrom message packed write
 short = refl
 
 back : afterAll 4 (heldIn noTable []) messages ≡ settledAs new 8
-unfolding new messages messagesOf allNear raws dataOf chunks runFrom message packed afterAll updateAnswer updated goodReset goodPatch inTurn inRange resetBy movedOn patchBy brokenBy goodLength numbers added allFit
+unfolding new messages messagesOf allNear raws dataOf chunks runFrom message packed afterAll updateAnswer updated goodReset goodPatch
+    inTurn inRange resetBy movedOn patchBy brokenBy goodLength numbers added allFit
 back = refl
 
 -- from the old table: no RESET, and each difference 0 or 7

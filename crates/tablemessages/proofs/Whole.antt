@@ -129,11 +129,13 @@ run-small place size bits limit (d ∷ ds) k h =
 pub payloads-small : (had : Bool) (old new : List ℕ) (infinity size : ℕ) → size ≤ 4091 → Each Small (payloadsOf had old new infinity size)
 unfolding payloadsOf
 payloads-small true old new infinity size k =
-    run-small 1 (length (partsOf size (dataOf new old))) (bitsFor new old) size (partsOf size (dataOf new old)) k (part-sizes (length (dataOf new old)) size (dataOf new old))
+    run-small 1 (length (partsOf size (dataOf new old))) (bitsFor new old) size (partsOf size (dataOf new old)) k
+    (part-sizes (length (dataOf new old)) size (dataOf new old))
 payloads-small false old new infinity size k =
     let base : List ℕ = baseOf false old new infinity in (
       omega arith,
-      run-small 1 (length (partsOf size (dataOf new base))) (bitsFor new base) size (partsOf size (dataOf new base)) k (part-sizes (length (dataOf new base)) size (dataOf new base)),
+      run-small 1 (length (partsOf size (dataOf new base))) (bitsFor new base) size (partsOf size (dataOf new base)) k
+          (part-sizes (length (dataOf new base)) size (dataOf new base)),
     )
 
 short-of-small : (ps : List (List ℕ)) → Each Small ps → Each Short ps
@@ -149,7 +151,8 @@ pub record AllWhole (number : List ℕ) (had : Bool) (old new : List ℕ) (infin
   pub payloads : map payloadOf (messagesOf number had old new infinity size) ≡ payloadsOf had old new infinity size
   pub bytes : messagesIn (joined (messagesOf number had old new infinity size)) ≡ messagesOf number had old new infinity size
 
-pub all-whole : (number : List ℕ) (had : Bool) (old new : List ℕ) (infinity size : ℕ) → length number ≡ 16 → size ≤ 4091 → AllWhole number had old new infinity size
+pub all-whole : (number : List ℕ) (had : Bool) (old new : List ℕ) (infinity size : ℕ) → length number ≡ 16 → size ≤ 4091
+    → AllWhole number had old new infinity size
 all-whole number had old new infinity size sixteen k =
     let ps : List (List ℕ) = payloadsOf had old new infinity size in
     let short : Each Short ps = payloads-short had old new infinity size k in

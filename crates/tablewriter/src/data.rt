@@ -38,7 +38,9 @@ fn pair_at(entries: &[u8], i: usize) -> u32
 // What the differences of entries i and i + 1 are taken from, as one number.
 fn base_pair<'a>(plan: Plan, old: &'a [u8], new: &'a [u8], i: usize) -> u32
     requires { ⌜ (length (baseBy plan (now old) (now new)) ≡ length (now new)) × (i + 1 < length (now new)) ⌝ }
-    ensures { λ r. ⌜ (r ≡ pairOf (baseBy plan (now (old .entry)) (now (new .entry))) i) × (getD (baseBy plan (now (old .entry)) (now (new .entry))) i 0 < 256) ⌝ }
+    ensures { λ r.
+        ⌜ (r ≡ pairOf (baseBy plan (now (old .entry)) (now (new .entry))) i)
+        × (getD (baseBy plan (now (old .entry)) (now (new .entry))) i 0 < 256) ⌝ }
 {
     if plan.had {
         return pair_at(old, i);
@@ -55,7 +57,9 @@ fn low_bits(e: u32, b: u32) -> u32
 
 // The differences of entries i and i + 1 in one byte, the first in its first four bits.
 fn pair_byte<'a>(plan: Plan, old: &'a [u8], new: &'a [u8], i: usize) -> u8
-    requires { ⌜ (length (baseBy plan (now old) (now new)) ≡ length (now new)) × (allNear (now new) (baseBy plan (now old) (now new)) ≡ true) × (i + 1 < length (now new)) ⌝ }
+    requires { ⌜ (length (baseBy plan (now old) (now new)) ≡ length (now new))
+        × (allNear (now new) (baseBy plan (now old) (now new)) ≡ true)
+        × (i + 1 < length (now new)) ⌝ }
     ensures { λ r. ⌜ r ≡ pairIn (now (new .entry)) (baseBy plan (now (old .entry)) (now (new .entry))) i ⌝ }
 {
     let e = pair_at(new, i);

@@ -46,7 +46,10 @@ fn put_patch<'a>(
     part: &mut [u8],
 )
     requires { ⌜ Sound plan (now old) (now new) × (from + n ≤ length (dataBy plan (now old) (now new))) × (n ≤ 4091) × (28 + n ≤ length (now part)) ⌝ }
-    ensures { λ r. ⌜ now (part .exit) ≡ over 0 (patchWith number plan place (take n (drop from (dataBy plan (now (old .entry)) (now (new .entry)))))) (now (part .entry)) ⌝ }
+    ensures { λ r.
+        ⌜ now (part .exit) ≡ over 0
+        (patchWith number plan place (take n (drop from (dataBy plan (now (old .entry)) (now (new .entry))))))
+        (now (part .entry)) ⌝ }
 {
     let size = (5 + n) as u32;
     let bits = bits_of(plan);

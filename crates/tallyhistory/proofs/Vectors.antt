@@ -36,5 +36,6 @@ unfolding calls messages
 three = refl
 
 tallied : tallyOf begun calls ≡ 0 ∷ 0 ∷ 0 ∷ 1 ∷ 2 ∷ replicate (answerCount - 5) 0
-unfolding own begun calls answersOf oneMore bump bumps keptPlaces tableInOrder remembered find remember noTwice storedPongs lineInOrder inOrder fresh opening closing early arriving asking
+unfolding own begun calls answersOf oneMore bump bumps keptPlaces tableInOrder remembered find remember noTwice storedPongs lineInOrder
+    inOrder fresh opening closing early arriving asking
 tallied = refl

@@ -15,7 +15,11 @@ returns c = rw (c .before .before .before .before .if1 .taken) (c .before .befor
 add-bytes-requires : tie.Need-add-bytes-requires
 add-bytes-requires c κs =
     let x = c .before .before .before .before .args in
-    rw (numbers-whole (x .bits) (x .bytes .now) (c .before .if1 .left), eight (x .bits) (c .before .before .before .before .pre .0) (c .before .if1 .left)) at (c .before .before .before .before .pre .1)
+    rw (
+      numbers-whole (x .bits) (x .bytes .now) (c .before .if1 .left),
+      eight (x .bits) (c .before .before .before .before .pre .0)
+          (c .before .if1 .left),
+    ) at (c .before .before .before .before .pre .1)
 
 same-length-2 : tie.Need-same-length-2
 same-length-2 c = search needs
@@ -23,7 +27,11 @@ same-length-2 c = search needs
 returns-2 : tie.Need-returns-2
 returns-2 c =
     let x = c .before .before .before .before .before .before .before .args in
-    rw (numbers-whole (x .bits) (x .bytes .now) (c .before .before .before .before .if1 .left), eight (x .bits) (c .before .before .before .before .before .before .before .pre .0) (c .before .before .before .before .if1 .left)) (c .before .before .add-bytes .ensures)
+    rw (
+      numbers-whole (x .bits) (x .bytes .now) (c .before .before .before .before .if1 .left),
+      eight (x .bits)
+          (c .before .before .before .before .before .before .before .pre .0) (c .before .before .before .before .if1 .left),
+    ) (c .before .before .add-bytes .ensures)
 
 pub add-all-spec : {M : Type 1} → statement M
 add-all-spec =

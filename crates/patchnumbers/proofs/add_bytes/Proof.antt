@@ -42,7 +42,8 @@ loop-again c =
     let ns = x .numbers .now in
     let fits = adding-fits 8 (l .j) ns (x .entries .now) (l .entries) (l .inv) (omega arith) in
     adding-more 8 (l .j) ns (x .entries .now) (l .entries) (l .inv) (c .sum-of .result) (omega arith)
-    (c .sum-of .ensures ∙ sum-wraps 255 (getD ns (l .j) 0) (getD (l .entries) (l .j) 0) (omega arith) (omega (arith, c .before .before .shared-slice-known2 .given (l .j))) fits)
+    (c .sum-of .ensures ∙ sum-wraps 255 (getD ns (l .j) 0) (getD (l .entries) (l .j) 0) (omega arith)
+    (omega (arith, c .before .before .shared-slice-known2 .given (l .j))) fits)
 
 same-length : tie.Need-same-length Inv-loop μ-loop
 same-length c = c .before .loop .inv .same

@@ -57,7 +57,8 @@ loop-again : tie.Need-loop-again Inv-loop μ-loop
 loop-again c =
     let x = c .before .before .before .before .before .before .before .before .before .before .args in
     let l = c .before .before .before .before .before .before .before .loop in
-    block-added (l .at) (c .before .before .before .before .before .block-end .result) (x .bytes .now) (l .entries) (omega arith) (omega arith) (x .entries .now) (l .inv) (c .before .before .add-block .last .1 .0) (c .before .before .add-block .ensures)
+    block-added (l .at) (c .before .before .before .before .before .block-end .result) (x .bytes .now) (l .entries) (omega arith) (omega arith)
+    (x .entries .now) (l .inv) (c .before .before .add-block .last .1 .0) (c .before .before .add-block .ensures)
 
 same-length : tie.Need-same-length Inv-loop μ-loop
 same-length c = c .before .loop .inv .same

@@ -21,7 +21,11 @@ bytes-fit-requires c κs =
 returns-2 : tie.Need-returns-2
 returns-2 c =
     let x = c .before .before .before .before .args in
-    rw (numbers-whole (x .bits) (x .bytes .now) (c .before .if1 .left), eight (x .bits) (c .before .before .before .before .pre .0) (c .before .if1 .left)) (c .bytes-fit .ensures)
+    rw (
+      numbers-whole (x .bits) (x .bytes .now) (c .before .if1 .left),
+      eight (x .bits) (c .before .before .before .before .pre .0)
+          (c .before .if1 .left),
+    ) (c .bytes-fit .ensures)
 
 pub all-fit-spec : {M : Type 1} → statement M
 all-fit-spec = tie.close (tie.spec nibbles-fit-requires returns bytes-fit-requires returns-2)

@@ -40,7 +40,8 @@ loop-again c =
     let l = c .before .before .before .before .loop in (
       omega arith,
       l .inv .1
-          ∙ testing-more 8 (x .infinity) (l .j) (x .numbers .now) (x .entries .now) (l .good) (c .number-fits .result) (omega arith) (omega arith) (c .number-fits .ensures),
+          ∙ testing-more 8 (x .infinity) (l .j) (x .numbers .now) (x .entries .now) (l .good) (c .number-fits .result) (omega arith) (omega arith)
+          (c .number-fits .ensures),
     )
 
 returns : tie.Need-returns Inv-loop μ-loop

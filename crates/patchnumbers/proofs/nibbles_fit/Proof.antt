@@ -58,7 +58,8 @@ loop-again c =
     let l = c .before .before .before .before .before .loop in (
       omega arith,
       l .inv .1
-          ∙ block-tested (l .at) (c .before .before .before .block-end .result) (x .bytes .now) (x .entries .now) (omega arith) (omega arith) (x .infinity) (l .good) (c .block-fits .result) (c .block-fits .ensures),
+          ∙ block-tested (l .at) (c .before .before .before .block-end .result) (x .bytes .now) (x .entries .now) (omega arith) (omega arith)
+          (x .infinity) (l .good) (c .block-fits .result) (c .block-fits .ensures),
     )
 
 returns : tie.Need-returns Inv-loop μ-loop

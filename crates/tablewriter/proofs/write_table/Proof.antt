@@ -29,7 +29,8 @@ good c =
 -- the run's messages and its data, as the code counts them
 module _ (c : tie.After-data-length) where
   count : let x = c .before .before .before .before .before .before .before .args in
-      (c .data-length .result + x .size - 1) / x .size ≡ length (partsOf (x .size) (dataOf (x .new .now) (baseOf (x .had) (x .old .now) (x .new .now) (x .infinity))))
+      (c .data-length .result + x .size - 1) / x .size
+      ≡ length (partsOf (x .size) (dataOf (x .new .now) (baseOf (x .had) (x .old .now) (x .new .now) (x .infinity))))
   count =
       let x = c .before .before .before .before .before .before .before .args in
       let a = c .before .all-near in
@@ -107,7 +108,8 @@ returns-2 c =
     let k = count (c .before .before) in
     let w =
     refused (x .number) (x .had) (x .old .now) (x .old-infinity) (x .new .now) (x .infinity) (x .size) (x .out .now) 14
-    (too-many (x .number) (x .had) (x .old .now) (x .old-infinity) (x .new .now) (x .infinity) (x .size) (x .out .now) (may (c .before .before .before .before)) (omega arith))
+    (too-many (x .number) (x .had) (x .old .now) (x .old-infinity) (x .new .now) (x .infinity) (x .size) (x .out .now)
+    (may (c .before .before .before .before)) (omega arith))
     refl in
     (c .answered2 .ensures ∙ w .0, w .1)
 
@@ -121,7 +123,14 @@ add-total : tie.Need-add-total
 add-total c = omega (arith, c .reset-length .ensures, reset-few (c .before .before .before .before .before .before .before .before .before .args .had))
 
 add-total-2 : tie.Need-add-total-2
-add-total-2 c = omega (arith, few (c .before .before), c .reset-length .ensures, reset-few (c .before .before .before .before .before .before .before .before .before .args .had))
+add-total-2 c =
+    omega (
+      arith,
+      few (c .before .before),
+      c .reset-length .ensures,
+      reset-few
+          (c .before .before .before .before .before .before .before .before .before .args .had),
+    )
 
 answered-requires-3 : tie.Need-answered-requires-3
 answered-requires-3 c κs = search needs
@@ -133,7 +142,8 @@ returns-3 c =
     let t = total (c .before .before) in
     let w =
     refused (x .number) (x .had) (x .old .now) (x .old-infinity) (x .new .now) (x .infinity) (x .size) (x .out .now) 2
-    (too-short (x .number) (x .had) (x .old .now) (x .old-infinity) (x .new .now) (x .infinity) (x .size) (x .out .now) (may (c .before .before .before .before .before .before)) (omega arith) (omega arith))
+    (too-short (x .number) (x .had) (x .old .now) (x .old-infinity) (x .new .now) (x .infinity) (x .size) (x .out .now)
+    (may (c .before .before .before .before .before .before)) (omega arith) (omega arith))
     refl in
     (c .answered3 .ensures ∙ w .0, w .1)
 

@@ -22,14 +22,29 @@ good-infinity-requires : tie.Need-good-infinity-requires
 good-infinity-requires c κs = search needs
 
 returns-3 : tie.Need-returns-3
-returns-3 c = rw (sym (c .before .before .before .before .before .good-length .ensures) ∙ not-false _ (c .before .before .before .before .if1 .left), le-leb _ _ (c .before .before .if2 .left), sym (c .before .good-infinity .ensures) ∙ not-true _ (c .if3 .taken))
+returns-3 c =
+    rw (
+      sym (c .before .before .before .before .before .good-length .ensures)
+          ∙ not-false _ (c .before .before .before .before .if1 .left),
+      le-leb _ _ (c .before .before .if2 .left),
+      sym (c .before .good-infinity .ensures)
+          ∙ not-true _ (c .if3 .taken),
+    )
 
 inside-run-requires : tie.Need-inside-run-requires
 inside-run-requires c κs = search needs
 
 returns-4 : tie.Need-returns-4
 returns-4 c =
-    rw (sym (c .before .before .before .before .before .before .before .before .good-length .ensures) ∙ not-false _ (c .before .before .before .before .before .before .before .if1 .left), le-leb _ _ (c .before .before .before .before .before .if2 .left), sym (c .before .before .before .before .good-infinity .ensures) ∙ not-false _ (c .before .before .before .if3 .left), eq-eqb _ _ (c .before .if4 .taken))
+    rw (
+      sym (c .before .before .before .before .before .before .before .before .good-length .ensures)
+          ∙ not-false _ (c .before .before .before .before .before .before .before .if1 .left),
+      le-leb _ _
+          (c .before .before .before .before .before .if2 .left),
+      sym (c .before .before .before .before .good-infinity .ensures)
+          ∙ not-false _ (c .before .before .before .if3 .left),
+      eq-eqb _ _ (c .before .if4 .taken),
+    )
     (c .inside-run .ensures ∙ sym (and-true (insideRun (c .before .before .before .before .before .before .before .before .before .args .table))))
 
 between-runs-requires : tie.Need-between-runs-requires
@@ -37,7 +52,15 @@ between-runs-requires c κs = search needs
 
 returns-5 : tie.Need-returns-5
 returns-5 c =
-    rw (sym (c .before .before .before .before .before .before .before .before .good-length .ensures) ∙ not-false _ (c .before .before .before .before .before .before .before .if1 .left), le-leb _ _ (c .before .before .before .before .before .if2 .left), sym (c .before .before .before .before .good-infinity .ensures) ∙ not-false _ (c .before .before .before .if3 .left), ne-eqb _ _ (c .before .if4 .left))
+    rw (
+      sym (c .before .before .before .before .before .before .before .before .good-length .ensures)
+          ∙ not-false _ (c .before .before .before .before .before .before .before .if1 .left),
+      le-leb _ _
+          (c .before .before .before .before .before .if2 .left),
+      sym (c .before .before .before .before .good-infinity .ensures)
+          ∙ not-false _ (c .before .before .before .if3 .left),
+      ne-eqb _ _ (c .before .if4 .left),
+    )
     (c .between-runs .ensures ∙ sym (and-true (betweenRuns (c .before .before .before .before .before .before .before .before .before .args .table))))
 
 pub within-limits-spec : {M : Type 1} → statement M

@@ -41,7 +41,8 @@ loop-again c =
     let l = c .before .before .before .before .loop in (
       omega arith,
       l .inv .1
-          ∙ near-more (x .new .now) (baseOf (x .had) (x .old .now) (x .new .now) (x .infinity)) (l .i) (l .good) (c .is-near .result) (omega arith) (omega arith)
+          ∙ near-more (x .new .now) (baseOf (x .had) (x .old .now) (x .new .now) (x .infinity)) (l .i) (l .good) (c .is-near .result) (omega arith)
+          (omega arith)
           (c .is-near .ensures ∙ ap (near (getD (x .new .now) (l .i) 0)) (c .before .before .base-at .ensures)),
     )
 
