@@ -5,7 +5,8 @@ use mathlib.Core.Bool.{Bool, true, false}
 use mathlib.Core.List.{List, [], _∷_, _++_, map}
 use lib.ListN.{length, replicate, drop}
 use Rattle.wire.specs.Header.{message}
-use Rattle.keywords.specs.Keywords.{keywordsOf, pieces, filled, isSeparator, lower}
+use Rattle.laws.specs.Text.{lower}
+use Rattle.keywords.specs.Keywords.{keywordsOf, pieces, filled, isSeparator}
 use Rattle.keywords.specs.Hash.{hashOf, word, xor32}
 use Rattle.tables.specs.declared.Table.{Table}
 use Rattle.tables.specs.Tables.{noTable, running, settled, broken}

@@ -14,7 +14,9 @@ use borrow.Author.Tests.{lt-ltb, le-ltb}
 use Rattle.laws.specs.Tests.{any, all}
 use Rattle.laws.proofs.Parts.{part-tail}
 use Rattle.keywords.specs.declared.cut.Cut.{Cut}
-use Rattle.keywords.specs.Keywords.{isSeparator, lower, onto, filled, leading, matching, pieces, startBy, endBy, keywordsOf, cutStart, cutEnd, cutOf, keywordAt, textBehind}
+use Rattle.laws.specs.Text.{lower, onto}
+use Rattle.keywords.specs.Keywords.{isSeparator, filled, leading, matching, pieces, startBy, endBy, keywordsOf, cutStart, cutEnd}
+use Rattle.keywords.specs.Keywords.{cutOf, keywordAt, textBehind}
 use Rattle.keywords.specs.Hash.{hashOf}
 use Rattle.keywords.proofs.HashLaws.{hash-lower}
 
@@ -71,7 +73,8 @@ module _ (s : ℕ → Bool) where
   skip [] = refl
   skip (b ∷ bs) = by (s b) refl (skip bs)
     where
-      by : (t : Bool) → s b ≡ t → filled (pieces s bs) ≡ filled (pieces s (drop (leading s bs) bs)) → filled (pieces s (b ∷ bs)) ≡ filled (pieces s (drop (leading s (b ∷ bs)) (b ∷ bs)))
+      by : (t : Bool) → s b ≡ t → filled (pieces s bs) ≡ filled (pieces s (drop (leading s bs) bs))
+          → filled (pieces s (b ∷ bs)) ≡ filled (pieces s (drop (leading s (b ∷ bs)) (b ∷ bs)))
       by true e h = rw e h
       by false e h = rw e (rw e)
 
@@ -214,7 +217,8 @@ module _ (text : List ℕ) (c : Cut) (e : c ≡ cutOf text) where
 
   module _ (f : ℕ → Bool) where
     pub any-found : c .start < c .end → any (λ k. f (hashOf k)) (keywordsOf text)
-        ≡ (f (hashOf (take (c .end - c .start) (drop (c .start) text))) || any (λ k. f (hashOf k)) (keywordsOf (take (length text - c .end) (drop (c .end) text))))
+        ≡ (f (hashOf (take (c .end - c .start) (drop (c .start) text))) || any (λ k. f (hashOf k))
+        (keywordsOf (take (length text - c .end) (drop (c .end) text))))
     any-found h = rw (cut-found h, hash-lower)
 
     pub any-done : c .end ≤ c .start → any (λ k. f (hashOf k)) (keywordsOf text) ≡ false

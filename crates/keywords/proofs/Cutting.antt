@@ -10,7 +10,8 @@ use lib.ListN.{length}
 use borrow.Author.Tests.{le-leb, lt-leb, eqb-false, ne-eqb}
 use Rattle.laws.specs.Tests.{any}
 use Rattle.laws.proofs.Refusals.{or-fst, or-snd}
-use Rattle.keywords.specs.Keywords.{isSeparator, lower, onto, filled, pieces, keywordsOf}
+use Rattle.laws.specs.Text.{lower, onto}
+use Rattle.keywords.specs.Keywords.{isSeparator, filled, pieces, keywordsOf}
 use Rattle.keywords.specs.Cutting.{CutAtSpaces, FoldsLetters}
 
 filled-append : (ps qs : List (List ℕ)) → filled (ps ++ qs) ≡ filled ps ++ filled qs

@@ -11,7 +11,7 @@ use lib.Bits.{bitXor}
 use borrow.Author.Tests.{le-leb, lt-leb}
 use Rattle.laws.specs.Bytes.{xor}
 use Rattle.laws.proofs.Bits.{xor-below, xor-regroup, xor-is, xor-none, xor-above, xor-swap}
-use Rattle.keywords.specs.Keywords.{lower}
+use Rattle.laws.specs.Text.{lower}
 use Rattle.keywords.specs.Hash.{xor32, word, factor, hashOf, rolling}
 
 -- ---- lower case

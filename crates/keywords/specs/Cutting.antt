@@ -9,7 +9,8 @@ use mathlib.Core.List.{List, [], _∷_, _++_, map}
 use lib.Dec.{eqb}
 use lib.ListN.{length}
 use Rattle.laws.specs.Tests.{any}
-use Rattle.keywords.specs.Keywords.{lower, keywordsOf}
+use Rattle.laws.specs.Text.{lower}
+use Rattle.keywords.specs.Keywords.{keywordsOf}
 
 pub record CutAtSpaces : Type 0 where
   pub none : keywordsOf [] ≡ []

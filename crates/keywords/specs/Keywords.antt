@@ -1,23 +1,15 @@
 -- Keywords of a text (RULES 11.1, 11.2).
 use Prim.Native.Nat.{ℕ, suc, _+_, _-_}
-use mathlib.Core.Bool.{Bool, true, false, cond, not, _&&_}
+use mathlib.Core.Bool.{Bool, true, false, cond, not}
 use mathlib.Core.List.{List, [], _∷_, map}
-use lib.Dec.{eqb, leb}
+use lib.Dec.{eqb}
 use lib.ListN.{take, drop}
+use Rattle.laws.specs.Text.{lower, onto}
 use Rattle.keywords.specs.declared.cut.Cut.{Cut}
 
 -- the bytes that part keywords
 unfoldable pub isSeparator : ℕ → Bool
 isSeparator b = eqb b 0x20
-
--- letters A to Z in lower case, every other byte as it is (RULES 11.2)
-unfoldable pub lower : ℕ → ℕ
-lower b = cond (leb 0x41 b && leb b 0x5A) (b + 32) b
-
--- a byte in front of the first of these pieces
-abbrev pub onto : ℕ → List (List ℕ) → List (List ℕ)
-onto b [] = (b ∷ []) ∷ []
-onto b (p ∷ ps) = (b ∷ p) ∷ ps
 
 -- empty pieces vanish
 unfoldable pub filled : List (List ℕ) → List (List ℕ)

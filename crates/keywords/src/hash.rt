@@ -2,7 +2,7 @@
 ghost use Prim.Native.Nat.{_+_, _-_, _*_, _/_, _^_, _<_};
 ghost use mathlib.Core.Path.{_≡_};
 ghost use mathlib.Core.List.{map};
-ghost use Rattle.keywords.specs.Keywords.{lower};
+ghost use Rattle.laws.specs.Text.{lower};
 ghost use Rattle.keywords.specs.Hash.{word, hashOf, placeOf, scaled};
 
 // Letters A to Z in lower case.

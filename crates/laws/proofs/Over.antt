@@ -1,13 +1,13 @@
 -- Laws of a list written over another, and of a part that is lent and comes back.
 use Prim.Native.Nat.{ℕ, zero, suc, _+_, _-_, _≤_, _<_}
 use mathlib.Core.Path.{_≡_, refl, sym, ap, _∙_}
-use mathlib.Core.List.{List, [], _∷_, _++_, append-assoc}
+use mathlib.Core.List.{List, [], _∷_, _++_, append-assoc, append-nil}
 use native.Mathlib.Nat.{zero-add, sub-zero, zero-sub, suc-sub-suc}
 use native.Mathlib.Omega.{arith}
-use lib.ListN.{length, take, drop, replicate, length-append, length-take, length-drop, length-replicate}
-use lib.Seq.{take-nil, drop-nil, take-take, drop-drop, take-append-seam, drop-append-seam}
+use lib.ListN.{length, take, drop, replicate, length-append, length-take, length-drop, length-replicate, drop-of-length-le}
+use lib.Seq.{take-nil, drop-nil, take-take, drop-drop, take-append-seam, drop-append-seam, take-all, take-length}
 use borrow.Rule.Slice.PartMut.{putMid}
-use Rattle.laws.specs.Parts.{over}
+use Rattle.laws.specs.Parts.{over, copied}
 
 -- `&l[k..end]` where end is as far as the first n go
 pub rest-front : (l : List ℕ) (k n : ℕ) → take (length (take n l) - k) (drop k l) ≡ drop k (take n l)
@@ -58,7 +58,8 @@ pub over-lent : (k n : ℕ) (l ys : List ℕ) → k ≤ length (take n l) → le
     → putMid k (length (take n l) - k) l ys ≡ over 0 (take k (take n l) ++ ys) l
 over-lent k n l ys h e =
     let m : k ≤ n = omega (arith, length-take n l) in
-    let w : k + (length (take n l) - k) ≡ 0 + length (take k l ++ ys) = simp (length-append, length-take) (rw e (simp length-take (omega (arith, length-take n l)))) in
+    let w : k + (length (take n l) - k) ≡ 0 + length (take k l ++ ys) =
+    simp (length-append, length-take) (rw e (simp length-take (omega (arith, length-take n l)))) in
     ap (λ z. take k l ++ (ys ++ z)) (drop-drop (length (take n l) - k) k l ∙ ap (λ j. drop j l) w)
     ∙ sym (append-assoc (take k l) ys (drop (0 + length (take k l ++ ys)) l))
     ∙ ap (λ z. over 0 (z ++ ys) l) (sym (take-take k n l m))
@@ -66,3 +67,23 @@ over-lent k n l ys h e =
 -- `&l[k..]` is shorter than l, where k is not 0
 pub tail-shorter : (k : ℕ) (l : List ℕ) → 0 < k → k ≤ length l → length (take (length l - k) (drop k l)) < length l
 tail-shorter k l h e = simp (length-take, length-drop) (omega arith)
+
+-- as the kit's `bytes::copy` leaves a list
+pub over-copy : (bs l : List ℕ) → take (length bs) bs ++ drop (length bs) l ≡ over 0 bs l
+over-copy bs l = simp (take-length, zero-add)
+
+-- bytes that fit are copied whole
+pub copied-whole : (bs part : List ℕ) → length bs ≤ length part → copied bs part ≡ over 0 bs part
+unfolding copied
+copied-whole bs part h = ap (λ l. over 0 l part) (take-all (length part) bs h)
+
+-- a part that is no longer than the bytes is filled by them
+pub copied-full : (bs part : List ℕ) → length part ≤ length bs → copied bs part ≡ take (length part) bs
+unfolding copied
+copied-full bs part h =
+    let n : length (take (length part) bs) ≡ length part = simp length-take (omega arith) in
+    ap (λ l. take (length part) bs ++ l) (drop-of-length-le part {i = 0 + length (take (length part) bs)} (omega arith)) ∙ append-nil (take (length part) bs)
+
+pub copied-length : (bs part : List ℕ) → length (copied bs part) ≡ length part
+unfolding copied
+copied-length bs part = over-length 0 (take (length part) bs) part (simp length-take (omega arith))

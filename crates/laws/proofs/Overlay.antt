@@ -22,7 +22,8 @@ over-read from bs area h =
 -- a piece that ends before
 pub over-ahead : (from : ℕ) (bs area : List ℕ) (b n : ℕ) → from ≤ length area → b + n ≤ from
     → take n (drop b (over from bs area)) ≡ take n (drop b area)
-over-ahead from bs area b n h k = inside (bs ++ drop (from + length bs) area) ∙ sym (inside (drop from area)) ∙ ap (λ l. take n (drop b l)) (take-append-drop from area)
+over-ahead from bs area b n h k =
+    inside (bs ++ drop (from + length bs) area) ∙ sym (inside (drop from area)) ∙ ap (λ l. take n (drop b l)) (take-append-drop from area)
   where
     long : length (take from area) ≡ from
     long = length-take-le from area h
@@ -83,7 +84,8 @@ over-apart L l room bs area ne hb hl ha =
     let inside : l * room + room ≤ 8 * room = part-ends l 8 room (omega arith) in
     ⊎-elim
     (λ k. let before : L * room + room ≤ l * room = part-ends L l room k in over-ahead (l * room) bs area (L * room) room (omega arith) before)
-    (λ k. let after : l * room + room ≤ L * room = part-ends l L room k in ap (take room) (over-behind (l * room) bs area (L * room) (omega arith) (omega arith)))
+    (λ k. let after : l * room + room ≤ L * room = part-ends l L room k in
+    ap (take room) (over-behind (l * room) bs area (L * room) (omega arith) (omega arith)))
     (sides (ltb L l) refl)
   where
     sides : (b : Bool) → ltb L l ≡ b → (L < l) ⊎ (l < L)

@@ -43,7 +43,8 @@ over-set at x b d h =
     ∙ over-append at (x ∷ []) b d (omega arith)
 
 -- a turn of a loop that copies: the byte at i is written, and what is left behind it
-pub copy-on : (at i : ℕ) (part d : List ℕ) → i < length part → at + i < length d → over (at + (i + 1)) (drop (i + 1) part) (set d (at + i) (getD part i 0)) ≡ over (at + i) (drop i part) d
+pub copy-on : (at i : ℕ) (part d : List ℕ) → i < length part → at + i < length d
+    → over (at + (i + 1)) (drop (i + 1) part) (set d (at + i) (getD part i 0)) ≡ over (at + i) (drop i part) d
 copy-on at i part d h k =
     let e : at + (i + 1) ≡ at + i + 1 = omega arith in
     let f : drop i part ≡ getD part i 0 ∷ drop (i + 1) part = drop-cons part i 0 h ∙ ap (λ j. getD part i 0 ∷ drop j part) (sym (add-one i)) in

@@ -8,7 +8,8 @@ use native.Mathlib.Numerals.{add-one}
 use native.Mathlib.Omega.{arith}
 use native.Mathlib.Decide.{decLe}
 use lib.ListN.{length, getD, take, drop, set, length-append, length-take, length-drop, take-append-drop, drop-of-length-le}
-use lib.Seq.{sets, sets-eq, set-at, drop-cons, take-suc, append-snoc, drop-drop, drop-append-le, take-at, take-all, take-add, take-append-seam, drop-append-seam, drop-append-add, length-take-le}
+use lib.Seq.{sets, sets-eq, set-at, drop-cons, take-suc, append-snoc, drop-drop, drop-append-le, take-at, take-all, take-add, take-append-seam}
+use lib.Seq.{drop-append-seam, drop-append-add, length-take-le}
 use borrow.Rule.Slice.PartMut.{putMid}
 use Rattle.laws.specs.Tests.{any, all}
 use Rattle.laws.specs.Bytes.{little, littleBytes}

@@ -6,3 +6,7 @@ use lib.ListN.{length, take, drop}
 -- `area` with `bs` written over it from place `from` on
 abbrev pub over : ℕ → List ℕ → List ℕ → List ℕ
 over from bs area = take from area ++ (bs ++ drop (from + length bs) area)
+
+-- `part` with as many of `bs` at its front as it has room for
+unfoldable pub copied : List ℕ → List ℕ → List ℕ
+copied bs part = over 0 (take (length part) bs) part

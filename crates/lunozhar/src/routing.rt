@@ -1,9 +1,9 @@
 // Route tables written, and the places of keywords in them.
 ghost use mathlib.Core.Path.{_≡_};
 ghost use Rattle.keywords.specs.Hash.{hashOf, placeOf};
-ghost use Rattle.tablewriter.specs.Writer.{writerResult, writerOut};
+ghost use Rattle.tablemessages.specs.Writer.{writerResult, writerOut};
 use crate::Number;
-use tablewriter::Written;
+use tablemessages::Written;
 
 // The messages that turn the old table, if there was one, into the new.
 #[no_mangle]

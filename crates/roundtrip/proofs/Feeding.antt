@@ -15,8 +15,8 @@ use Rattle.wire.specs.Header.{sizeOf, payloadOf}
 use Rattle.tables.specs.Tables.{Held, heldIn}
 use Rattle.tables.specs.Updates.{isPatch, updated, patchBy, brokenBy}
 use Rattle.tables.proofs.KeepLaws.{moved-length, patched-length}
-use Rattle.tablewriter.specs.RoundTrip.{answerTo, after}
-use Rattle.tablewriter.proofs.Whole.{Whole}
+use Rattle.tablemessages.specs.RoundTrip.{answerTo, after}
+use Rattle.tablemessages.proofs.Whole.{Whole}
 use Rattle.protocol.specs.declared.Line.{Line}
 use Rattle.protocol.specs.declared.Report.{Report}
 use Rattle.protocol.specs.Lines.{withTable, partOf}

@@ -12,8 +12,8 @@ use Rattle.laws.proofs.Chunks.{Each}
 use Rattle.laws.proofs.Overlay.{over-behind, over-same-front}
 use Rattle.tables.specs.declared.Table.{Table}
 use Rattle.tables.specs.Tables.{Held}
-use Rattle.tablewriter.specs.Writer.{joined}
-use Rattle.tablewriter.specs.RoundTrip.{answerTo, after, answersTo, afterAll}
+use Rattle.tablemessages.specs.Writer.{joined}
+use Rattle.tablemessages.specs.RoundTrip.{answerTo, after, answersTo, afterAll}
 use Rattle.protocol.specs.declared.Line.{Line}
 use Rattle.protocol.specs.Lines.{withTable}
 use Rattle.protocol.specs.State.{Station, stationOf, lineAt, withLine, heldAt}

@@ -20,13 +20,13 @@ use Rattle.tables.specs.declared.Table.{Table}
 use Rattle.tables.specs.Tables.{Held, settled, betweenRuns, tableInOrder, heldIn}
 use Rattle.tables.specs.Updates.{isPatch}
 use Rattle.tables.proofs.OrderLaws.{limits}
-use Rattle.tablewriter.specs.Writer.{baseOf, bitsFor, dataOf, partsOf, runOf, messagesOf, joined, resetPayload, update}
-use Rattle.tablewriter.specs.Writer.{writerAnswer, writerBytes, writerResult, writerOut}
-use Rattle.tablewriter.specs.RoundTrip.{after, runPayloads, payloadsOf, Stands, ReadAs, settledTable, settledAs}
-use Rattle.tablewriter.proofs.Whole.{Small, Whole, AllWhole, payloads-small, all-whole}
-use Rattle.tablewriter.proofs.Reading.{resetTo, reset-taken}
-use Rattle.tablewriter.proofs.Accepted.{good-length, Accepted, accepted}
-use Rattle.tablewriter.proofs.RoundTrip.{round-trip, written-bytes}
+use Rattle.tablemessages.specs.Writer.{baseOf, bitsFor, dataOf, partsOf, runOf, messagesOf, joined, resetPayload, update}
+use Rattle.tablemessages.specs.Writer.{writerAnswer, writerBytes, writerResult, writerOut}
+use Rattle.tablemessages.specs.RoundTrip.{after, runPayloads, payloadsOf, Stands, ReadAs, settledTable, settledAs}
+use Rattle.tablemessages.proofs.Whole.{Small, Whole, AllWhole, payloads-small, all-whole}
+use Rattle.tablemessages.proofs.Reading.{resetTo, reset-taken}
+use Rattle.tablemessages.proofs.Accepted.{good-length, Accepted, accepted}
+use Rattle.tablemessages.proofs.RoundTrip.{round-trip, written-bytes}
 use Rattle.protocol.specs.declared.Line.{Line}
 use Rattle.protocol.specs.Lines.{withTable, partOf}
 use Rattle.protocol.specs.State.{Station, remembered, lineAt, heldAt}

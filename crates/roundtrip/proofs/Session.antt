@@ -13,9 +13,9 @@ use Rattle.tables.specs.Tables.{goodLength, tableInOrder}
 use Rattle.tables.specs.Patch.{numbers, packed, added, allFit}
 use Rattle.tables.specs.Updates.{updateAnswer, updated, goodReset, goodPatch, inTurn, inRange, resetBy, movedOn}
 use Rattle.tables.specs.Updates.{patchBy, brokenBy}
-use Rattle.tablewriter.specs.Writer.{allNear, raws, dataOf, chunks, runFrom, messagesOf, joined, goodTable}
-use Rattle.tablewriter.specs.Writer.{writerAnswer, writerBytes, writerResult, writerOut}
-use Rattle.tablewriter.specs.RoundTrip.{settledAs}
+use Rattle.tablemessages.specs.Writer.{allNear, raws, dataOf, chunks, runFrom, messagesOf, joined, goodTable}
+use Rattle.tablemessages.specs.Writer.{writerAnswer, writerBytes, writerResult, writerOut}
+use Rattle.tablemessages.specs.RoundTrip.{settledAs}
 use Rattle.protocol.specs.Memory.{queriesIn, noTwice, memoryInOrder}
 use Rattle.protocol.specs.Lines.{storedPongs}
 use Rattle.protocol.specs.State.{Station, heldAt}

@@ -8,8 +8,8 @@ use mathlib.Core.List.{List}
 use lib.ListN.{length, take, drop}
 use Rattle.laws.specs.Parts.{over}
 use Rattle.tables.specs.Tables.{Held, settled}
-use Rattle.tablewriter.specs.Writer.{messagesOf, writerResult, writerOut}
-use Rattle.tablewriter.specs.RoundTrip.{settledTable, settledAs}
+use Rattle.tablemessages.specs.Writer.{messagesOf, writerResult, writerOut}
+use Rattle.tablemessages.specs.RoundTrip.{settledTable, settledAs}
 use Rattle.protocol.specs.Lines.{withTable}
 use Rattle.protocol.specs.State.{Station, remembered, lineAt, withLine, heldAt}
 use Rattle.protocol.specs.Outcomes.{Terms}

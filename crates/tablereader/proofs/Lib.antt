@@ -1,2 +1,2 @@
-pub mod UnpackLaws
+-- Laws of the fields of an update.
 pub mod FieldLaws

@@ -76,12 +76,6 @@ pub(crate) fn entry_count(length: u32, room: usize) -> usize
     room
 }
 
-fn wide(x: u8) -> u32
-    ensures { λ r. ⌜ (r ≡ x) × (r < 256) ⌝ }
-{
-    x as u32
-}
-
 // The update's variant is that of a PATCH.
 pub(crate) fn is_patch(payload: &[u8]) -> bool
     ensures { λ r. ⌜ r ≡ isPatch (now (payload .entry)) ⌝ }
@@ -94,13 +88,10 @@ pub(crate) fn is_patch(payload: &[u8]) -> bool
 
 // The length that a RESET carries.
 pub(crate) fn length_in(payload: &[u8]) -> u32
-    requires { ⌜ 5 ≤ length (now payload) ⌝ }
+    requires { ⌜ 1 ≤ length (now payload) ⌝ }
     ensures { λ r. ⌜ r ≡ lengthIn (now (payload .entry)) ⌝ }
 {
-    wide(payload[1])
-        + 256 * wide(payload[2])
-        + 65536 * wide(payload[3])
-        + 16777216 * wide(payload[4])
+    wire::little4(&payload[1..])
 }
 
 // A RESET as it must be.

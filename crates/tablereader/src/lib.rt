@@ -3,7 +3,6 @@
 pub mod admission;
 pub mod bounds;
 mod fields;
-mod numbers;
 pub mod order;
 mod turns;
 pub mod updates;

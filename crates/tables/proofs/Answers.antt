@@ -17,11 +17,14 @@ use Rattle.laws.proofs.Chunks.{failed}
 use Rattle.laws.proofs.Refusals.{clash, and-fst, and-snd, and-intro, or-left, or-right, each, every-of}
 use Rattle.tables.specs.Patch.{gain, loss, fits, allFit}
 use Rattle.tables.specs.Tables.{Held, lengths, goodLength}
-use Rattle.tables.specs.Updates.{lengthIn, infinityIn, placeIn, sizeIn, bitsIn, numbersIn, resetTests, patchTests, goodReset, goodPatch, inTurn, inRange, updateAnswer, updated, resetBy}
+use Rattle.tables.specs.Updates.{lengthIn, infinityIn, placeIn, sizeIn, bitsIn, numbersIn, resetTests, patchTests, goodReset, goodPatch, inTurn}
+use Rattle.tables.specs.Updates.{inRange, updateAnswer, updated, resetBy}
 use Rattle.tables.specs.History.{byte, lengthBytes, carried, Update, messages, ended, underWay, lengthNamed, infinityNamed, sumAt}
-use Rattle.tables.specs.Answers.{Filled, Sent, answerTo, after, history, MayReset, MayPatch, LikeFirst, InTurn, entryThen, outside, LeadsOut, Answers, EveryAnswer, EveryReset, Numbered, WholeRun, Runs, EveryRun}
+use Rattle.tables.specs.Answers.{Filled, Sent, answerTo, after, history, MayReset, MayPatch, LikeFirst, InTurn, entryThen, outside, LeadsOut}
+use Rattle.tables.specs.Answers.{Answers, EveryAnswer, EveryReset, Numbered, WholeRun, Runs, EveryRun}
 use Rattle.tables.proofs.PatchFacts.{fits-exactly, fit-exactly}
-use Rattle.tables.proofs.HistoryLaws.{FourOrEight, length-bytes, signed, carried-is, carried-length, patch-tests, patch-width, signed-parts, brought-more, Accounts, update, turn-ready, turn-of, turn-is, accounts}
+use Rattle.tables.proofs.HistoryLaws.{FourOrEight, length-bytes, signed, carried-is, carried-length, patch-tests, patch-width, signed-parts}
+use Rattle.tables.proofs.HistoryLaws.{brought-more, Accounts, update, turn-ready, turn-of, turn-is, accounts}
 
 -- ---- powers of two
 

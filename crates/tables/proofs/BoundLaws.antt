@@ -11,7 +11,8 @@ use Rattle.laws.specs.Tests.{all}
 use Rattle.laws.proofs.Refusals.{all-take}
 use Rattle.tables.specs.Patch.{sumOf, fits, added, allFit}
 use Rattle.tables.specs.Tables.{Held, inBounds, entriesInBounds}
-use Rattle.tables.specs.Updates.{lengthIn, infinityIn, bitsIn, numbersIn, resetTests, turnTests, goodReset, inTurn, inRange, resetBy, patchBy, updated, brokenBy}
+use Rattle.tables.specs.Updates.{lengthIn, infinityIn, bitsIn, numbersIn, resetTests, turnTests, goodReset, inTurn, inRange, resetBy, patchBy}
+use Rattle.tables.specs.Updates.{updated, brokenBy}
 use Rattle.tables.proofs.TestLaws.{both-true, every-true}
 use Rattle.tables.proofs.PatchFacts.{fits-exactly}
 use Rattle.tables.proofs.AnswerLaws.{each-way}

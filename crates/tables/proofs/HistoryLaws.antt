@@ -16,8 +16,10 @@ use Rattle.laws.proofs.Refusals.{clash, and-fst, and-snd, and-intro, Each, each
 use Rattle.tables.specs.declared.Table.{Table}
 use Rattle.tables.specs.Patch.{numbers, gain, loss, sumOf, fits, added, allFit}
 use Rattle.tables.specs.Tables.{Held, ready, running, settled}
-use Rattle.tables.specs.Updates.{lengthIn, infinityIn, placeIn, sizeIn, bitsIn, numbersIn, isLast, resetTests, patchTests, turnTests, goodReset, goodPatch, inTurn, inRange, updateAnswer, updated, resetBy, onward, movedOn, patchBy, brokenBy}
-use Rattle.tables.specs.History.{byte, lengthBytes, halves, carried, Update, isReset, messages, brought, underWay, wholeRuns, lengthNamed, infinityNamed, total, sumAt, beforeRun, spoiled, speaks, markAfter}
+use Rattle.tables.specs.Updates.{lengthIn, infinityIn, placeIn, sizeIn, bitsIn, numbersIn, isLast, resetTests, patchTests, turnTests, goodReset}
+use Rattle.tables.specs.Updates.{goodPatch, inTurn, inRange, updateAnswer, updated, resetBy, onward, movedOn, patchBy, brokenBy}
+use Rattle.tables.specs.History.{byte, lengthBytes, halves, carried, Update, isReset, messages, brought, underWay, wholeRuns, lengthNamed}
+use Rattle.tables.specs.History.{infinityNamed, total, sumAt, beforeRun, spoiled, speaks, markAfter}
 use Rattle.tables.specs.Answers.{Sent, noHeld, after, history, LikeFirst, InTurn, EveryTable}
 use Rattle.tables.proofs.TestLaws.{either}
 use Rattle.tables.proofs.PatchFacts.{fits-exactly}

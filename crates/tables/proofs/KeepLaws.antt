@@ -11,7 +11,8 @@ use Rattle.laws.proofs.Over.{over-own, over-front-of, over-length, over-behind}
 use Rattle.tables.specs.declared.Table.{Table}
 use Rattle.tables.specs.Patch.{added}
 use Rattle.tables.specs.Tables.{Held, heldIn, atRest, settled}
-use Rattle.tables.specs.Updates.{lengthIn, infinityIn, bitsIn, numbersIn, isLast, resetTests, goodReset, resetBy, patchBy, onward, movedOn, updated, brokenBy, partWith}
+use Rattle.tables.specs.Updates.{lengthIn, infinityIn, bitsIn, numbersIn, isLast, resetTests, goodReset, resetBy, patchBy, onward, movedOn}
+use Rattle.tables.specs.Updates.{updated, brokenBy, partWith}
 use Rattle.tables.proofs.TestLaws.{every-true}
 use Rattle.tables.proofs.PatchFacts.{added-length, added-rest}
 use Rattle.tables.proofs.AnswerLaws.{each-way}
@@ -86,7 +87,8 @@ module _ (t : Table) (part : List ℕ) (ttl hops : ℕ) (p : List ℕ) where
 
 -- ---- a PATCH leaves the entries before and behind its data as they are
 
-pub patched-before : (h : Held) (p : List ℕ) → h .table .nextentry ≤ length (h .entries) → take (h .table .nextentry) (patchBy h p .entries) ≡ take (h .table .nextentry) (h .entries)
+pub patched-before : (h : Held) (p : List ℕ) → h .table .nextentry ≤ length (h .entries)
+    → take (h .table .nextentry) (patchBy h p .entries) ≡ take (h .table .nextentry) (h .entries)
 unfolding patchBy
 patched-before h p w =
     take-at

@@ -10,7 +10,8 @@ use borrow.Author.Tests.{eqb-false, le-leb}
 use Rattle.tables.specs.declared.Table.{Table}
 use Rattle.tables.specs.Patch.{fits}
 use Rattle.tables.specs.Tables.{heldIn, broken, running, ready, goodLength, goodInfinity, insideRun, betweenRuns, withinLimits, tableInOrder}
-use Rattle.tables.specs.Updates.{placeIn, sizeIn, numbersIn, isLast, resetTests, turnTests, goodReset, goodPatch, inTurn, resetBy, patchBy, movedOn, updated, brokenBy}
+use Rattle.tables.specs.Updates.{placeIn, sizeIn, numbersIn, isLast, resetTests, turnTests, goodReset, goodPatch, inTurn, resetBy, patchBy}
+use Rattle.tables.specs.Updates.{movedOn, updated, brokenBy}
 use Rattle.tables.proofs.TestLaws.{both-true, every-true}
 use Rattle.tables.proofs.TurnLaws.{PatchFields, patch-fields, turn-within}
 use Rattle.tables.proofs.AnswerLaws.{each-way}

@@ -182,7 +182,8 @@ unfolding allFit
 allFit-append bits infinity [] ws es = refl
 allFit-append bits infinity (v ∷ vs) ws [] = refl
 allFit-append bits infinity (v ∷ vs) ws (e ∷ es) =
-    rw (allFit-append bits infinity vs ws es) (sym (and-assoc (fits bits infinity v e) (allFit bits infinity vs es) (allFit bits infinity ws (drop (length vs) es))))
+    rw (allFit-append bits infinity vs ws es)
+    (sym (and-assoc (fits bits infinity v e) (allFit bits infinity vs es) (allFit bits infinity ws (drop (length vs) es))))
 
 -- the messages of a run in turn, each at the entry where the one before ended ..
 abbrev pub addedAt : ℕ → ℕ → List ℕ → List ℕ → List ℕ
@@ -274,7 +275,9 @@ fits-exactly bits infinity v e = (from, to)
     from h =
         record {
           low = ltb-true (loss bits v) (e + gain bits v) (and-first (ltb (loss bits v) (e + gain bits v)) (leb (e + gain bits v) (infinity + loss bits v)) h);
-          high = leb-true (e + gain bits v) (infinity + loss bits v) (and-second (ltb (loss bits v) (e + gain bits v)) (leb (e + gain bits v) (infinity + loss bits v)) h);
+          high =
+              leb-true (e + gain bits v) (infinity + loss bits v)
+              (and-second (ltb (loss bits v) (e + gain bits v)) (leb (e + gain bits v) (infinity + loss bits v)) h);
         }
 
     to : SumWithin bits infinity v e → fits bits infinity v e ≡ true

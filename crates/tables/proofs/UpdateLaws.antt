@@ -16,7 +16,9 @@ use Rattle.tables.specs.declared.Table.{Table}
 use Rattle.tables.specs.declared.Updated.{Updated}
 use Rattle.tables.specs.Patch.{numbers, added, allFit}
 use Rattle.tables.specs.Tables.{Held, heldIn, atRest, waiting}
-use Rattle.tables.specs.Updates.{lengthIn, infinityIn, bitsIn, numbersIn, resetTests, isPatch, goodReset, goodPatch, inTurn, inRange, resetAnswer, resetHeld, resetBy, patchAnswer, patchedHeld, patchBy, movedOn, updateAnswer, updated, brokenBy, refusedBy, answered, partWith}
+use Rattle.tables.specs.Updates.{lengthIn, infinityIn, bitsIn, numbersIn, resetTests, isPatch, goodReset, goodPatch, inTurn, inRange}
+use Rattle.tables.specs.Updates.{resetAnswer, resetHeld, resetBy, patchAnswer, patchedHeld, patchBy, movedOn, updateAnswer, updated, brokenBy}
+use Rattle.tables.specs.Updates.{refusedBy, answered, partWith}
 use Rattle.tables.proofs.TestLaws.{every-true}
 use Rattle.tables.proofs.NumberLaws.{fit-wider}
 use Rattle.tables.proofs.PatchFacts.{added-length}

@@ -3,7 +3,8 @@ use Prim.Native.Nat.{ℕ}
 use mathlib.Core.Path.{_≡_, refl}
 use mathlib.Core.Bool.{true, false}
 use mathlib.Core.List.{List, [], _∷_}
-use Rattle.keywords.specs.Keywords.{isSeparator, lower, keywordsOf, pieces, filled}
+use Rattle.laws.specs.Text.{lower}
+use Rattle.keywords.specs.Keywords.{isSeparator, keywordsOf, pieces, filled}
 use Rattle.keywords.specs.Hash.{xor32, hashOf, word}
 use Rattle.tables.specs.Tables.{Held, heldIn, noTable, atRest, settled, waiting, running, broken, goodLength, tableInOrder}
 use Rattle.tables.specs.Patch.{numbers, added, allFit}
@@ -76,14 +77,16 @@ runs : Seen run running (8 ∷ 1 ∷ 8 ∷ 1 ∷ [])
     × (answer run (1 ∷ 1 ∷ 2 ∷ 0 ∷ 4 ∷ 9 ∷ 9 ∷ []) ≡ 15)
     × (answer run reset ≡ 0)
     × (answer p1 (1 ∷ 1 ∷ 1 ∷ 0 ∷ 4 ∷ 0x10 ∷ []) ≡ 15)
-unfolding run p1 start after answer reset updated updateAnswer goodReset goodPatch inTurn inRange resetBy movedOn patchBy brokenBy goodLength numbers added allFit
+unfolding run p1 start after answer reset updated updateAnswer goodReset goodPatch inTurn inRange resetBy movedOn patchBy brokenBy
+    goodLength numbers added allFit
 runs = (record { marks = refl; stands = refl }, record { marks = refl; stands = refl }, refl, refl, refl)
 
 -- a second run adds to what stands; a broken table takes no run, and a RESET heals it
 again : Seen (after p2 (1 ∷ 1 ∷ 1 ∷ 0 ∷ 4 ∷ 0xF1 ∷ 0xF1 ∷ [])) settled (7 ∷ 2 ∷ 7 ∷ 2 ∷ [])
     × (answer (after p1 []) (1 ∷ 1 ∷ 1 ∷ 0 ∷ 4 ∷ 9 ∷ 9 ∷ []) ≡ 15)
     × Seen (after (after p1 []) reset) waiting (8 ∷ 8 ∷ 8 ∷ 8 ∷ [])
-unfolding p2 p1 start after answer reset updated updateAnswer goodReset goodPatch inTurn inRange resetBy movedOn patchBy brokenBy goodLength numbers added allFit
+unfolding p2 p1 start after answer reset updated updateAnswer goodReset goodPatch inTurn inRange resetBy movedOn patchBy brokenBy
+    goodLength numbers added allFit
 again = (record { marks = refl; stands = refl }, refl, record { marks = refl; stands = refl })
 
 -- a RESET writes its length and no more
@@ -96,7 +99,8 @@ queries : (withholds p2 (keywordsOf (0x65 ∷ 0x62 ∷ 0x20 ∷ 0x65 ∷ 0x62 �
     × (withholds p2 (keywordsOf (0x65 ∷ 0x62 ∷ 0x63 ∷ 0x6B ∷ 0x6C ∷ 0x6D ∷ 0x65 ∷ 0x6E ∷ [])) 2 ≡ true)
     × (withholds p2 (keywordsOf (0x20 ∷ [])) 2 ≡ false)
     × (withholds run (keywordsOf (0x65 ∷ 0x62 ∷ 0x63 ∷ 0x6B ∷ 0x6C ∷ 0x6D ∷ 0x65 ∷ 0x6E ∷ [])) 2 ≡ false)
-unfolding run p2 p1 start after reset updated updateAnswer goodReset goodPatch inTurn inRange resetBy movedOn patchBy brokenBy goodLength numbers added allFit withholds keywordsOf isSeparator lower pieces filled hashOf xor32 word
+unfolding run p2 p1 start after reset updated updateAnswer goodReset goodPatch inTurn inRange resetBy movedOn patchBy brokenBy goodLength
+    numbers added allFit withholds keywordsOf isSeparator lower pieces filled hashOf xor32 word
 queries = (refl, refl, refl, refl)
 
 -- an entry of 3 is far for TTL 2; an entry that is Infinity is far for any TTL

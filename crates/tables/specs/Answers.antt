@@ -12,7 +12,8 @@ use lib.ListN.{length, getD, replicate}
 use Rattle.laws.specs.Tests.{any}
 use Rattle.tables.specs.Tables.{Held, noTable, settled}
 use Rattle.tables.specs.Updates.{updateAnswer, updated}
-use Rattle.tables.specs.History.{byte, lengthBytes, carried, Update, isReset, messages, ended, brought, underWay, lengthNamed, infinityNamed, sumAt, spoiled, speaks, markAfter}
+use Rattle.tables.specs.History.{byte, lengthBytes, carried, Update, isReset, messages, ended, brought, underWay, lengthNamed, infinityNamed}
+use Rattle.tables.specs.History.{sumAt, spoiled, speaks, markAfter}
 
 -- an update as it arrives
 pub record Sent : Type 0 where

@@ -1,13 +1,14 @@
 // The data of a run, byte by byte: the differences of the entries as two's complement numbers.
 use crate::good::base_at;
-use crate::run::Plan;
+use tablemessages::Plan;
+use wire::wide;
 ghost use mathlib.Core.Path.{_≡_};
 ghost use mathlib.Core.Bool.{true};
 ghost use Prim.Native.Nat.{_+_, _-_, _*_, _%_, _≤_, _<_};
 ghost use lib.ListN.{length, getD, take, drop};
 ghost use Rattle.laws.specs.Parts.{over};
-ghost use Rattle.tablewriter.specs.Writer.{allNear};
-ghost use Rattle.tablewriter.specs.Steps.{Sound, rawIn, pairOf, pairIn, baseBy, dataBy, dataLength};
+ghost use Rattle.tablemessages.specs.Writer.{allNear};
+ghost use Rattle.tablemessages.specs.Steps.{Sound, rawIn, pairOf, pairIn, baseBy, dataBy, dataLength};
 
 // How many bytes of data n entries take.
 pub(crate) fn data_length(small: bool, n: usize) -> usize
@@ -19,12 +20,6 @@ pub(crate) fn data_length(small: bool, n: usize) -> usize
     n
 }
 
-fn wide(x: u8) -> u16
-    ensures { λ r. ⌜ (r ≡ x) × (r < 256) ⌝ }
-{
-    x as u16
-}
-
 // The difference e - b in 8 bits.
 fn difference(e: u8, b: u8) -> u8
     ensures { λ r. ⌜ r ≡ rawIn 256 e b ⌝ }
@@ -33,7 +28,7 @@ fn difference(e: u8, b: u8) -> u8
 }
 
 // Entries i and i + 1 as one number, the first in its low byte: they are read at once.
-fn pair_at(entries: &[u8], i: usize) -> u16
+fn pair_at(entries: &[u8], i: usize) -> u32
     requires { ⌜ i + 1 < length (now entries) ⌝ }
     ensures { λ r. ⌜ r ≡ pairOf (now (entries .entry)) i ⌝ }
 {
@@ -41,9 +36,11 @@ fn pair_at(entries: &[u8], i: usize) -> u16
 }
 
 // What the differences of entries i and i + 1 are taken from, as one number.
-fn base_pair<'a>(plan: Plan, old: &'a [u8], new: &'a [u8], i: usize) -> u16
+fn base_pair<'a>(plan: Plan, old: &'a [u8], new: &'a [u8], i: usize) -> u32
     requires { ⌜ (length (baseBy plan (now old) (now new)) ≡ length (now new)) × (i + 1 < length (now new)) ⌝ }
-    ensures { λ r. ⌜ (r ≡ pairOf (baseBy plan (now (old .entry)) (now (new .entry))) i) × (getD (baseBy plan (now (old .entry)) (now (new .entry))) i 0 < 256) ⌝ }
+    ensures { λ r.
+        ⌜ (r ≡ pairOf (baseBy plan (now (old .entry)) (now (new .entry))) i)
+        × (getD (baseBy plan (now (old .entry)) (now (new .entry))) i 0 < 256) ⌝ }
 {
     if plan.had {
         return pair_at(old, i);
@@ -52,7 +49,7 @@ fn base_pair<'a>(plan: Plan, old: &'a [u8], new: &'a [u8], i: usize) -> u16
 }
 
 // The last four bits of e - b.
-fn low_bits(e: u16, b: u16) -> u16
+fn low_bits(e: u32, b: u32) -> u32
     ensures { λ r. ⌜ r ≡ (e % 16 + 16 - b % 16) % 16 ⌝ }
 {
     (e % 16 + 16 - b % 16) % 16
@@ -60,7 +57,9 @@ fn low_bits(e: u16, b: u16) -> u16
 
 // The differences of entries i and i + 1 in one byte, the first in its first four bits.
 fn pair_byte<'a>(plan: Plan, old: &'a [u8], new: &'a [u8], i: usize) -> u8
-    requires { ⌜ (length (baseBy plan (now old) (now new)) ≡ length (now new)) × (allNear (now new) (baseBy plan (now old) (now new)) ≡ true) × (i + 1 < length (now new)) ⌝ }
+    requires { ⌜ (length (baseBy plan (now old) (now new)) ≡ length (now new))
+        × (allNear (now new) (baseBy plan (now old) (now new)) ≡ true)
+        × (i + 1 < length (now new)) ⌝ }
     ensures { λ r. ⌜ r ≡ pairIn (now (new .entry)) (baseBy plan (now (old .entry)) (now (new .entry))) i ⌝ }
 {
     let e = pair_at(new, i);

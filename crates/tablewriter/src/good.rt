@@ -1,45 +1,16 @@
 // Whether tables may be written, and whether their differences are small.
+use tablereader::bounds::good_infinity;
+use tablereader::bounds::good_length;
 ghost use mathlib.Core.Path.{_≡_};
 ghost use mathlib.Core.Bool.{true};
 ghost use Prim.Native.Nat.{_+_, _<_, min};
 ghost use lib.ListN.{length, getD};
 ghost use Rattle.laws.specs.Tests.{all};
-ghost use Rattle.tables.specs.Tables.{goodLength};
-ghost use Rattle.tablewriter.specs.Writer.{baseOf, near, allNear, goodTable, inRange};
-ghost use Rattle.tablewriter.specs.Steps.{mayWrite};
+ghost use Rattle.tablemessages.specs.Writer.{baseOf, near, allNear, goodTable, inRange};
+ghost use Rattle.tablemessages.specs.Steps.{mayWrite};
 
-const LENGTHS: [usize; 15] = [
-    4,
-    8,
-    16,
-    32,
-    64,
-    128,
-    256,
-    512,
-    1024,
-    2048,
-    4096,
-    8192,
-    16384,
-    32768,
-    65536,
-];
-
-// A length that a RESET may carry.
-fn good_length(n: usize) -> bool
-    ensures { λ r. ⌜ r ≡ goodLength n ⌝ }
-{
-    let mut i = 0;
-    while i < 15 {
-        let k = LENGTHS[i];
-        if n == k {
-            return true;
-        }
-        i += 1;
-    }
-    false
-}
+// The longest table.
+const LONGEST: usize = 65536;
 
 // Every entry is in 1..Infinity. No way out before the end: the turns are alike.
 fn in_range(entries: &[u8], infinity: u8) -> bool
@@ -60,14 +31,13 @@ fn in_range(entries: &[u8], infinity: u8) -> bool
 fn good_table(entries: &[u8], infinity: u8) -> bool
     ensures { λ r. ⌜ r ≡ goodTable (now (entries .entry)) infinity ⌝ }
 {
-    let long = good_length(entries.len());
-    if !long {
+    if LONGEST < entries.len() {
         return false;
     }
-    if infinity < 2 {
+    if !good_length(entries.len() as u32) {
         return false;
     }
-    if 127 < infinity {
+    if !good_infinity(infinity) {
         return false;
     }
     in_range(entries, infinity)

@@ -1,4 +1,4 @@
-// Floor 2: the updates that turn one route table into another, as messages.
+// Floor 2: the updates that turn one route table into another, written as messages, by the rules of crate tablemessages.
 mod data;
 mod good;
 mod run;
@@ -6,18 +6,12 @@ mod run;
 use data::data_length;
 use good::all_near;
 use good::may_write;
-use run::Plan;
 use run::put_all;
+use tablemessages::Plan;
+use tablemessages::Written;
 ghost use mathlib.Core.Path.{_≡_};
-ghost use Rattle.tablewriter.specs.Writer.{writtenAs, writerResult, writerOut};
-ghost use Rattle.tablewriter.specs.Steps.{resetLength};
-
-// What the writer answers, and how many bytes it wrote.
-#[repr(C)]
-pub struct Written {
-    pub answer: u8,
-    pub written: usize,
-}
+ghost use Rattle.tablemessages.specs.Writer.{writtenAs, writerResult, writerOut};
+ghost use Rattle.tablemessages.specs.Steps.{resetLength};
 
 fn answered(answer: u8, written: usize) -> Written
     ensures { λ r. ⌜ r ≡ writtenAs answer written ⌝ }

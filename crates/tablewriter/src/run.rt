@@ -1,21 +1,13 @@
 // The messages of an update: a RESET, and the run of PATCH messages.
 use crate::data::data_length;
 use crate::data::put_data;
+use tablemessages::Plan;
 ghost use mathlib.Core.Path.{_≡_};
 ghost use Prim.Native.Nat.{_+_, _≤_, _<_, min};
 ghost use lib.ListN.{length, take, drop};
 ghost use Rattle.laws.specs.Parts.{over};
-ghost use Rattle.tablewriter.specs.Writer.{update, resetPayload};
-ghost use Rattle.tablewriter.specs.Steps.{Sound, Runs, Fits, allBy, bitsBy, dataBy, patchWith, leftOf};
-
-// How a run is written: from an old table or from Infinity, in 4 bits or in 8, how much data in a message and how many messages.
-pub(crate) struct Plan {
-    pub(crate) had: bool,
-    pub(crate) infinity: u8,
-    pub(crate) small: bool,
-    pub(crate) size: usize,
-    pub(crate) count: u8,
-}
+ghost use Rattle.tablemessages.specs.Writer.{update, resetPayload};
+ghost use Rattle.tablemessages.specs.Steps.{Sound, Runs, Fits, allBy, bitsBy, dataBy, patchWith, leftOf};
 
 // A RESET stands at the front of the part.
 fn put_reset(number: [u8; 16], entries: u32, infinity: u8, part: &mut [u8])
@@ -54,7 +46,10 @@ fn put_patch<'a>(
     part: &mut [u8],
 )
     requires { ⌜ Sound plan (now old) (now new) × (from + n ≤ length (dataBy plan (now old) (now new))) × (n ≤ 4091) × (28 + n ≤ length (now part)) ⌝ }
-    ensures { λ r. ⌜ now (part .exit) ≡ over 0 (patchWith number plan place (take n (drop from (dataBy plan (now (old .entry)) (now (new .entry)))))) (now (part .entry)) ⌝ }
+    ensures { λ r.
+        ⌜ now (part .exit) ≡ over 0
+        (patchWith number plan place (take n (drop from (dataBy plan (now (old .entry)) (now (new .entry))))))
+        (now (part .entry)) ⌝ }
 {
     let size = (5 + n) as u32;
     let bits = bits_of(plan);

@@ -17,7 +17,8 @@ use prog.Wp.{Heap, Calls, Loops, WpFn, Tables}
 use ghost.Atoms.{Atoms, sem}
 use contract.Monad.{Fun, fact}
 use types.Kit.{Given, ‵, raw, some, later, _⊛_, _$_, _∵_, !, qed, by, move, keep, use1, split, join, fsplit3, fjoin, fjoin3, feqI, suffices, frame, done}
-use types.Run.{look, look-raw, store-raw, init, stop, hop, from, load, unit-lit, of-opd, and-then, no-more, assigns, land, returns, enter, alloc1, alloc0, params1, pass1, pass0, free0}
+use types.Run.{look, look-raw, store-raw, init, stop, hop, from, load, unit-lit, of-opd, and-then, no-more, assigns, land, returns, enter, alloc1}
+use types.Run.{alloc0, params1, pass1, pass0, free0}
 use types.SemTy.{Body}
 use sound.WpLaws.{FmC, fmOf, WpFn-mono}
 use denote.RattleType.{owns}
@@ -53,7 +54,8 @@ counting #counted =
       lifetimes = 1;
       outlives = [];
       params = 2;
-      locals = value tyUnit ∷ value (tyRef (named 0) mut (pointee (tally.the-row .written))) ∷ value (tyInt w8) ∷ value tally-laws.mir ∷ value tally-laws.mir ∷ [];
+      locals =
+          value tyUnit ∷ value (tyRef (named 0) mut (pointee (tally.the-row .written))) ∷ value (tyInt w8) ∷ value tally-laws.mir ∷ value tally-laws.mir ∷ [];
       body = seq (assign (place 3 []) (rvOpd (copy (place 1 (deref tally-laws.mir ∷ [])))))
           (seq (call #counted (copy (place 3 []) ∷ copy (place 2 []) ∷ []) (place 4 []))
           (seq (assign (place 1 (deref tally-laws.mir ∷ [])) (rvOpd (copy (place 4 []))))
@@ -101,7 +103,8 @@ module _ {M : Type 1} (𝓤 : URA M) (H : Heap 𝓤) (A : Atoms 𝓤) (W : Given
   leaves =
       qed W (‵ (fobs γ (tally.the-row .coded .code new)) ∷ ‵ (fbor κ (Body (mem tally.the-row) b o γ)) ∷ ‵ (flft κ q) ∷ []) ∵
       suffices ! _
-      (ends-at 𝓤 H A count.ended stays (count.clauses 𝓤 H A at-mem run) W (((κ, tt), (q, tt), tt, values, machine), tt) vunit tt (new, (tt, tt)) (tt, (tt, tt))) $
+      (ends-at 𝓤 H A count.ended stays (count.clauses 𝓤 H A at-mem run) W (((κ, tt), (q, tt), tt, values, machine), tt) vunit tt (new, (tt, tt))
+      (tt, (tt, tt))) $
       says ! refl $
       nothing ! $
       move ! (3 ∷ 0 ∷ []) $
@@ -135,10 +138,12 @@ module _ {M : Type 1} (𝓤 : URA M) (H : Heap 𝓤) (A : Atoms 𝓤) (W : Given
       frame ! $
       done !
 
-  module _ (#counted : Name) (C : Calls 𝓤 H) (Λ : Loops 𝓤 H) (fm : FmC 𝓤 H (W .laws) C) (known : Triple 𝓤 (C #counted) (Counts 𝓤 H A at-mem run)) (fits : n < 2 ^ 8) where
+  module _ (#counted : Name) (C : Calls 𝓤 H) (Λ : Loops 𝓤 H) (fm : FmC 𝓤 H (W .laws) C)
+      (known : Triple 𝓤 (C #counted) (Counts 𝓤 H A at-mem run)) (fits : n < 2 ^ 8) where
     walk : ent 𝓤 (onEntry 𝓤 H A count.signature (κ, tt) (q, tt) values machine) (WpFn 𝓤 H C Λ (counting #counted) (vptr b o ∷ vint w8 n ∷ []) Exit)
     walk =
-        qed W ((‵ (flft κ q) ⊛ ‵ ftrue) ∷ (‵ (MutRef (named 0) κ tally.the-row .own (values .0) (vptr b o ∷ [])) ⊛ ‵ (owns (u8 ∷ []) (values .1) (machine .1))) ∷ []) ∵
+        qed W ((‵ (flft κ q) ⊛ ‵ ftrue) ∷
+        (‵ (MutRef (named 0) κ tally.the-row .own (values .0) (vptr b o ∷ [])) ⊛ ‵ (owns (u8 ∷ []) (values .1) (machine .1))) ∷ []) ∵
         split ! $
         move ! (2 ∷ []) $
         split ! $

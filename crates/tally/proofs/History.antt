@@ -22,7 +22,9 @@ count-after counts a k n h = by (eqb a k) refl (ltb a answerCount) refl
   where
     by : (same : Bool) → eqb a k ≡ same → (answer : Bool) → ltb a answerCount ≡ answer
         → getD (cond (ltb a answerCount) (raised counts a) counts) k 0 ≡ cond (eqb a k) (oneMore (getD counts k 0)) (getD counts k 0)
-    by true e answer l = let same : a ≡ k = eqb-true a k e in rw (e, same, lt-ltb k answerCount h) (getD-set-same counts k (oneMore (getD counts k 0)) 0 (omega (arith, n)))
+    by true e answer l =
+        let same : a ≡ k = eqb-true a k e in
+        rw (e, same, lt-ltb k answerCount h) (getD-set-same counts k (oneMore (getD counts k 0)) 0 (omega (arith, n)))
     by false e true l = rw (e, l) (getD-set-other counts a k (oneMore (getD counts a 0)) 0 (λ x. eqb-false a k e (sym x)))
     by false e false l = rw (e, l) refl
 
@@ -97,7 +99,8 @@ all-answers : (ns : List ℕ) → all (λ n. ltb n answerCount) ns ≡ true → 
 unfolding answers
 all-answers [] h = refl
 all-answers (a ∷ ns) h =
-    rw (and-first (ltb a answerCount) (all (λ n. ltb n answerCount) ns) h) (ap suc (all-answers ns (and-second (ltb a answerCount) (all (λ n. ltb n answerCount) ns) h)))
+    rw (and-first (ltb a answerCount) (all (λ n. ltb n answerCount) ns) h)
+    (ap suc (all-answers ns (and-second (ltb a answerCount) (all (λ n. ltb n answerCount) ns) h)))
 
 pub zeros-sized : Sized zeros
 zeros-sized = record { long = refl; small = λ k h. rw (getD-replicate {A = ℕ} answerCount k 0 0 h) (omega arith) }

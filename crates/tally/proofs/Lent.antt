@@ -17,7 +17,8 @@ use base.Fml.{GName, Lft, Share, ftrue, fat, froom, fdies, flft, fobs, fauth, fb
 use prog.Wp.{Heap, Env}
 use ghost.Atoms.{Atoms, sem}
 use contract.Monad.{fact}
-use types.Kit.{Goal, frees, Soaks, Seq, Step, step, Given, Item, ‵, raw, some, later, _⊛_, mean, ⋆, push, pull, nth, del, _$_, move, use1, split, drop, pick, await, rewrite}
+use types.Kit.{Goal, frees, Soaks, Seq, Step, step, Given, Item, ‵, raw, some, later, _⊛_, mean, ⋆, push, pull, nth, del, _$_, move, use1, split}
+use types.Kit.{drop, pick, await, rewrite}
 use types.Run.{free1}
 use types.SemTy.{Body}
 use denote.Laws.{Is, shows}
@@ -70,7 +71,9 @@ module _ {M : Type 1} {𝓤 : URA M} {H : Heap 𝓤} {A : Atoms 𝓤} {K : Type 
       → Step K W (del 𝓤 H A n (del 𝓤 H A n Γ)) (frees E G) Γ (frees ((τ, b) ∷ E) G)
   gone t n {τ} {b} {v} cell right = step (λ s.
       record {
-        prf = via 𝓤 (sep 𝓤 (H .at fullShare τ b 0 v) (⋆ 𝓤 H A rest)) (subst (λ (j : Item 𝓤). ent 𝓤 (⋆ 𝓤 H A Γ) (sep 𝓤 (mean 𝓤 H A j) (⋆ 𝓤 H A rest))) cell (pull 𝓤 H A n Γ))
+        prf =
+            via 𝓤 (sep 𝓤 (H .at fullShare τ b 0 v) (⋆ 𝓤 H A rest))
+            (subst (λ (j : Item 𝓤). ent 𝓤 (⋆ 𝓤 H A Γ) (sep 𝓤 (mean 𝓤 H A j) (⋆ 𝓤 H A rest))) cell (pull 𝓤 H A n Γ))
             (via 𝓤 (sep 𝓤 (H .room τ b 0) (⋆ 𝓤 H A rest)) (monoL 𝓤 (⋆ 𝓤 H A rest) (W .laws .at-room τ b 0 v))
             (via 𝓤 (sep 𝓤 (H .room τ b 0) (⋆ 𝓤 H A (‵ (fdies τ b) ∷ del 𝓤 H A n rest)))
             (monoR 𝓤 (H .room τ b 0)
@@ -92,7 +95,8 @@ abbrev pub passed-on : {n : ℕ} (ss : List (Slot n)) (ks : Kepts ss) → Stays 
 passed-on [] ks = tt
 passed-on (s ∷ ss) ks = (one-passed-on s (ks .0), passed-on ss (ks .1))
 
-pub passed-on-go : {M : Type 1} (𝓤 : URA M) (H : Heap 𝓤) (A : Atoms 𝓤) (W : Given 𝓤 H A) (n : ℕ) (ss : List (Slot n)) (ks : Kepts ss) → AllGo 𝓤 H A W n ss ks (passed-on ss ks)
+pub passed-on-go : {M : Type 1} (𝓤 : URA M) (H : Heap 𝓤) (A : Atoms 𝓤) (W : Given 𝓤 H A) (n : ℕ) (ss : List (Slot n)) (ks : Kepts ss)
+    → AllGo 𝓤 H A W n ss ks (passed-on ss ks)
 passed-on-go 𝓤 H A W n [] ks = tt
 passed-on-go 𝓤 H A W n (s ∷ ss) ks = ((λ κs x f vs fits. W .laws .⇛-intro (sem 𝓤 H A (left (s .row κs .exit (ks .0)) x f))), passed-on-go 𝓤 H A W n ss (ks .1))
 

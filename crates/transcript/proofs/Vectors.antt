@@ -8,7 +8,8 @@ use Rattle.laws.specs.Text.{codes}
 use Rattle.laws.specs.Bytes.{littleBytes}
 use Rattle.laws.specs.Ring.{keptPlaces}
 use Rattle.wire.specs.Header.{message, routeUpdate}
-use Rattle.keywords.specs.Keywords.{isSeparator, lower, keywordsOf, pieces, filled}
+use Rattle.laws.specs.Text.{lower}
+use Rattle.keywords.specs.Keywords.{isSeparator, keywordsOf, pieces, filled}
 use Rattle.keywords.specs.Hash.{xor32, hashOf, word}
 use Rattle.tables.specs.Tables.{goodLength, tableInOrder}
 use Rattle.tables.specs.Patch.{numbers, added, allFit}

@@ -3,7 +3,7 @@ ghost use Prim.Native.Nat.{_≤_};
 use crate::decode;
 use crate::print;
 use crate::words;
-use tablewriter::Written;
+use tablemessages::Written;
 
 fn number() -> [u8; 16] {
     [0, 1, 2, 3, 4, 5, 6, 7, 8, 9, 10, 11, 12, 13, 14, 15]

@@ -4,7 +4,7 @@ ghost use mathlib.Core.List.{[], _∷_};
 ghost use Prim.Native.Nat.{_+_, _*_, _≤_, _<_};
 ghost use lib.ListN.{length, getD, take, drop};
 ghost use Rattle.laws.specs.Bytes.{little, littleBytes};
-ghost use Rattle.laws.specs.Parts.{over};
+ghost use Rattle.laws.specs.Parts.{copied};
 ghost use Rattle.wire.specs.Header.{headerIn, withHeader};
 
 // The types of messages.
@@ -159,16 +159,16 @@ pub fn little_bytes4(n: u32) -> [u8; 4]
     ]
 }
 
-// The message number stands at the front of the part.
-fn put_number(number: [u8; 16], part: &mut [u8])
-    requires { ⌜ 16 ≤ length (now part) ⌝ }
-    ensures { λ r. ⌜ now (part .exit) ≡ over 0 number (now (part .entry)) ⌝ }
+// Copies as many of the bytes as the part has room for to its front; the rest of the part stays.
+pub fn copy_onto(src: &[u8], part: &mut [u8])
+    ensures { λ _. ⌜ now (part .exit) ≡ copied (now (src .entry)) (now (part .entry)) ⌝ }
 {
-    let mut i = 0;
-    while i < 16 {
-        part[i] = number[i];
-        i += 1;
+    if src.len() <= part.len() {
+        bytes::copy(src, part);
+        return;
     }
+    let room = part.len();
+    bytes::copy(&src[..room], part);
 }
 
 // The header of a message whose payload has `size` bytes stands at the front of `out`, if it has room for one.
@@ -179,7 +179,7 @@ pub fn put_header(number: [u8; 16], kind: u8, ttl: u8, hops: u8, size: u32, out:
         return;
     }
     let bytes = little_bytes4(size);
-    put_number(number, &mut *out);
+    copy_onto(&number, &mut *out);
     out[16] = kind;
     out[17] = ttl;
     out[18] = hops;

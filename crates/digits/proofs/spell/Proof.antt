@@ -32,7 +32,14 @@ last-digit-requires : tie.Need-last-digit-requires Inv-loop μ-loop
 last-digit-requires c κs = search needs
 
 array-write-bytes : tie.Need-array-write-bytes Inv-loop μ-loop
-array-write-bytes c = omega (arith, spelling-back (c .before .before .loop .inv) (c .before .loop-test .taken), c .before .before .loop .inv .room, c .before .before .loop .inv .size)
+array-write-bytes c =
+    omega (
+      arith,
+      spelling-back (c .before .before .loop .inv)
+          (c .before .loop-test .taken),
+      c .before .before .loop .inv .room,
+      c .before .before .loop .inv .size,
+    )
 
 loop-less : tie.Need-loop-less Inv-loop μ-loop
 loop-less c = search needs

@@ -1,7 +1,9 @@
+use mathlib.Core.Path.{_∙_}
 use native.Mathlib.Omega.{arith}
 use lib.ListN.{length-set}
 use borrow.Author.Needs.{needs}
 use borrow.Author.Tests.{lt-leb}
+use Rattle.laws.proofs.Over.{copied-whole}
 use Rattle.wire.specs.Header.{withHeader}
 use Rattle.wire.proofs.HeaderLaws.{header-stored}
 use Rattle.wire.proofs.put_header.Statement.{statement}
@@ -14,8 +16,11 @@ returns c = simp (lt-leb _ _ (c .if1 .taken))
 little-bytes4-requires : tie.Need-little-bytes4-requires
 little-bytes4-requires c κs = search needs
 
-put-number-requires : tie.Need-put-number-requires
-put-number-requires c κs = search needs
+slice-aggregate-copy-onto : tie.Need-slice-aggregate-copy-onto
+slice-aggregate-copy-onto c = search needs
+
+copy-onto-requires : tie.Need-copy-onto-requires
+copy-onto-requires c κs = search needs
 
 slice-write-out : tie.Need-slice-write-out
 slice-write-out c = search needs
@@ -55,12 +60,14 @@ same-length c = simp length-set (omega arith)
 
 returns-2 : tie.Need-returns-2
 returns-2 c =
-    let x = c .before .before .before .before .before .before .before .args in
-    let b = c .before .before .before .before .little-bytes4 in
-    header-stored (x .number) (x .out .now) _ (b .result) (x .kind) (x .ttl) (x .hops) (x .size)
+    let s = c .before .before .before .before .before .before .before .before in
+    let x = s .args in
+    let b = c .before .before .before .before .before .little-bytes4 in
+    let whole = copied-whole (x .t1) (x .out .now) (omega arith) in
+    header-stored (x .t1) (x .out .now) _ (b .result) (x .kind) (x .ttl) (x .hops) (x .size)
     (omega arith)
-    (c .before .before .before .before .before .if1 .left)
-    (c .before .before .put-number .ensures)
+    (omega arith)
+    (c .before .before .copy-onto .ensures ∙ whole)
     (b .ensures)
 
 pub put-header-spec : {M : Type 1} → statement M
@@ -69,7 +76,8 @@ put-header-spec =
     (tie.spec
     returns
     little-bytes4-requires
-    put-number-requires
+    slice-aggregate-copy-onto
+    copy-onto-requires
     slice-write-out
     slice-write-out-2
     slice-write-out-3

@@ -28,14 +28,16 @@ is-separator-requires c κs = search needs
 
 -- whether the byte at hand is passed, as the code tests it
 passed : (c : tie.After-is-separator Inv-loop μ-loop)
-    → matching (c .before .before .before .before .before .args .wanted) (getD (c .before .before .before .before .before .args .text .now) (c .before .before .before .loop .i) 0)
+    → matching (c .before .before .before .before .before .args .wanted)
+    (getD (c .before .before .before .before .before .args .text .now) (c .before .before .before .loop .i) 0)
     ≡ Bool·beq (c .is-separator .result) (c .before .before .before .before .before .args .wanted)
 passed c = matching-is (c .before .before .before .before .before .args .wanted) (c .is-separator .result) _ (c .is-separator .ensures)
 
 returns : tie.Need-returns Inv-loop μ-loop
 returns c =
     let a = c .before .before .before .before .before .before .args in
-    let z = leading-off (matching (a .wanted)) (a .text .now) (c .before .before .before .before .loop .i) (search needs) (passed (c .before) ∙ not-true _ (c .if1 .taken)) in
+    let z = leading-off (matching (a .wanted)) (a .text .now) (c .before .before .before .before .loop .i) (search needs)
+    (passed (c .before) ∙ not-true _ (c .if1 .taken)) in
     omega arith
 
 add-i : tie.Need-add-i Inv-loop μ-loop
@@ -47,7 +49,8 @@ loop-less c = search needs
 loop-again : tie.Need-loop-again Inv-loop μ-loop
 loop-again c =
     let a = c .before .before .before .before .before .before .args in
-    let z = leading-on (matching (a .wanted)) (a .text .now) (c .before .before .before .before .loop .i) (search needs) (passed (c .before) ∙ not-false _ (c .if1 .left)) in
+    let z = leading-on (matching (a .wanted)) (a .text .now) (c .before .before .before .before .loop .i) (search needs)
+    (passed (c .before) ∙ not-false _ (c .if1 .left)) in
     (search needs, omega arith)
 
 returns-2 : tie.Need-returns-2 Inv-loop μ-loop

@@ -5,7 +5,7 @@ use mathlib.Core.List.{map}
 use lib.ListN.{length, getD, drop, drop-of-length-le}
 use lib.Bits.{xor-lt}
 use borrow.Author.Needs.{needs}
-use Rattle.keywords.specs.Keywords.{lower}
+use Rattle.laws.specs.Text.{lower}
 use Rattle.keywords.specs.Hash.{rolling, word}
 use Rattle.keywords.proofs.HashLaws.{rolling-next, word-rolling, lower-bytes}
 use Rattle.keywords.proofs.hash.joined.Statement.{statement}

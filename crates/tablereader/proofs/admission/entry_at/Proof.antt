@@ -19,10 +19,16 @@ shared-slice-read-result : tie.Need-shared-slice-read-result
 shared-slice-read-result c = search needs
 
 returns : tie.Need-returns
-returns c = let x = c .before .before .before .before .before .args in rw (← c .before .before .before .scaled-place .ensures) (sym (getD-take (x .length) (x .part .now) (c .before .before .before .scaled-place .result) 0 (omega arith)))
+returns c =
+    let x = c .before .before .before .before .before .args in
+    rw (← c .before .before .before .scaled-place .ensures)
+    (sym (getD-take (x .length) (x .part .now) (c .before .before .before .scaled-place .result) 0 (omega arith)))
 
 returns-2 : tie.Need-returns-2
-returns-2 c = let x = c .before .before .before .before .args in rw (← c .before .before .scaled-place .ensures) (sym (List·getD-eq-default (take (x .length) (x .part .now)) 0 (omega (arith, length-take (x .length) (x .part .now)))))
+returns-2 c =
+    let x = c .before .before .before .before .args in
+    rw (← c .before .before .scaled-place .ensures)
+    (sym (List·getD-eq-default (take (x .length) (x .part .now)) 0 (omega (arith, length-take (x .length) (x .part .now)))))
 
 pub entry-at-spec : {M : Type 1} → statement M
 entry-at-spec =

@@ -14,7 +14,8 @@ returns-2 c = let x = c .before .before .args in rw (lt-leb (x .at + x .n) (x .e
 returns-3 : tie.Need-returns-3
 returns-3 c =
     let x = c .before .before .before .args in
-    rw (le-leb (x .at + x .n) (x .end) (omega arith), c .if3 .taken) (same-eqb (x .n) (x .end - x .at) (x .at + x .n) (x .end) (λ e. omega arith) (λ e. omega arith))
+    rw (le-leb (x .at + x .n) (x .end) (omega arith), c .if3 .taken)
+    (same-eqb (x .n) (x .end - x .at) (x .at + x .n) (x .end) (λ e. omega arith) (λ e. omega arith))
 
 returns-4 : tie.Need-returns-4
 returns-4 c = let x = c .before .before .before .args in rw (le-leb (x .at + x .n) (x .end) (omega arith), c .if3 .left)

@@ -30,14 +30,30 @@ shared-slice-read-size c = search needs
 
 returns-4 : tie.Need-returns-4
 unfolding goodPatch
-returns-4 c = rw (le-leb _ _ (c .before .before .before .before .before .before .if1 .left), eq-eqb _ _ (c .before .before .before .before .if2 .left), le-leb _ _ (c .before .before .if3 .left), lt-leb _ _ (c .if4 .taken))
+returns-4 c =
+    rw (
+      le-leb _ _ (c .before .before .before .before .before .before .if1 .left),
+      eq-eqb _ _
+          (c .before .before .before .before .if2 .left),
+      le-leb _ _ (c .before .before .if3 .left),
+      lt-leb _ _ (c .if4 .taken),
+    )
 
 shared-slice-read-compressor : tie.Need-shared-slice-read-compressor
 shared-slice-read-compressor c = search needs
 
 returns-5 : tie.Need-returns-5
 unfolding goodPatch
-returns-5 c = rw (le-leb _ _ (c .before .before .before .before .before .before .before .before .if1 .left), eq-eqb _ _ (c .before .before .before .before .before .before .if2 .left), le-leb _ _ (c .before .before .before .before .if3 .left), le-leb _ _ (c .before .before .if4 .left), ne-eqb _ _ (c .if5 .taken))
+returns-5 c =
+    rw (
+      le-leb _ _ (c .before .before .before .before .before .before .before .before .if1 .left),
+      eq-eqb _ _
+          (c .before .before .before .before .before .before .if2 .left),
+      le-leb _ _ (c .before .before .before .before .if3 .left),
+      le-leb _ _
+          (c .before .before .if4 .left),
+      ne-eqb _ _ (c .if5 .taken),
+    )
 
 shared-slice-read-good-bits : tie.Need-shared-slice-read-good-bits
 shared-slice-read-good-bits c = search needs
@@ -48,8 +64,18 @@ good-bits-requires c κs = search needs
 returns-6 : tie.Need-returns-6
 unfolding goodPatch
 returns-6 c =
-    rw (le-leb _ _ (c .before .before .before .before .before .before .before .before .before .before .if1 .left), eq-eqb _ _ (c .before .before .before .before .before .before .before .before .if2 .left), le-leb _ _ (c .before .before .before .before .before .before .if3 .left), le-leb _ _ (c .before .before .before .before .if4 .left), eq-eqb _ _ (c .before .before .if5 .left))
-    (c .good-bits .ensures ∙ sym (and-true (goodBits (bitsIn (c .before .before .before .before .before .before .before .before .before .before .before .before .args .payload .now)))))
+    rw (
+      le-leb _ _ (c .before .before .before .before .before .before .before .before .before .before .if1 .left),
+      eq-eqb _ _
+          (c .before .before .before .before .before .before .before .before .if2 .left),
+      le-leb _ _
+          (c .before .before .before .before .before .before .if3 .left),
+      le-leb _ _ (c .before .before .before .before .if4 .left),
+      eq-eqb _ _
+          (c .before .before .if5 .left),
+    )
+    (c .good-bits .ensures ∙ sym (and-true
+    (goodBits (bitsIn (c .before .before .before .before .before .before .before .before .before .before .before .before .args .payload .now)))))
 
 pub good-patch-spec : {M : Type 1} → statement M
 good-patch-spec =

@@ -27,7 +27,13 @@ good-length-requires c κs = search needs
 
 returns-3 : tie.Need-returns-3
 unfolding goodReset
-returns-3 c = rw (eq-eqb _ _ (c .before .before .before .before .before .if1 .left), eq-eqb _ _ (c .before .before .before .if2 .left), sym (rw (c .before .before .length-in .ensures) at (c .before .good-length .ensures)) ∙ not-true _ (c .if3 .taken))
+returns-3 c =
+    rw (
+      eq-eqb _ _ (c .before .before .before .before .before .if1 .left),
+      eq-eqb _ _ (c .before .before .before .if2 .left),
+      sym
+          (rw (c .before .before .length-in .ensures) at (c .before .good-length .ensures)) ∙ not-true _ (c .if3 .taken),
+    )
 
 cast-if4 : tie.Need-cast-if4
 cast-if4 c = search needs
@@ -35,7 +41,15 @@ cast-if4 c = search needs
 returns-4 : tie.Need-returns-4
 unfolding goodReset
 returns-4 c =
-    rw (eq-eqb _ _ (c .before .before .before .before .before .before .if1 .left), eq-eqb _ _ (c .before .before .before .before .if2 .left), sym (rw (c .before .before .before .length-in .ensures) at (c .before .before .good-length .ensures)) ∙ not-false _ (c .before .if3 .left), lt-leb (lengthIn (c .before .before .before .before .before .before .before .before .args .payload .now)) (c .before .before .before .before .before .before .before .before .args .room) (omega arith))
+    rw (
+      eq-eqb _ _ (c .before .before .before .before .before .before .if1 .left),
+      eq-eqb _ _ (c .before .before .before .before .if2 .left),
+      sym
+          (rw (c .before .before .before .length-in .ensures) at (c .before .before .good-length .ensures))
+          ∙ not-false _ (c .before .if3 .left),
+      lt-leb (lengthIn (c .before .before .before .before .before .before .before .before .args .payload .now))
+          (c .before .before .before .before .before .before .before .before .args .room) (omega arith),
+    )
 
 shared-slice-read-good-infinity : tie.Need-shared-slice-read-good-infinity
 shared-slice-read-good-infinity c = search needs
@@ -46,8 +60,19 @@ good-infinity-requires c κs = search needs
 returns-5 : tie.Need-returns-5
 unfolding goodReset
 returns-5 c =
-    rw (eq-eqb _ _ (c .before .before .before .before .before .before .before .before .if1 .left), eq-eqb _ _ (c .before .before .before .before .before .before .if2 .left), sym (rw (c .before .before .before .before .before .length-in .ensures) at (c .before .before .before .before .good-length .ensures)) ∙ not-false _ (c .before .before .before .if3 .left), le-leb (lengthIn (c .before .before .before .before .before .before .before .before .before .before .args .payload .now)) (c .before .before .before .before .before .before .before .before .before .before .args .room) (omega arith))
-    (c .good-infinity .ensures ∙ sym (and-true (goodInfinity (infinityIn (c .before .before .before .before .before .before .before .before .before .before .args .payload .now)))))
+    rw (
+      eq-eqb _ _ (c .before .before .before .before .before .before .before .before .if1 .left),
+      eq-eqb _ _
+          (c .before .before .before .before .before .before .if2 .left),
+      sym
+          (rw (c .before .before .before .before .before .length-in .ensures) at (c .before .before .before .before .good-length .ensures))
+          ∙ not-false _ (c .before .before .before .if3 .left),
+      le-leb
+          (lengthIn (c .before .before .before .before .before .before .before .before .before .before .args .payload .now))
+          (c .before .before .before .before .before .before .before .before .before .before .args .room) (omega arith),
+    )
+    (c .good-infinity .ensures ∙ sym
+    (and-true (goodInfinity (infinityIn (c .before .before .before .before .before .before .before .before .before .before .args .payload .now)))))
 
 pub good-reset-spec : {M : Type 1} → statement M
 good-reset-spec =

@@ -1,70 +1,24 @@
-use native.Mathlib.Omega.{arith}
+-- The four bytes behind the first.
+use Rattle.laws.proofs.Parts.{part-tail}
 use borrow.Author.Needs.{needs}
-use Rattle.tablereader.proofs.FieldLaws.{length-in}
 use Rattle.tablereader.proofs.fields.length_in.Statement.{statement}
 use Rattle.tablereader.proofs.fields.length_in.Tie as tie
 
-shared-slice-read-wide : tie.Need-shared-slice-read-wide
-shared-slice-read-wide c = search needs
+sub-little4 : tie.Need-sub-little4
+sub-little4 c = search needs
 
-wide-requires : tie.Need-wide-requires
-wide-requires c κs = search needs
+part-little4-start : tie.Need-part-little4-start
+part-little4-start c = search needs
 
-shared-slice-read-wide-2 : tie.Need-shared-slice-read-wide-2
-shared-slice-read-wide-2 c = search needs
+part-little4-end : tie.Need-part-little4-end
+part-little4-end c = search needs
 
-wide-requires-2 : tie.Need-wide-requires-2
-wide-requires-2 c κs = search needs
-
-mul-result : tie.Need-mul-result
-mul-result c = search needs
-
-add-result : tie.Need-add-result
-add-result c = search needs
-
-shared-slice-read-wide-3 : tie.Need-shared-slice-read-wide-3
-shared-slice-read-wide-3 c = search needs
-
-wide-requires-3 : tie.Need-wide-requires-3
-wide-requires-3 c κs = search needs
-
-mul-result-2 : tie.Need-mul-result-2
-mul-result-2 c = search needs
-
-add-result-2 : tie.Need-add-result-2
-add-result-2 c = search needs
-
-shared-slice-read-wide-4 : tie.Need-shared-slice-read-wide-4
-shared-slice-read-wide-4 c = search needs
-
-wide-requires-4 : tie.Need-wide-requires-4
-wide-requires-4 c κs = search needs
-
-mul-result-3 : tie.Need-mul-result-3
-mul-result-3 c = search needs
-
-add-result-3 : tie.Need-add-result-3
-add-result-3 c = search needs
+little4-requires : tie.Need-little4-requires
+little4-requires c κs = search needs
 
 returns : tie.Need-returns
-returns c = omega (arith, length-in (c .before .before .before .before .before .before .before .before .before .args .payload .now) (omega arith))
+returns c = rw part-tail at (c .little4 .ensures)
 
 pub length-in-spec : {M : Type 1} → statement M
 length-in-spec =
-    tie.close
-    (tie.spec
-    shared-slice-read-wide
-    wide-requires
-    shared-slice-read-wide-2
-    wide-requires-2
-    mul-result
-    add-result
-    shared-slice-read-wide-3
-    wide-requires-3
-    mul-result-2
-    add-result-2
-    shared-slice-read-wide-4
-    wide-requires-4
-    mul-result-3
-    add-result-3
-    returns)
+    tie.close (tie.spec sub-little4 part-little4-start part-little4-end little4-requires returns)

@@ -16,10 +16,24 @@ good-bits-requires : tie.Need-good-bits-requires
 good-bits-requires c κs = search needs
 
 returns-3 : tie.Need-returns-3
-returns-3 c = rw (le-leb _ _ (c .before .before .before .before .if1 .left), le-leb _ _ (c .before .before .if2 .left), sym (c .before .good-bits .ensures) ∙ not-true _ (c .if3 .taken))
+returns-3 c =
+    rw (
+      le-leb _ _ (c .before .before .before .before .if1 .left),
+      le-leb _ _ (c .before .before .if2 .left),
+      sym (c .before .good-bits .ensures)
+          ∙ not-true _ (c .if3 .taken),
+    )
 
 returns-4 : tie.Need-returns-4
-returns-4 c = rw (le-leb _ _ (c .before .before .before .before .before .if1 .left), le-leb _ _ (c .before .before .before .if2 .left), sym (c .before .before .good-bits .ensures) ∙ not-false _ (c .before .if3 .left)) (sym (and-true (leb (c .before .before .before .before .before .before .before .args .table .nextentry) (c .before .before .before .before .before .before .before .args .table .length))))
+returns-4 c =
+    rw (
+      le-leb _ _ (c .before .before .before .before .before .if1 .left),
+      le-leb _ _ (c .before .before .before .if2 .left),
+      sym
+          (c .before .before .good-bits .ensures) ∙ not-false _ (c .before .if3 .left),
+    )
+    (sym (and-true (leb (c .before .before .before .before .before .before .before .args .table .nextentry)
+    (c .before .before .before .before .before .before .before .args .table .length))))
 
 pub inside-run-spec : {M : Type 1} → statement M
 inside-run-spec = tie.close (tie.spec returns returns-2 good-bits-requires returns-3 returns-4)

@@ -32,7 +32,13 @@ same-run-requires c κs = search needs
 returns-3 : tie.Need-returns-3
 unfolding inTurn
 returns-3 c =
-    rw (sym (c .before .before .before .before .before .takes-patch .ensures) ∙ not-false _ (c .before .before .before .before .if1 .left), eq-eqb _ _ (c .before .before .if2 .left), sym (c .before .same-run .ensures) ∙ not-true _ (c .if3 .taken))
+    rw (
+      sym (c .before .before .before .before .before .takes-patch .ensures)
+          ∙ not-false _ (c .before .before .before .before .if1 .left),
+      eq-eqb _ _ (c .before .before .if2 .left),
+      sym (c .before .same-run .ensures)
+          ∙ not-true _ (c .if3 .taken),
+    )
 
 sub-number-count : tie.Need-sub-number-count
 sub-number-count c = search needs
@@ -53,8 +59,10 @@ returns-4 : tie.Need-returns-4
 unfolding inTurn
 returns-4 c =
     let x = c .before .before .before .before .before .before .before .before .before .before .before .before .before .before .before .args in
-    turn-last (x .table) (x .payload .now) (x .part .now) (c .ends-right .result) (c .before .before .before .number-count .result) (c .before .before .entry-count .result)
-    (sym (c .before .before .before .before .before .before .before .before .before .takes-patch .ensures) ∙ not-false _ (c .before .before .before .before .before .before .before .before .if1 .left))
+    turn-last (x .table) (x .payload .now) (x .part .now) (c .ends-right .result) (c .before .before .before .number-count .result)
+    (c .before .before .entry-count .result)
+    (sym (c .before .before .before .before .before .before .before .before .before .takes-patch .ensures)
+    ∙ not-false _ (c .before .before .before .before .before .before .before .before .if1 .left))
     (c .before .before .before .before .before .before .if2 .left)
     (sym (c .before .before .before .before .before .same-run .ensures) ∙ not-false _ (c .before .before .before .before .if3 .left))
     (c .before .before .before .number-count .ensures)

@@ -20,10 +20,12 @@ unfolding movedOn
 returns c = rw (eq-eqb _ _ (c .before .if1 .taken)) (c .at-rest .ensures)
 
 shared-slice-read-bits : tie.Need-shared-slice-read-bits
-shared-slice-read-bits c = let f = patch-fields (c .before .before .before .before .before .args .payload .now) (c .before .before .before .before .before .pre .0) in omega arith
+shared-slice-read-bits c =
+    let f = patch-fields (c .before .before .before .before .before .args .payload .now) (c .before .before .before .before .before .pre .0) in omega arith
 
 sub-number-count : tie.Need-sub-number-count
-sub-number-count c = let f = patch-fields (c .before .before .before .before .before .args .payload .now) (c .before .before .before .before .before .pre .0) in omega arith
+sub-number-count c =
+    let f = patch-fields (c .before .before .before .before .before .args .payload .now) (c .before .before .before .before .before .pre .0) in omega arith
 
 number-count-requires : tie.Need-number-count-requires
 number-count-requires c κs = search needs
@@ -42,7 +44,11 @@ add-t15 c = omega (arith, count-in (c .before .before .before .before .before .b
 returns-2 : tie.Need-returns-2
 unfolding movedOn
 returns-2 c =
-    rw (ne-eqb _ _ (c .before .before .before .if1 .left), c .before .number-count .ensures, count-in (c .before .before .before .before .before .before .before .args .payload .now))
+    rw (
+      ne-eqb _ _ (c .before .before .before .if1 .left),
+      c .before .number-count .ensures,
+      count-in (c .before .before .before .before .before .before .before .args .payload .now),
+    )
 
 pub moved-on-spec : {M : Type 1} → statement M
 moved-on-spec =

@@ -8,12 +8,15 @@ use Rattle.tablereader.proofs.updates.patch.Statement.{statement}
 use Rattle.tablereader.proofs.updates.patch.Tie as tie
 
 -- what an answer of 0 says, at hand
-passed : (c : tie.Else1) → Taken (heldIn (c .before .before .before .before .before .args .table) (c .before .before .before .before .before .args .part .now)) (c .before .before .before .before .before .args .payload .now)
+passed : (c : tie.Else1) → Taken
+    (heldIn (c .before .before .before .before .before .args .table) (c .before .before .before .before .before .args .part .now))
+    (c .before .before .before .before .before .args .payload .now)
 passed c =
     let x = c .before .before .before .before .before .args in
     taken (heldIn (x .table) (x .part .now)) (x .payload .now) (sym (c .before .patch-answer .ensures) ∙ c .if1 .left)
 
-known : (c : tie.Else1) → Awaited (c .before .before .before .before .before .args .table) (c .before .before .before .before .before .args .payload .now) (c .before .before .before .before .before .args .part .now)
+known : (c : tie.Else1) → Awaited (c .before .before .before .before .before .args .table)
+    (c .before .before .before .before .before .args .payload .now) (c .before .before .before .before .before .args .part .now)
 known c =
     let x = c .before .before .before .before .before .args in
     awaited (x .table) (x .payload .now) (x .part .now) (passed c .fields) (passed c .turn)
@@ -67,7 +70,8 @@ add-all-requires c κs =
     let x = c .before .before .before .before .before .before .before .before .before .before .args in
     let n = c .before .before .entry-count in (
       known s .fields .width,
-      lent-fit (x .table) (x .payload .now) (x .part .now) (n .result) (n .ensures) (omega (arith, c .before .before .before .before .before .before .before .before .before .before .good .0)) (passed s .range),
+      lent-fit (x .table) (x .payload .now) (x .part .now) (n .result) (n .ensures)
+          (omega (arith, c .before .before .before .before .before .before .before .before .before .before .good .0)) (passed s .range),
     )
 
 moved-on-requires : tie.Need-moved-on-requires

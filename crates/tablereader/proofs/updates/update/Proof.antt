@@ -36,7 +36,9 @@ returns-3 c =
     let s = c .before .before .before .before .before .before in
     let x = c .before .before .before .before .before .before .before .before .before .before .args in
     let y = c .before .before .patch in
-    let d = by-patch (x .table) (x .payload .now) (x .part .now) (x .ttl) (x .hops) (s .before .if1 .left) (s .if2 .left) (sym (c .before .before .before .before .before .is-patch .ensures) ∙ c .before .before .before .before .if3 .taken) (y .result) (y .last .1 .1 .0) (y .ensures) in
+    let d = by-patch (x .table) (x .payload .now) (x .part .now) (x .ttl) (x .hops) (s .before .if1 .left) (s .if2 .left)
+    (sym (c .before .before .before .before .before .is-patch .ensures) ∙ c .before .before .before .before .if3 .taken) (y .result)
+    (y .last .1 .1 .0) (y .ensures) in
     (d .result, d .entries)
 
 reset-requires : tie.Need-reset-requires
@@ -50,7 +52,9 @@ returns-4 c =
     let s = c .before .before .before .before .before .before in
     let x = c .before .before .before .before .before .before .before .before .before .before .args in
     let y = c .before .before .reset in
-    let d = by-reset (x .table) (x .payload .now) (x .part .now) (x .ttl) (x .hops) (s .before .if1 .left) (s .if2 .left) (sym (c .before .before .before .before .before .is-patch .ensures) ∙ c .before .before .before .before .if3 .left) (y .result) (y .last .1 .1 .0) (y .ensures) in
+    let d = by-reset (x .table) (x .payload .now) (x .part .now) (x .ttl) (x .hops) (s .before .if1 .left) (s .if2 .left)
+    (sym (c .before .before .before .before .before .is-patch .ensures) ∙ c .before .before .before .before .if3 .left) (y .result)
+    (y .last .1 .1 .0) (y .ensures) in
     (d .result, d .entries)
 
 pub update-spec : {M : Type 1} → statement M

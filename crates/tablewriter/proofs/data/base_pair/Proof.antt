@@ -2,8 +2,8 @@ use mathlib.Core.Path.{ap, _∙_}
 use mathlib.Core.Bool.{cond}
 use native.Mathlib.Omega.{arith}
 use lib.ListN.{length, getD}
-use Rattle.tablewriter.specs.Writer.{baseOf}
-use Rattle.tablewriter.proofs.DataLaws.{base-at}
+use Rattle.tablemessages.specs.Writer.{baseOf}
+use Rattle.tablemessages.proofs.DataLaws.{base-at}
 use Prim.Native.Nat.{_+_}
 use borrow.Author.Needs.{needs}
 use Rattle.tablewriter.proofs.data.base_pair.Statement.{statement}

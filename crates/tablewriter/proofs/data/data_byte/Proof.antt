@@ -1,8 +1,8 @@
 use mathlib.Core.Path.{ap, sym, _∙_}
 use native.Mathlib.Omega.{arith}
 use lib.ListN.{getD}
-use Rattle.tablewriter.specs.Steps.{rawIn}
-use Rattle.tablewriter.proofs.PlanLaws.{small-length, small-at, wide-length, wide-at}
+use Rattle.tablemessages.specs.Steps.{rawIn}
+use Rattle.tablemessages.proofs.PlanLaws.{small-length, small-at, wide-length, wide-at}
 use borrow.Author.Needs.{needs}
 use Rattle.tablewriter.proofs.data.data_byte.Statement.{statement}
 use Rattle.tablewriter.proofs.data.data_byte.Tie as tie

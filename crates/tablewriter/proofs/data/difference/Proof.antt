@@ -1,4 +1,4 @@
-use Rattle.tablewriter.proofs.DataLaws.{raw-eight}
+use Rattle.tablemessages.proofs.DataLaws.{raw-eight}
 use borrow.Author.Needs.{needs}
 use Rattle.tablewriter.proofs.data.difference.Statement.{statement}
 use Rattle.tablewriter.proofs.data.difference.Tie as tie

@@ -1,8 +1,8 @@
 use Prim.Native.Nat.{_+_}
 use native.Mathlib.Omega.{arith}
 use lib.ListN.{getD}
-use Rattle.tablewriter.specs.Steps.{baseBy}
-use Rattle.tablewriter.proofs.DataLaws.{near-at, pair-raw}
+use Rattle.tablemessages.specs.Steps.{baseBy}
+use Rattle.tablemessages.proofs.DataLaws.{near-at, pair-raw}
 use borrow.Author.Needs.{needs}
 use Rattle.tablewriter.proofs.data.pair_byte.Statement.{statement}
 use Rattle.tablewriter.proofs.data.pair_byte.Tie as tie

@@ -5,8 +5,8 @@ use lib.ListN.{length, take, drop, set, length-set, length-drop}
 use lib.Seq.{getD-drop}
 use Rattle.laws.specs.Parts.{over}
 use Rattle.laws.proofs.Writing.{byte-next}
-use Rattle.tablewriter.specs.Steps.{dataBy}
-use Rattle.tablewriter.proofs.PlanLaws.{plan-short}
+use Rattle.tablemessages.specs.Steps.{dataBy}
+use Rattle.tablemessages.proofs.PlanLaws.{plan-short}
 use borrow.Author.Needs.{needs}
 use Rattle.tablewriter.proofs.data.put_data.Statement.{statement}
 use Rattle.tablewriter.proofs.data.put_data.Tie as tie

@@ -3,8 +3,8 @@ use mathlib.Core.Path.{_≡_, refl, sym, ap, _∙_}
 use mathlib.Core.Bool.{_&&_, and-true}
 use native.Mathlib.Omega.{arith}
 use lib.ListN.{length, drop, getD}
-use Rattle.tablewriter.specs.Writer.{baseOf, near, allNear}
-use Rattle.tablewriter.proofs.DataLaws.{near-more, near-end}
+use Rattle.tablemessages.specs.Writer.{baseOf, near, allNear}
+use Rattle.tablemessages.proofs.DataLaws.{near-more, near-end}
 use borrow.Author.Needs.{needs}
 use Rattle.tablewriter.proofs.good.all_near.Statement.{statement}
 use Rattle.tablewriter.proofs.good.all_near.Tie as tie
@@ -41,7 +41,8 @@ loop-again c =
     let l = c .before .before .before .before .loop in (
       omega arith,
       l .inv .1
-          ∙ near-more (x .new .now) (baseOf (x .had) (x .old .now) (x .new .now) (x .infinity)) (l .i) (l .good) (c .is-near .result) (omega arith) (omega arith)
+          ∙ near-more (x .new .now) (baseOf (x .had) (x .old .now) (x .new .now) (x .infinity)) (l .i) (l .good) (c .is-near .result) (omega arith)
+          (omega arith)
           (c .is-near .ensures ∙ ap (near (getD (x .new .now) (l .i) 0)) (c .before .before .base-at .ensures)),
     )
 

@@ -5,8 +5,8 @@ use native.Mathlib.Omega.{arith}
 use lib.ListN.{length, drop}
 use Rattle.laws.specs.Tests.{all}
 use Rattle.laws.proofs.Writing.{all-end}
-use Rattle.tablewriter.specs.Writer.{inRange}
-use Rattle.tablewriter.proofs.GoodLaws.{all-more}
+use Rattle.tablemessages.specs.Writer.{inRange}
+use Rattle.tablemessages.proofs.GoodLaws.{all-more}
 use borrow.Author.Needs.{needs}
 use Rattle.tablewriter.proofs.good.in_range.Statement.{statement}
 use Rattle.tablewriter.proofs.good.in_range.Tie as tie

@@ -1,7 +1,7 @@
 use mathlib.Core.Path.{ap₂}
 use mathlib.Core.Bool.{_&&_}
 use Prim.Native.Nat.{_+_}
-use Rattle.tablewriter.proofs.DataLaws.{capped}
+use Rattle.tablemessages.proofs.DataLaws.{capped}
 use borrow.Author.Needs.{needs}
 use Rattle.tablewriter.proofs.good.is_near.Statement.{statement}
 use Rattle.tablewriter.proofs.good.is_near.Tie as tie

@@ -1,6 +1,6 @@
 use mathlib.Core.Path.{sym, _∙_}
 use borrow.Author.Tests.{lt-leb, le-leb, eq-eqb, ne-eqb, not-true, not-false}
-use Rattle.tablewriter.specs.Steps.{mayWrite}
+use Rattle.tablemessages.specs.Steps.{mayWrite}
 use borrow.Author.Needs.{needs}
 use Rattle.tablewriter.proofs.good.may_write.Statement.{statement}
 use Rattle.tablewriter.proofs.good.may_write.Tie as tie
@@ -62,7 +62,8 @@ unfolding mayWrite
 returns-7 c =
     let a = le-leb 1 _ (c .before .before .before .before .before .before .before .if1 .left) in
     let b = le-leb _ 4091 (c .before .before .before .before .before .before .if2 .left) in
-    let h = not-false (c .before .before .before .before .before .before .before .before .before .before .args .had) (c .before .before .before .before .before .if3 .left) in
+    let h = not-false (c .before .before .before .before .before .before .before .before .before .before .args .had)
+    (c .before .before .before .before .before .if3 .left) in
     let l = eq-eqb _ _ (c .before .before .before .before .if4 .left) in
     let i = eq-eqb _ _ (c .before .before .before .if5 .left) in
     let o = sym (c .before .before .good-table2 .ensures) ∙ not-false _ (c .before .if6 .left) in

@@ -3,8 +3,8 @@ use mathlib.Core.Path.{ap, _∙_}
 use native.Mathlib.Omega.{arith}
 use lib.ListN.{length, length-take, length-drop}
 use Rattle.laws.specs.Parts.{over}
-use Rattle.tablewriter.specs.Steps.{resetLength}
-use Rattle.tablewriter.proofs.AllLaws.{more-room, all-had, all-stored}
+use Rattle.tablemessages.specs.Steps.{resetLength}
+use Rattle.tablemessages.proofs.AllLaws.{more-room, all-had, all-stored}
 use borrow.Author.Needs.{needs}
 use Rattle.tablewriter.proofs.run.put_all.Statement.{statement}
 use Rattle.tablewriter.proofs.run.put_all.Tie as tie
@@ -28,10 +28,12 @@ put-reset-requires : tie.Need-put-reset-requires
 put-reset-requires c κs = omega (arith, ap resetLength (c .before .if1 .left), c .before .before .before .before .before .pre .reset)
 
 sub-put-run : tie.Need-sub-put-run
-sub-put-run c = omega (arith, ap resetLength (c .before .before .before .before .if1 .left), c .before .before .before .before .before .before .before .before .pre .reset)
+sub-put-run c =
+    omega (arith, ap resetLength (c .before .before .before .before .if1 .left), c .before .before .before .before .before .before .before .before .pre .reset)
 
 part-put-run-start : tie.Need-part-put-run-start
-part-put-run-start c = omega (arith, ap resetLength (c .before .before .before .before .if1 .left), c .before .before .before .before .before .before .before .before .pre .reset)
+part-put-run-start c =
+    omega (arith, ap resetLength (c .before .before .before .before .if1 .left), c .before .before .before .before .before .before .before .before .pre .reset)
 
 part-put-run-end : tie.Need-part-put-run-end
 part-put-run-end c = search needs
@@ -50,7 +52,8 @@ returns-2 : tie.Need-returns-2
 returns-2 c =
     let x = c .before .before .before .before .before .before .before .before .before .before .before .before .args in
     let q = c .before .before .before .before .before .before .before .before .before .before .before .before .pre in
-    all-stored (x .number) (x .plan) (x .old .now) (x .new .now) (x .out .now) (c .before .before .before .before .before .before .put-reset .last .1 .1 .1 .0) (c .before .before .put-run2 .last .1 .1 .1 .1 .0)
+    all-stored (x .number) (x .plan) (x .old .now) (x .new .now) (x .out .now)
+    (c .before .before .before .before .before .before .put-reset .last .1 .1 .1 .0) (c .before .before .put-run2 .last .1 .1 .1 .1 .0)
     (omega arith)
     (c .before .before .before .before .before .before .before .before .if1 .left)
     (omega (arith, ap resetLength (c .before .before .before .before .before .before .before .before .if1 .left), q .reset, q .run .fits))

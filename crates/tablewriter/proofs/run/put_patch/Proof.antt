@@ -1,5 +1,5 @@
-use Rattle.tablewriter.specs.Steps.{dataBy}
-use Rattle.tablewriter.proofs.MessageLaws.{patch-stored}
+use Rattle.tablemessages.specs.Steps.{dataBy}
+use Rattle.tablemessages.proofs.MessageLaws.{patch-stored}
 use Prim.Native.Nat.{ℕ, _-_}
 use mathlib.Core.Path.{_≡_, refl, _∙_}
 use mathlib.Core.List.{List, [], _∷_}
@@ -57,7 +57,8 @@ same-length c =
     let d = c .before .before .put-data in
     let h = c .before .before .before .before .before .before .put-header in
     let x = c .before .before .before .before .before .before .before .before .before .before .before .before .args in
-    let all : List ℕ = sets (h .last .1 .1 .1 .1 .1 .0) 23 (1 ∷ x .place ∷ x .plan .count ∷ 0 ∷ c .before .before .before .before .before .before .before .before .bits-of .result ∷ []) in
+    let all : List ℕ = sets (h .last .1 .1 .1 .1 .1 .0) 23
+    (1 ∷ x .place ∷ x .plan .count ∷ 0 ∷ c .before .before .before .before .before .before .before .before .bits-of .result ∷ []) in
     let l : length all ≡ length (x .part .now) = simp length-set (omega arith) in
     same-len-mid 28 (length all - 28) all (d .last .1 .1 .1 .1 .1 .0) (d .kept .1 .1 .1 .1 .1 .0) ∙ l
 

@@ -1,4 +1,4 @@
-use Rattle.tablewriter.proofs.MessageLaws.{reset-stored}
+use Rattle.tablemessages.proofs.MessageLaws.{reset-stored}
 use native.Mathlib.Omega.{arith}
 use lib.ListN.{length-set}
 use borrow.Author.Needs.{needs}

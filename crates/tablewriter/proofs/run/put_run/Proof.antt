@@ -2,9 +2,9 @@ use Prim.Native.Nat.{_+_, _-_, _≤_, _<_, min}
 use mathlib.Core.Path.{_≡_, ap, sym, _∙_}
 use native.Mathlib.Omega.{arith}
 use lib.ListN.{length, length-take, length-drop}
-use Rattle.tablewriter.specs.Steps.{dataBy}
-use Rattle.tablewriter.proofs.PlanLaws.{plan-length}
-use Rattle.tablewriter.proofs.TurnLaws.{At, begins, ends, turn, turn-data, turn-place, turn-room}
+use Rattle.tablemessages.specs.Steps.{dataBy}
+use Rattle.tablemessages.proofs.PlanLaws.{plan-length}
+use Rattle.tablemessages.proofs.TurnLaws.{At, begins, ends, turn, turn-data, turn-place, turn-room}
 use borrow.Author.Needs.{needs}
 use Rattle.tablewriter.proofs.run.put_run.Statement.{statement}
 use Rattle.tablewriter.proofs.run.put_run.Tie as tie
@@ -20,7 +20,9 @@ abbrev μ-loop : tie.MeasureT-loop
 least : (c : tie.After-smaller Inv-loop μ-loop)
     → let x = c .before .before .before .before .before .before .before .args in
     c .smaller .result ≡ min (x .plan .size) (length (dataBy (x .plan) (x .old .now) (x .new .now)) - c .before .before .loop .from)
-least c = c .smaller .ensures ∙ ap (λ k. min (c .before .before .before .before .before .before .before .args .plan .size) (k - c .before .before .loop .from)) (c .before .before .loop .inv .0)
+least c =
+    c .smaller .ensures ∙ ap (λ k. min (c .before .before .before .before .before .before .before .args .plan .size)
+    (k - c .before .before .loop .from)) (c .before .before .loop .inv .0)
 
 bounds : (c : tie.After-smaller Inv-loop μ-loop)
     → let x = c .before .before .before .before .before .before .before .args in
@@ -105,7 +107,8 @@ loop-again c =
     let b = bounds (c .before .before .before .before) in
     let m : i .from < length (dataBy (x .plan) (x .old .now) (x .new .now)) = omega arith in (
       i .inv .0,
-      turn (x .number) (omega arith) (x .plan) (q .some) (dataBy (x .plan) (x .old .now) (x .new .now)) (x .out .now) (i .out) (i .place) (i .from) (i .at) (i .inv .1) n m
+      turn (x .number) (omega arith) (x .plan) (q .some) (dataBy (x .plan) (x .old .now) (x .new .now)) (x .out .now) (i .out) (i .place) (i .from)
+          (i .at) (i .inv .1) n m
           (least (c .before .before .before .before)) (i .at + 28 + n - i .at) _ (omega arith) (omega (arith, b .0)) (c .before .before .put-patch .ensures),
     )
 
@@ -117,7 +120,8 @@ returns c =
     let x = c .before .before .before .before .before .before .args in
     let q = c .before .before .before .before .before .before .pre in
     let i = c .before .loop in
-    ends (x .number) (omega arith) (x .plan) (q .some) (dataBy (x .plan) (x .old .now) (x .new .now)) (x .out .now) (i .out) (i .place) (i .from) (i .at) (i .inv .1) (omega arith)
+    ends (x .number) (omega arith) (x .plan) (q .some) (dataBy (x .plan) (x .old .now) (x .new .now)) (x .out .now) (i .out) (i .place) (i .from)
+    (i .at) (i .inv .1) (omega arith)
 
 pub put-run-spec : {M : Type 1} → statement M
 put-run-spec =

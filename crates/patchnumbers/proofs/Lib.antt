@@ -1,0 +1,2 @@
+-- Laws of unpacked numbers.
+pub mod UnpackLaws
