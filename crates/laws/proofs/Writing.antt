@@ -13,8 +13,8 @@ use lib.Seq.{drop-append-seam, drop-append-add, length-take-le}
 use borrow.Rule.Slice.PartMut.{putMid}
 use Rattle.laws.specs.Tests.{any, all}
 use Rattle.laws.specs.Bytes.{little, littleBytes}
-use Rattle.laws.specs.Parts.{over}
-use Rattle.laws.proofs.Over.{over-length}
+use Rattle.laws.specs.Parts.{over, copied}
+use Rattle.laws.proofs.Over.{over-length, copied-whole}
 use Rattle.laws.proofs.Passing.{any-from}
 
 -- ys written next to xs
@@ -62,6 +62,13 @@ lent-part from k bs area left h g e =
     ∙ sym (drop-append-le (length bs) (take k (drop from area)) (drop k (drop from area)) n)
     ∙ ap (drop (length bs)) (take-append-drop k (drop from area))
     ∙ drop-drop (length bs) from area))
+
+-- the same where the bytes were copied there
+pub copied-part : (from k : ℕ) (bs area left : List ℕ) → length bs ≤ k → from + k ≤ length area
+    → left ≡ copied bs (take k (drop from area)) → putMid from k area left ≡ over from bs area
+copied-part from k bs area left h g e =
+    lent-part from k bs area left h g
+    (e ∙ copied-whole bs (take k (drop from area)) (simp (length-take, length-drop) (omega arith)))
 
 -- no more than there is
 module _ (k n : ℕ) (l : List ℕ) (e : n ≡ min k (length l)) where
