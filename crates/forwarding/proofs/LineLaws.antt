@@ -1,13 +1,15 @@
--- Laws of the flags of lines: one keyword more clears those of the lines that it stops, and the last keyword leaves what passes.
+-- Laws of the flags of lines: one keyword more clears those of the lines that it stops, and the last keyword leaves
+-- what passes; and of the lines that a query goes on to.
 use Prim.Native.Nat.{ℕ, zero, suc, _+_, _*_, _-_, _≤_, _<_, min}
 use mathlib.Core.Path.{_≡_, refl, sym, ap, _∙_}
-use mathlib.Core.Bool.{Bool, false, not, _&&_, and-true}
+use mathlib.Core.Bool.{Bool, false, not, _&&_, and-true, and-false, and-assoc}
 use mathlib.Core.List.{List}
 use native.Mathlib.Nat.{suc-mul}
 use native.Mathlib.Numerals.{add-one}
 use native.Mathlib.Omega.{arith}
 use lib.ListN.{length, getD, take, drop}
 use lib.Seq.{drop-drop, ext-getD}
+use borrow.Author.Tests.{le-leb, lt-leb}
 use Rattle.laws.proofs.Parts.{part-tail}
 use Rattle.keywords.specs.declared.cut.Cut.{Cut}
 use Rattle.keywords.specs.Keywords.{keywordsOf, cutOf}
@@ -16,10 +18,10 @@ use Rattle.tables.specs.declared.Table.{Table}
 use Rattle.tables.specs.Tables.{Held, heldIn, noTable}
 use Rattle.tables.specs.Admission.{stops, withholds}
 use Rattle.tables.proofs.AdmissionLaws.{withholds-end, withholds-on}
-use Rattle.protocol.specs.Lines.{partOf}
-use Rattle.protocol.specs.Outcomes.{eachLine}
-use Rattle.protocol.specs.Queries.{passes}
-use Rattle.forwarding.specs.Passing.{heldOf, passingOf, leftBy}
+use Rattle.protocol.specs.Lines.{partOf, eachLine, isOther}
+use Rattle.protocol.specs.Outcomes.{nobody}
+use Rattle.protocol.specs.Queries.{passes, goesOn, ownTo, queryTo}
+use Rattle.forwarding.specs.Passing.{heldOf, leftBy}
 use Rattle.laws.proofs.Passing.{take-within, drop-within, and-neither}
 
 -- ---- eight flags
@@ -35,7 +37,8 @@ flag-of f (suc (suc (suc (suc (suc (suc zero)))))) h = refl
 flag-of f (suc (suc (suc (suc (suc (suc (suc zero))))))) h = refl
 flag-of f (suc (suc (suc (suc (suc (suc (suc (suc k)))))))) h = absurd (omega arith)
 
-flags-are : (f : ℕ → Bool) (l : List Bool) → length l ≡ 8 → ((k : ℕ) → k < 8 → f k ≡ getD l k false) → eachLine f ≡ l
+flags-are : (f : ℕ → Bool) (l : List Bool) → length l ≡ 8 → ((k : ℕ) → k < 8 → f k ≡ getD l k false)
+    → eachLine f ≡ l
 flags-are f l n h = ext-getD false (eachLine f) l (sym n) (λ k b. flag-of f k b ∙ h k b)
 
 pub each-same : (f g : ℕ → Bool) → ((k : ℕ) → k < 8 → f k ≡ g k) → eachLine f ≡ eachLine g
@@ -46,51 +49,71 @@ each-same f g h = flags-are f (eachLine g) refl (λ k b. h k b ∙ sym (flag-of 
 module _ (h : Held) (ttl : ℕ) (b : Bool) (text : List ℕ) (c : Cut) (e : c ≡ cutOf text) where
   -- a keyword that is cut is tested before those behind it
   passes-on : c .start < c .end → (hash : ℕ) → hash ≡ hashOf (take (c .end - c .start) (drop (c .start) text))
-      → passes b h text ttl ≡ passes (b && not (stops h ttl hash)) h (take (length text - c .end) (drop (c .end) text)) ttl
+      → passes b h text ttl
+      ≡ passes (b && not (stops h ttl hash)) h (take (length text - c .end) (drop (c .end) text)) ttl
   passes-on s hash eh =
       ap (λ w. b && not w) (withholds-on h ttl text c e s hash (stops h ttl hash) eh refl)
-      ∙ and-neither b (stops h ttl hash) (withholds h (keywordsOf (take (length text - c .end) (drop (c .end) text))) ttl)
+      ∙ and-neither b (stops h ttl hash)
+      (withholds h (keywordsOf (take (length text - c .end) (drop (c .end) text))) ttl)
 
   passes-end : c .end ≤ c .start → passes b h text ttl ≡ b
   passes-end s = ap (λ w. b && not w) (withholds-end h ttl text c e s) ∙ and-true b
 
--- ---- the tables of eight lines
+-- ---- eight lines, each with its table
 
-module _ (flags : List Bool) (tables : List Table) (room : ℕ) (route : List ℕ) (ttl : ℕ) where
+module _ (flags : List Bool) (tables : ℕ → Held) (ttl : ℕ) where
   module _ (text : List ℕ) (c : Cut) (e : c ≡ cutOf text) where
     pub passing-on : c .start < c .end → (hash : ℕ) → hash ≡ hashOf (take (c .end - c .start) (drop (c .start) text))
-        → (left : List Bool) → left ≡ leftBy flags tables room route ttl hash
-        → passingOf left tables room route (take (length text - c .end) (drop (c .end) text)) ttl ≡ passingOf flags tables room route text ttl
-    unfolding passingOf leftBy
+        → (left : List Bool) → left ≡ leftBy flags tables ttl hash
+        → ownTo ttl (λ k. getD left k false) tables (take (length text - c .end) (drop (c .end) text))
+        ≡ ownTo ttl (λ k. getD flags k false) tables text
+    unfolding leftBy
     passing-on s hash eh left el =
         rw el
         (each-same _ _
-        (λ k b. ap (λ f. passes f (heldOf tables room route k) (take (length text - c .end) (drop (c .end) text)) ttl)
-        (flag-of (λ j. getD flags j false && not (stops (heldOf tables room route j) ttl hash)) k b)
-        ∙ sym (passes-on (heldOf tables room route k) ttl (getD flags k false) text c e s hash eh)))
+        (λ k b. ap (λ f. passes f (tables k) (take (length text - c .end) (drop (c .end) text)) ttl)
+        (flag-of (λ j. getD flags j false && not (stops (tables j) ttl hash)) k b)
+        ∙ sym (passes-on (tables k) ttl (getD flags k false) text c e s hash eh)))
 
-    pub passing-end : length flags ≡ 8 → c .end ≤ c .start → passingOf flags tables room route text ttl ≡ flags
-    unfolding passingOf
-    passing-end n s = flags-are _ flags n (λ k b. passes-end (heldOf tables room route k) ttl (getD flags k false) text c e s)
+    pub passing-end : length flags ≡ 8 → c .end ≤ c .start → ownTo ttl (λ k. getD flags k false) tables text ≡ flags
+    passing-end n s = flags-are _ flags n (λ k b. passes-end (tables k) ttl (getD flags k false) text c e s)
 
-  pub left-length : (hash : ℕ) → length (leftBy flags tables room route ttl hash) ≡ 8
+  pub left-length : (hash : ℕ) → length (leftBy flags tables ttl hash) ≡ 8
   unfolding leftBy
   left-length hash = refl
 
-  -- line k, whose part stands at the front of what is left of the area
-  module _ (hash k n : ℕ) (area : List ℕ) (b : k < 8) (ea : area ≡ drop (k * room) route) (en : n ≡ min room (length area)) where
-    pub flag-left : getD (leftBy flags tables room route ttl hash) k false
-        ≡ (getD flags k false && not (stops (heldIn (getD tables k noTable) (take n area)) ttl hash))
-    unfolding leftBy
-    flag-left =
-        let part : take n area ≡ partOf room k route = rw en (take-within room area ∙ ap (take room) ea) in
-        flag-of (λ j. getD flags j false && not (stops (heldOf tables room route j) ttl hash)) k b
-        ∙ ap (λ p. getD flags k false && not (stops (heldIn (getD tables k noTable) p) ttl hash)) (sym part)
+-- line k, whose part stands at the front of what is left of the area
+module _ (flags : List Bool) (tables : List Table) (room : ℕ) (route : List ℕ) (k n : ℕ) (area : List ℕ) (b : k < 8)
+    (ea : area ≡ drop (k * room) route) (en : n ≡ min room (length area)) where
+  pub flag-left : (ttl hash : ℕ) → getD (leftBy flags (heldOf tables room route) ttl hash) k false
+      ≡ (getD flags k false && not (stops (heldIn (getD tables k noTable) (take n area)) ttl hash))
+  unfolding leftBy
+  flag-left ttl hash =
+      let part : take n area ≡ partOf room k route = rw en (take-within room area ∙ ap (take room) ea) in
+      flag-of (λ j. getD flags j false && not (stops (heldOf tables room route j) ttl hash)) k b
+      ∙ ap (λ p. getD flags k false && not (stops (heldIn (getD tables k noTable) p) ttl hash)) (sym part)
 
-    pub area-next : take (length area - n) (drop n area) ≡ drop ((k + 1) * room) route
-    area-next =
-        part-tail n area
-        ∙ (rw en (drop-within room area))
-        ∙ ap (drop room) ea
-        ∙ drop-drop room (k * room) route
-        ∙ ap (λ m. drop m route) (sym (ap (λ j. j * room) (add-one k) ∙ suc-mul k room))
+  pub area-next : take (length area - n) (drop n area) ≡ drop ((k + 1) * room) route
+  area-next =
+      part-tail n area
+      ∙ (rw en (drop-within room area))
+      ∙ ap (drop room) ea
+      ∙ drop-drop room (k * room) route
+      ∙ ap (λ m. drop m route) (sym (ap (λ j. j * room) (add-one k) ∙ suc-mul k room))
+
+-- a query that came by line l with this life: to the other open lines that let it pass, where the life is 2 or more,
+-- and else to nobody
+module _ (l life : ℕ) (live : List Bool) (tables : ℕ → Held) (text : List ℕ) where
+  pub going-nobody : life < 2 → nobody ≡ queryTo life l (λ k. getD live k false) tables text
+  going-nobody short =
+      each-same (λ k. false) (λ k. goesOn life l k (getD live k false) (tables k) text)
+      (λ k h. sym (rw (lt-leb 2 life short) (and-false (isOther l k))))
+
+  pub going-some : 2 ≤ life → (others : List Bool) → others ≡ eachLine (λ k. isOther l k && getD live k false)
+      → ownTo (life - 1) (λ k. getD others k false) tables text ≡ queryTo life l (λ k. getD live k false) tables text
+  going-some long others e =
+      rw e
+      (each-same _ (λ k. goesOn life l k (getD live k false) (tables k) text)
+      (λ k h. ap (λ b. passes b (tables k) text (life - 1)) (flag-of (λ j. isOther l j && getD live j false) k h)
+      ∙ and-assoc (isOther l k) (getD live k false) _
+      ∙ sym (rw (le-leb 2 life long))))

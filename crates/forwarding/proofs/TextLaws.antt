@@ -41,4 +41,6 @@ text-none p h = let past : length p ≤ 2 = omega arith in rw (drop-of-length-le
 
 pub text-some : (p : List ℕ) (n : ℕ) → n ≡ length (untilZero (take (length p - 2) (drop 2 p)))
     → record { ended = ltb n (length (take (length p - 2) (drop 2 p))); length = n } ≡ textOf p
-text-some p n e = rw (e, part-tail) (ap (λ b. record { ended = b; length = length (untilZero (drop 2 p)) }) (sym (until-stops (drop 2 p))))
+text-some p n e =
+    rw (e, part-tail)
+    (ap (λ b. record { ended = b; length = length (untilZero (drop 2 p)) }) (sym (until-stops (drop 2 p))))

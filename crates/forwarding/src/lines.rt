@@ -1,13 +1,17 @@
 // The lines that a query goes to.
 ghost use mathlib.Core.Path.{_≡_};
-ghost use mathlib.Core.Bool.{not, _&&_};
+ghost use mathlib.Core.Bool.{false, not, _&&_};
 ghost use Prim.Native.Nat.{min};
+ghost use lib.ListN.{getD};
 ghost use Rattle.laws.specs.Tests.{any};
 ghost use Rattle.tables.specs.Tables.{heldIn};
 ghost use Rattle.tables.specs.Admission.{stops};
-ghost use Rattle.forwarding.specs.Passing.{passingOf, leftBy};
+ghost use Rattle.protocol.specs.Lines.{isOther, eachLine};
+ghost use Rattle.protocol.specs.Queries.{ownTo, queryTo};
+ghost use Rattle.forwarding.specs.Passing.{heldOf, leftBy};
 use keywords::cut::first_keyword;
 use keywords::hash::hash;
+use protocol::lines::is_other;
 use tablereader::admission::stops;
 use tables::Table;
 
@@ -41,7 +45,8 @@ fn is_left(flag: bool, table: Table, part: &[u8], ttl: u8, hash: u32) -> bool
     !stops(table, part, ttl, hash)
 }
 
-// The lines that one more keyword leaves. The parts of the area stand one after another; the last may be short or missing.
+// The lines that one more keyword leaves. The parts of the area stand one after another; the last may be short or
+// missing.
 fn left_by(
     flags: [bool; 8],
     tables: [Table; 8],
@@ -50,7 +55,7 @@ fn left_by(
     ttl: u8,
     hash: u32,
 ) -> [bool; 8]
-    ensures { λ r. ⌜ r ≡ leftBy flags tables room (now (route .entry)) ttl hash ⌝ }
+    ensures { λ r. ⌜ r ≡ leftBy flags (heldOf tables room (now (route .entry))) ttl hash ⌝ }
 {
     let mut left = flags;
     let mut area = route;
@@ -64,7 +69,8 @@ fn left_by(
     left
 }
 
-// For each line whether it is open and lets a query with this text pass that is sent with this TTL. Each keyword is cut and hashed once.
+// For each line whether it is open and lets a query with this text pass that is sent with this TTL. Each keyword is cut
+// and hashed once.
 pub fn passing(
     live: [bool; 8],
     tables: [Table; 8],
@@ -73,7 +79,7 @@ pub fn passing(
     text: &[u8],
     ttl: u8,
 ) -> [bool; 8]
-    ensures { λ r. ⌜ r ≡ passingOf live tables room (now (route .entry)) (now (text .entry)) ttl ⌝ }
+    ensures { λ r. ⌜ r ≡ ownTo ttl (λ k. getD live k false) (heldOf tables room (now (route .entry))) (now (text .entry)) ⌝ }
 {
     let mut flags = live;
     let mut rest = text;
@@ -89,4 +95,45 @@ pub fn passing(
         flags = left;
         rest = &rest[end..];
     }
+}
+
+// Line k is open, and another than this one.
+fn is_open_other(line: u32, k: u32, live: bool) -> bool
+    ensures { λ r. ⌜ r ≡ (isOther line k && live) ⌝ }
+{
+    if is_other(line, k) { live } else { false }
+}
+
+// The open lines but for this one.
+fn open_others(live: [bool; 8], line: u32) -> [bool; 8]
+    ensures { λ r. ⌜ r ≡ eachLine (λ k. isOther line k && getD live k false) ⌝ }
+{
+    [
+        is_open_other(line, 0, live[0]),
+        is_open_other(line, 1, live[1]),
+        is_open_other(line, 2, live[2]),
+        is_open_other(line, 3, live[3]),
+        is_open_other(line, 4, live[4]),
+        is_open_other(line, 5, live[5]),
+        is_open_other(line, 6, live[6]),
+        is_open_other(line, 7, live[7]),
+    ]
+}
+
+// The lines that a query with this life and text goes on to that came by line l (RULES 7.5).
+pub fn going(
+    live: [bool; 8],
+    tables: [Table; 8],
+    room: usize,
+    route: &[u8],
+    l: u32,
+    life: u8,
+    text: &[u8],
+) -> [bool; 8]
+    ensures { λ r. ⌜ r ≡ queryTo life l (λ k. getD live k false) (heldOf tables room (now (route .entry))) (now (text .entry)) ⌝ }
+{
+    if life < 2 {
+        return [false; 8];
+    }
+    passing(open_others(live, l), tables, room, route, text, life - 1)
 }

@@ -1,4 +1,5 @@
--- The lines passed have the flag that the keyword leaves them, the others their own; what is left of the area starts at the next part.
+-- The lines passed have the flag that the keyword leaves them, the others their own; what is left of the area starts at
+-- the next part.
 use Prim.Native.Nat.{_+_, _-_, _*_, _≤_, _<_}
 use mathlib.Core.Path.{_≡_, refl, sym, ap₂, _∙_}
 use mathlib.Core.Bool.{false}
@@ -6,7 +7,7 @@ use mathlib.Core.List.{_++_}
 use native.Mathlib.Nat.{zero-mul}
 use native.Mathlib.Omega.{arith}
 use lib.ListN.{take, drop, set, length-take}
-use Rattle.forwarding.specs.Passing.{leftBy}
+use Rattle.forwarding.specs.Passing.{heldOf, leftBy}
 use Rattle.laws.proofs.Passing.{element-next, element-last}
 use Rattle.forwarding.proofs.LineLaws.{left-length, flag-left, area-next}
 use borrow.Author.Needs.{needs}
@@ -15,7 +16,9 @@ use Rattle.forwarding.proofs.lines.left_by.Tie as tie
 
 abbrev Inv-loop : tie.InvT-loop
 Inv-loop room route ttl hash flags tables left₀ area₀ k₀ left area k =
-    (k ≤ 8) × (area ≡ drop (k * room) route) × (left ≡ take k (leftBy flags tables room route ttl hash) ++ drop k flags)
+    (k ≤ 8)
+    × (area ≡ drop (k * room) route)
+    × (left ≡ take k (leftBy flags (heldOf tables room route) ttl hash) ++ drop k flags)
 
 abbrev μ-loop : tie.MeasureT-loop
 μ-loop room route ttl hash flags tables left₀ area₀ k₀ left area k = 8 - k
@@ -36,7 +39,9 @@ array-copy-out-is-left : tie.Need-array-copy-out-is-left Inv-loop μ-loop
 array-copy-out-is-left c = search needs
 
 slice-aggregate-is-left : tie.Need-slice-aggregate-is-left Inv-loop μ-loop
-slice-aggregate-is-left c = omega (arith, length-take (c .before .before .smaller .result) (c .before .before .before .before .loop .area .now))
+slice-aggregate-is-left c =
+    let n = c .before .before .smaller .result in
+    omega (arith, length-take n (c .before .before .before .before .loop .area .now))
 
 is-left-requires : tie.Need-is-left-requires Inv-loop μ-loop
 is-left-requires c κs = search needs
@@ -66,21 +71,23 @@ loop-again c =
     let n = c .before .before .before .before .smaller in
     let k = l .k in
     let more : k < 8 = omega arith in
-    let eight = left-length (x .t1) (x .t2) (x .room) (x .route .now) (x .ttl) (x .hash) in (
+    let left = leftBy (x .t1) (heldOf (x .t2) (x .room) (x .route .now)) (x .ttl) (x .hash) in
+    let eight = left-length (x .t1) (heldOf (x .t2) (x .room) (x .route .now)) (x .ttl) (x .hash) in
+    let flag =
+    flag-left (x .t1) (x .t2) (x .room) (x .route .now) k (n .result) (l .area .now) more (l .inv .1) (n .ensures) (x .ttl)
+    (x .hash) in (
       omega arith,
-      area-next (x .t1) (x .t2) (x .room) (x .route .now) (x .ttl) (x .hash) k (n .result) (l .area .now) more (l .inv .1) (n .ensures),
-      ap₂ (λ flags v. set flags k v) (l .inv .2)
-          (c .before .is-left .ensures
-          ∙ sym (flag-left (x .t1) (x .t2) (x .room) (x .route .now) (x .ttl) (x .hash) k (n .result) (l .area .now) more (l .inv .1) (n .ensures)))
-          ∙ element-next (leftBy (x .t1) (x .t2) (x .room) (x .route .now) (x .ttl) (x .hash)) (x .t1) k false (omega arith) (omega arith),
+      area-next (x .t1) (x .t2) (x .room) (x .route .now) k (n .result) (l .area .now) more (l .inv .1) (n .ensures),
+      ap₂ (λ flags v. set flags k v) (l .inv .2) (c .before .is-left .ensures ∙ sym flag)
+          ∙ element-next left (x .t1) k false (omega arith) (omega arith),
     )
 
 returns : tie.Need-returns Inv-loop μ-loop
 returns c =
     let x = c .before .before .before .args in
-    let eight = left-length (x .t1) (x .t2) (x .room) (x .route .now) (x .ttl) (x .hash) in
-    c .before .loop .inv .2
-    ∙ element-last (leftBy (x .t1) (x .t2) (x .room) (x .route .now) (x .ttl) (x .hash)) (x .t1) (c .before .loop .k) (omega arith) (omega arith)
+    let left = leftBy (x .t1) (heldOf (x .t2) (x .room) (x .route .now)) (x .ttl) (x .hash) in
+    let eight = left-length (x .t1) (heldOf (x .t2) (x .room) (x .route .now)) (x .ttl) (x .hash) in
+    c .before .loop .inv .2 ∙ element-last left (x .t1) (c .before .loop .k) (omega arith) (omega arith)
 
 pub left-by-spec : {M : Type 1} → statement M
 left-by-spec =

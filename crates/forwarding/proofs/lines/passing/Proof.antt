@@ -2,9 +2,11 @@
 use Prim.Native.Nat.{_-_, _≤_}
 use mathlib.Core.Path.{_≡_, refl, sym, ap, _∙_}
 use native.Mathlib.Omega.{arith}
-use lib.ListN.{length, drop, length-take, length-drop}
+use mathlib.Core.Bool.{false}
+use lib.ListN.{length, getD, drop, length-take, length-drop}
 use Rattle.keywords.proofs.CutLaws.{cut-bounds}
-use Rattle.forwarding.specs.Passing.{passingOf}
+use Rattle.protocol.specs.Queries.{ownTo}
+use Rattle.forwarding.specs.Passing.{heldOf}
 use Rattle.forwarding.proofs.LineLaws.{left-length, passing-on, passing-end}
 use borrow.Author.Needs.{needs}
 use Rattle.forwarding.proofs.lines.passing.Statement.{statement}
@@ -12,7 +14,9 @@ use Rattle.forwarding.proofs.lines.passing.Tie as tie
 
 abbrev Inv-loop : tie.InvT-loop
 Inv-loop tables room route text ttl flags₀ rest₀ flags rest =
-    (length flags ≡ 8) × (passingOf flags tables room route rest ttl ≡ passingOf flags₀ tables room route text ttl)
+    (length flags ≡ 8)
+    × (ownTo ttl (λ k. getD flags k false) (heldOf tables room route) rest
+    ≡ ownTo ttl (λ k. getD flags₀ k false) (heldOf tables room route) text)
 
 abbrev μ-loop : tie.MeasureT-loop
 μ-loop tables room route text ttl flags₀ rest₀ flags rest = length rest
@@ -25,7 +29,8 @@ first-keyword-requires c κs = search needs
 
 -- the keyword at hand lies in what is left of the text
 bounds : (c : tie.After-first-keyword Inv-loop μ-loop)
-    → (c .first-keyword .result .start ≤ c .first-keyword .result .end) × (c .first-keyword .result .end ≤ length (c .before .loop .rest .now))
+    → (c .first-keyword .result .start ≤ c .first-keyword .result .end)
+    × (c .first-keyword .result .end ≤ length (c .before .loop .rest .now))
 bounds c = cut-bounds (c .before .loop .rest .now) (c .first-keyword .result) (c .first-keyword .ensures)
 
 returns : tie.Need-returns Inv-loop μ-loop
@@ -33,7 +38,9 @@ returns c =
     let x = c .before .before .before .before .before .args in
     let l = c .before .before .loop in
     let cut = c .before .first-keyword in
-    sym (passing-end (l .flags) (x .tables) (x .room) (x .route .now) (x .ttl) (l .rest .now) (cut .result) (cut .ensures) (l .inv .0) (c .if1 .taken))
+    sym
+    (passing-end (l .flags) (heldOf (x .tables) (x .room) (x .route .now)) (x .ttl) (l .rest .now) (cut .result)
+    (cut .ensures) (l .inv .0) (c .if1 .taken))
     ∙ l .inv .1
 
 sub-hash : tie.Need-sub-hash Inv-loop μ-loop
@@ -71,10 +78,10 @@ part-rest-end c = search needs
 loop-less : tie.Need-loop-less Inv-loop μ-loop
 loop-less c =
     let rest = c .before .before .before .before .before .before .loop .rest .now in
-    let cut = c .before .before .before .before .before .first-keyword in
+    let end = c .before .before .before .before .before .first-keyword .result .end in
     let h = bounds (c .before .before .before .before .before) in
     let l = c .before .before .before .before .if1 .left in
-    omega (arith, length-take (length rest - cut .result .end) (drop (cut .result .end) rest), length-drop (cut .result .end) rest)
+    omega (arith, length-take (length rest - end) (drop end rest), length-drop end rest)
 
 loop-again : tie.Need-loop-again Inv-loop μ-loop
 loop-again c =
@@ -82,9 +89,11 @@ loop-again c =
     let l = c .before .before .before .before .before .before .loop in
     let cut = c .before .before .before .before .before .first-keyword in
     let number = c .before .before .hash in
-    let left = c .before .left-by in (
-      ap length (left .ensures) ∙ left-length (l .flags) (x .tables) (x .room) (x .route .now) (x .ttl) (number .result),
-      passing-on (l .flags) (x .tables) (x .room) (x .route .now) (x .ttl) (l .rest .now) (cut .result) (cut .ensures) (c .before .before .before .before .if1 .left) (number .result) (number .ensures) (left .result) (left .ensures)
+    let left = c .before .left-by in
+    let held = heldOf (x .tables) (x .room) (x .route .now) in (
+      ap length (left .ensures) ∙ left-length (l .flags) held (x .ttl) (number .result),
+      passing-on (l .flags) held (x .ttl) (l .rest .now) (cut .result) (cut .ensures)
+          (c .before .before .before .before .if1 .left) (number .result) (number .ensures) (left .result) (left .ensures)
           ∙ l .inv .1,
     )
 

@@ -33,24 +33,25 @@ slice-write-out c = search needs
 slice-write-out-2 : tie.Need-slice-write-out-2
 slice-write-out-2 c = simp length-set (omega arith)
 
-sub-copy : tie.Need-sub-copy
-sub-copy c = simp length-set (omega arith)
+sub-copy-onto : tie.Need-sub-copy-onto
+sub-copy-onto c = simp length-set (omega arith)
 
-part-copy-start : tie.Need-part-copy-start
-part-copy-start c = simp length-set (omega arith)
+part-copy-onto-start : tie.Need-part-copy-onto-start
+part-copy-onto-start c = simp length-set (omega arith)
 
-part-copy-end : tie.Need-part-copy-end
-part-copy-end c = search needs
+part-copy-onto-end : tie.Need-part-copy-onto-end
+part-copy-onto-end c = search needs
 
-copy-requires : tie.Need-copy-requires
-copy-requires c κs = simp (length-take, length-drop, length-set) (omega arith)
+copy-onto-requires : tie.Need-copy-onto-requires
+copy-onto-requires c κs = search needs
 
 add-out : tie.Need-add-out
 add-out c = search needs
 
 slice-write-out-3 : tie.Need-slice-write-out-3
 slice-write-out-3 c =
-    let l = c .before .out2 .given .1 ∙ begun-length (c .before .before .before .before .before .before .put-header .last .1 .1 .1 .1 .1 .0) in
+    let headed = c .before .before .before .before .before .before .put-header in
+    let l = c .before .out2 .given .1 ∙ begun-length (headed .last .1 .1 .1 .1 .1 .0) in
     omega arith
 
 add-result : tie.Need-add-result
@@ -58,7 +59,8 @@ add-result c = search needs
 
 same-length : tie.Need-same-length
 same-length c =
-    rw length-set (c .before .out2 .given .1 ∙ begun-length (c .before .before .before .before .before .before .put-header .last .1 .1 .1 .1 .1 .0) ∙ search needs)
+    let headed = c .before .before .before .before .before .before .put-header in
+    rw length-set (c .before .out2 .given .1 ∙ begun-length (headed .last .1 .1 .1 .1 .1 .0) ∙ search needs)
 
 returns-3 : tie.Need-returns-3
 returns-3 c =
@@ -68,7 +70,7 @@ returns-3 c =
       rw fits
           (own-stored (x .number) (x .text .now) (x .out .now) (x .limit) (omega arith) (search needs) _ _
           (c .before .before .before .before .before .before .put-header .ensures)
-          (c .before .before .copy .ensures)),
+          (c .before .before .copy-onto .ensures)),
     )
 
 pub own-query-spec : {M : Type 1} → statement M
@@ -83,10 +85,10 @@ own-query-spec =
     put-header-requires
     slice-write-out
     slice-write-out-2
-    sub-copy
-    part-copy-start
-    part-copy-end
-    copy-requires
+    sub-copy-onto
+    part-copy-onto-start
+    part-copy-onto-end
+    copy-onto-requires
     add-out
     slice-write-out-3
     add-result

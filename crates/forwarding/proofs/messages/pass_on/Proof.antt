@@ -18,13 +18,13 @@ returns-2 c = search (needs, lt-leb, le-leb)
 returns-3 : tie.Need-returns-3
 returns-3 c = search (needs, lt-leb, le-leb)
 
-slice-aggregate-copy : tie.Need-slice-aggregate-copy
-slice-aggregate-copy c =
+slice-aggregate-copy-onto : tie.Need-slice-aggregate-copy-onto
+slice-aggregate-copy-onto c =
     let x = c .before .before .before .before .before .before .args in
     omega (arith, length-take (x .n) (x .m .now))
 
-copy-requires : tie.Need-copy-requires
-copy-requires c κs = simp length-take (omega arith)
+copy-onto-requires : tie.Need-copy-onto-requires
+copy-onto-requires c κs = search needs
 
 slice-write-out : tie.Need-slice-write-out
 slice-write-out c = search needs
@@ -40,7 +40,9 @@ returns-4 c =
     let x = c .before .before .before .before .before .before .before .before .before .before .args in
     let fits : passable (x .m .now) (x .n) (x .out .now) ≡ true = search (needs, le-leb) in (
       rw fits,
-      rw fits (passed-stored (x .m .now) (x .out .now) _ (x .n) (x .ttl) (x .hops) (search needs) (search needs) (c .before .before .copy .ensures)),
+      rw fits
+          (passed-stored (x .m .now) (x .out .now) _ (x .n) (x .ttl) (x .hops) (search needs) (search needs)
+          (search needs) (c .before .before .copy-onto .ensures)),
     )
 
 pub pass-on-spec : {M : Type 1} → statement M
@@ -50,8 +52,8 @@ pass-on-spec =
     returns
     returns-2
     returns-3
-    slice-aggregate-copy
-    copy-requires
+    slice-aggregate-copy-onto
+    copy-onto-requires
     slice-write-out
     slice-write-out-2
     same-length

@@ -23,7 +23,8 @@ shared-slice-read-if1 c = search needs
 
 returns : tie.Need-returns Inv-loop μ-loop
 returns c =
-    let z = ap length (until-here (c .before .before .before .before .args .part .now) (c .before .before .before .loop .i) (search needs) (c .if1 .taken)) in
+    let at = c .before .before .before in
+    let z = ap length (until-here (at .before .args .part .now) (at .loop .i) (search needs) (c .if1 .taken)) in
     omega arith
 
 add-i : tie.Need-add-i Inv-loop μ-loop
@@ -34,13 +35,15 @@ loop-less c = search needs
 
 loop-again : tie.Need-loop-again Inv-loop μ-loop
 loop-again c =
-    let z = ap length (until-on (c .before .before .before .before .args .part .now) (c .before .before .before .loop .i) (search needs) (c .if1 .left)) in
+    let at = c .before .before .before in
+    let z = ap length (until-on (at .before .args .part .now) (at .loop .i) (search needs) (c .if1 .left)) in
     (search needs, omega arith)
 
 returns-2 : tie.Need-returns-2 Inv-loop μ-loop
 unfolding untilZero
 returns-2 c =
-    let h = rw (drop-of-length-le (c .before .before .args .part .now) (c .loop-test .left)) at (c .before .loop .inv .1) in
+    let at = c .before in
+    let h = rw (drop-of-length-le (at .before .args .part .now) (c .loop-test .left)) at (at .loop .inv .1) in
     omega arith
 
 pub until-zero-spec : {M : Type 1} → statement M
