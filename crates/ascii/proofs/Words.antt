@@ -1,4 +1,4 @@
--- Names and blanks in words.
+-- Names, blanks and text in words.
 use mathlib.Core.Path.{_≡_, refl, sym, ap}
 use mathlib.Core.Logic.{_⊎_, inl, inr, ⊎-elim}
 use mathlib.Core.Bool.{Bool, true, false, cond, _&&_, _||_}
@@ -7,10 +7,10 @@ use Prim.Native.Nat.{ℕ, zero, suc, _+_, _≤_, _<_}
 use native.Mathlib.Omega.{arith}
 use lib.Dec.{eqb, leb}
 use lib.ListN.{length, getD}
-use borrow.Author.Tests.{eq-eqb, eqb-true, le-leb, lt-leb, leb-true}
-use Rattle.laws.proofs.Refusals.{clash, and-fst, and-snd, or-split, or-left, or-right}
-use Rattle.ascii.specs.Text.{isBlank, lower, compared, sameName}
-use Rattle.ascii.specs.Words.{TwoCases, SameByte, SameBytes, NamesSame, OthersApart, Blank, BlankExactly}
+use borrow.Author.Tests.{eq-eqb, ne-eqb, eqb-true, eqb-false, le-leb, lt-leb, leb-true, not-true}
+use Rattle.laws.proofs.Refusals.{clash, and-fst, and-snd, or-fst, or-snd, or-split, or-left, or-right}
+use Rattle.ascii.specs.Text.{isBlank, isText, lower, compared, sameName}
+use Rattle.ascii.specs.Words.{TwoCases, SameByte, SameBytes, NamesSame, OthersApart, Blank, BlankExactly, TextExactly}
 
 -- ---- names
 
@@ -91,3 +91,13 @@ not-blank b h = go (isBlank b) refl
     go : (t : Bool) → isBlank b ≡ t → isBlank b ≡ false
     go true e = absurd (h (blank-exactly b .0 e))
     go false e = e
+
+-- ---- text
+
+pub text-exactly : TextExactly
+text-exactly b = (forth, λ h. rw (ne-eqb b 13 (h .0), ne-eqb b 10 (h .1)))
+  where
+    forth : isText b ≡ true → (b ≡ 13 → ⊥) × (b ≡ 10 → ⊥)
+    forth h =
+        let e = not-true (eqb b 13 || eqb b 10) h in
+        (eqb-false b 13 (or-fst (eqb b 13) (eqb b 10) e), eqb-false b 10 (or-snd (eqb b 13) (eqb b 10) e))

@@ -1,12 +1,12 @@
--- Letters and blanks once more, in words over the values of bytes: what is proved of the definitions that contracts cite. A definition
--- that took another byte for a letter or a blank would not have these.
+-- Letters, blanks and text once more, in words over the values of bytes: what is proved of the definitions that contracts cite. A definition
+-- that took another byte for a letter, a blank or the end of a line would not have these.
 use Prim.Native.Nat.{ℕ, _+_, _≤_, _<_}
 use mathlib.Core.Path.{_≡_}
 use mathlib.Core.Logic.{_↔_, _⊎_}
 use mathlib.Core.Bool.{true}
 use mathlib.Core.List.{List, [], _∷_}
 use lib.ListN.{length, getD}
-use Rattle.ascii.specs.Text.{isBlank, lower, sameName}
+use Rattle.ascii.specs.Text.{isBlank, isText, lower, sameName}
 
 -- ---- letters
 
@@ -49,3 +49,9 @@ Blank b = (b ≡ 32) ⊎ (b ≡ 9)
 
 abbrev pub BlankExactly : Type 0
 BlankExactly = (b : ℕ) → (isBlank b ≡ true) ↔ Blank b
+
+-- ---- text
+
+-- a byte of a line: neither CR, byte 13, nor LF, byte 10
+abbrev pub TextExactly : Type 0
+TextExactly = (b : ℕ) → (isText b ≡ true) ↔ ((b ≡ 13 → ⊥) × (b ≡ 10 → ⊥))

@@ -13,12 +13,12 @@ use borrow.Rule.Slice.PartMut.{putMid}
 use Rattle.laws.specs.Parts.{over}
 use Rattle.laws.specs.Text.{codes}
 use Rattle.laws.proofs.Text.{over-append}
-use Rattle.laws.proofs.Over.{over-copied, over-length}
-use Rattle.xtry.specs.Pairs.{comma, space}
+use Rattle.laws.proofs.Over.{over-copied, over-length, over-front}
+use Rattle.xtry.specs.Pairs.{space}
 use Rattle.xtry.specs.Writing.{pairsText, pairsIn, canWrite, led, ledSize, ledOver}
 use Rattle.xtry.specs.declared.Pair.{Pair}
 use Rattle.xtry.specs.declared.Pairs.{Pairs}
-use Rattle.xtry.proofs.Listing.{led-joined, led-size}
+use Rattle.xtry.proofs.Listing.{led-joined}
 use Rattle.handshake.specs.Groups.{crlf, busyLine, tryLine, busyBytes, namedBytes, textAnswer, busyAnswer, wroteOf, areaOf}
 use Rattle.handshake.specs.declared.Wrote.{Wrote}
 
@@ -48,10 +48,6 @@ module _ (text area : List ℕ) where
 abbrev pub namedHead : List ℕ
 namedHead = busyLine ++ (crlf ++ codes "X-Try:")
 
-pub named-size : (ps : List Pair) → length (namedBytes ps) ≡ length (led comma ps) + 33
-unfolding namedBytes
-named-size ps = simp length-append (omega (arith, led-size space comma ps))
-
 -- some pairs
 pub busy-named : (ps : List Pair) → (length ps ≡ 0 → ⊥) → busyBytes ps ≡ namedBytes ps
 unfolding busyBytes tryLine namedBytes
@@ -59,7 +55,7 @@ busy-named [] h = absurd (h refl)
 busy-named (p ∷ ps) h = rw (led-joined space p ps, append-assoc (pairsText (p ∷ ps)) crlf crlf)
 
 -- its three parts, each put where the one before it ends
-module _ (pairs : Pairs) (area first : List ℕ) (room : length (led comma (pairsIn pairs)) + 33 ≤ length area) (f : first ≡ take 29 namedHead ++ drop 29 area) where
+module _ (pairs : Pairs) (area first : List ℕ) (room : 1024 ≤ length area) (f : first ≡ take 29 namedHead ++ drop 29 area) where
   abbrev text : List ℕ
   text = led space (pairsIn pairs)
 
@@ -72,32 +68,40 @@ module _ (pairs : Pairs) (area first : List ℕ) (room : length (led comma (pair
   sized : length first ≡ length area
   sized = ap length first-is ∙ over-length 0 namedHead area (omega arith)
 
-  fits : 29 + length text + 4 ≤ length first
-  fits = omega (arith, sized, led-size space comma (pairsIn pairs))
+  has-room : leb 960 (length part) ≡ true
+  has-room = le-leb 960 (length part) (simp (length-take, length-drop) (omega (arith, sized)))
 
-  has-room : leb (length text) (length part) ≡ true
-  has-room = le-leb (length text) (length part) (simp (length-take, length-drop) (omega (arith, fits)))
+  module _ (n : ℕ) (e : n ≡ ledSize space pairs (length part)) (most : n ≤ 960) where
+    count-is : n ≡ length text
+    count-is = e ∙ rw has-room
 
-  pub busy-count : (n : ℕ) → n ≡ ledSize space pairs (length part) → n ≡ length text
-  busy-count n e = e ∙ rw has-room
-
-  module _ (ys mid : List ℕ) (g : ys ≡ ledOver space pairs part) (h : mid ≡ putMid 29 (length first - 29) first ys) where
-    mid-is : mid ≡ over 29 text first
-    mid-is = h ∙ over-copied 29 text first ys (g ∙ rw has-room (sym (copied text part)))
-
-    pub busy-fits : (n : ℕ) → n ≡ ledSize space pairs (length part) → 29 + n + 4 ≤ length mid
-    busy-fits n e = omega (arith, busy-count n e, ap length mid-is, over-length 29 text first (omega (arith, fits)), fits)
-
-    pub busy-all : (n : ℕ) (zs : List ℕ) → n ≡ ledSize space pairs (length part)
-        → zs ≡ take 4 (crlf ++ crlf) ++ drop 4 (take (length mid - (29 + n)) (drop (29 + n) mid))
-        → putMid (29 + n) (length mid - (29 + n)) mid zs ≡ over 0 (namedBytes (pairsIn pairs)) area
+    pub busy-size : (29 + n + 4 ≡ length (namedBytes (pairsIn pairs))) × (29 + n + 4 ≤ 1024)
     unfolding namedBytes
-    busy-all n zs e k =
-        over-copied (29 + n) (crlf ++ crlf) mid zs k
-        ∙ ap₂ (λ i x. over (29 + i) (crlf ++ crlf) x) (busy-count n e) mid-is
-        ∙ over-append 29 text (crlf ++ crlf) first (omega (arith, fits))
-        ∙ ap (over 29 (text ++ (crlf ++ crlf))) first-is
-        ∙ over-append 0 namedHead (text ++ (crlf ++ crlf)) area (omega arith)
+    busy-size = (simp length-append (omega (arith, count-is)), omega arith)
+
+    module _ (ys mid : List ℕ) (g : ys ≡ ledOver space pairs part) (h : mid ≡ putMid 29 (length first - 29) first ys) where
+      mid-is : mid ≡ over 29 text first
+      mid-is = h ∙ over-copied 29 text first ys (g ∙ rw has-room (sym (copied text part)))
+
+      pub busy-fits : 29 + n + 4 ≤ length mid
+      busy-fits = omega (arith, ap length mid-is, over-length 29 text first (omega (arith, count-is, sized)), sized)
+
+      pub busy-all : (zs : List ℕ) → zs ≡ take 4 (crlf ++ crlf) ++ drop 4 (take (length mid - (29 + n)) (drop (29 + n) mid))
+          → putMid (29 + n) (length mid - (29 + n)) mid zs ≡ over 0 (namedBytes (pairsIn pairs)) area
+      unfolding namedBytes
+      busy-all zs k =
+          over-copied (29 + n) (crlf ++ crlf) mid zs k
+          ∙ ap₂ (λ i x. over (29 + i) (crlf ++ crlf) x) count-is mid-is
+          ∙ over-append 29 text (crlf ++ crlf) first (omega (arith, count-is, sized))
+          ∙ ap (over 29 (text ++ (crlf ++ crlf))) first-is
+          ∙ over-append 0 namedHead (text ++ (crlf ++ crlf)) area (omega arith)
+
+-- the reply at the front of an area, taken alone
+taken-is : (named zeros text : List ℕ) (n : ℕ) → n ≡ length named → text ≡ over 0 named zeros → take n text ≡ named
+taken-is named zeros text n e f = ap₂ take e f ∙ over-front named zeros
+
+pub busy-taken : (named zeros text : List ℕ) (n : ℕ) → n ≡ length named → text ≡ over 0 named zeros → n ≡ length (take n text)
+busy-taken named zeros text n e f = e ∙ sym (ap length (taken-is named zeros text n e f))
 
 -- ---- the answer
 
@@ -111,30 +115,18 @@ module _ (pairs : Pairs) (area : List ℕ) where
   unfolding busyAnswer wroteOf areaOf
   busy-wrong h = (rw h, rw h)
 
-  module _ (can : canWrite pairs ≡ true) where
-    -- no pair
-    pub busy-alone : pairs .count ≡ 0 → (r : Wrote) (after : List ℕ) → Whole (codes "GNUTELLA/0.6 503 Busy\r\n\r\n") area r after → Answers r after
-    unfolding busyAnswer textAnswer busyBytes tryLine
-    busy-alone z r after h =
-        let none : pairsIn pairs ≡ [] = ap (λ n. take n (pairs .pairs)) z in
-        (h .0 ∙ rw (can, none), h .1 ∙ rw (can, none))
+  -- the reply was written as a text is
+  busy-whole : canWrite pairs ≡ true → (text : List ℕ) (r : Wrote) (after : List ℕ) → text ≡ busyBytes (pairsIn pairs) → Whole text area r after → Answers r after
+  unfolding busyAnswer textAnswer
+  busy-whole can text r after e h = (h .0 ∙ rw (can, e), h .1 ∙ rw (can, e))
 
-    module _ (k : length (pairs .pairs) ≡ 32) (some : pairs .count ≡ 0 → ⊥) (size : ℕ) (e : size ≡ length (led comma (pairsIn pairs))) where
-      named : busyBytes (pairsIn pairs) ≡ namedBytes (pairsIn pairs)
-      named = busy-named (pairsIn pairs) (λ z. some (omega (arith, length-take (pairs .count) (pairs .pairs))))
+  pub busy-alone : canWrite pairs ≡ true → pairs .count ≡ 0 → (r : Wrote) (after : List ℕ) → Whole (codes "GNUTELLA/0.6 503 Busy\r\n\r\n") area r after → Answers r after
+  unfolding busyBytes tryLine
+  busy-alone can z r after h =
+      busy-whole can (codes "GNUTELLA/0.6 503 Busy\r\n\r\n") r after (sym (ap (λ n. busyBytes (take n (pairs .pairs))) z)) h
 
-      busy-size : length (busyBytes (pairsIn pairs)) ≡ size + 33
-      busy-size = ap length named ∙ named-size (pairsIn pairs) ∙ ap (λ n. n + 33) (sym e)
-
-      pub busy-short : length area < size + 33 → Answers (record { answer = 2; written = 0 }) area
-      unfolding busyAnswer wroteOf areaOf
-      busy-short l =
-          let s = lt-ltb (length area) (length (busyBytes (pairsIn pairs))) (omega (arith, busy-size)) in
-          (rw (can, s), rw (can, s))
-
-      pub busy-put : (after : List ℕ) → size + 33 ≤ length area → after ≡ over 0 (namedBytes (pairsIn pairs)) area
-          → Answers (record { answer = 0; written = size + 33 }) after
-      unfolding busyAnswer wroteOf areaOf
-      busy-put after l p =
-          let s = le-ltb (length area) (length (busyBytes (pairsIn pairs))) (omega (arith, busy-size)) in
-          (rw (can, s, busy-size), rw (can, s, named) p)
+  pub busy-some : canWrite pairs ≡ true → length (pairs .pairs) ≡ 32 → (pairs .count ≡ 0 → ⊥) → (n : ℕ) (text zeros : List ℕ) (r : Wrote) (after : List ℕ)
+      → n ≡ length (namedBytes (pairsIn pairs)) → text ≡ over 0 (namedBytes (pairsIn pairs)) zeros → Whole (take n text) area r after → Answers r after
+  busy-some can k some n text zeros r after e f h =
+      let named = busy-named (pairsIn pairs) (λ z. some (omega (arith, length-take (pairs .count) (pairs .pairs)))) in
+      busy-whole can (take n text) r after (taken-is (namedBytes (pairsIn pairs)) zeros text n e f ∙ sym named) h

@@ -2,14 +2,12 @@
 use crate::Wrote;
 use xtry::Pairs;
 use xtry::write::can_write;
-use xtry::write::pairs_size;
 use xtry::write::write_pairs;
 ghost use mathlib.Core.Path.{_≡_};
-ghost use Prim.Native.Nat.{_+_, _≤_};
+ghost use Prim.Native.Nat.{_≤_};
 ghost use lib.ListN.{length};
 ghost use Rattle.laws.specs.Parts.{over};
-ghost use Rattle.xtry.specs.Pairs.{comma};
-ghost use Rattle.xtry.specs.Writing.{pairsIn, led};
+ghost use Rattle.xtry.specs.Writing.{pairsIn};
 ghost use Rattle.handshake.specs.Groups.{greetingBytes, okBytes, busyBytes, namedBytes, textAnswer, busyAnswer, wroteOf, areaOf};
 
 // A text that is written whole, or not at all.
@@ -43,15 +41,17 @@ pub fn write_ok(out: &mut [u8]) -> Wrote
     put_whole(b"GNUTELLA/0.6 200 OK\r\n\r\n", out)
 }
 
-// The reply that names these pairs, of which there are some, in an area that has room for it.
-fn put_busy(pairs: Pairs, out: &mut [u8])
-    requires { ⌜ length (led comma (pairsIn pairs)) + 33 ≤ length (now out) ⌝ }
+// The reply that names these pairs, of which there are some, at the front of an area that has room for the longest one.
+fn put_busy(pairs: Pairs, out: &mut [u8]) -> usize
+    requires { ⌜ 1024 ≤ length (now out) ⌝ }
+    ensures { λ r. ⌜ (r ≡ length (namedBytes (pairsIn pairs))) × (r ≤ 1024) ⌝ }
     ensures { λ r. ⌜ now (out .exit) ≡ over 0 (namedBytes (pairsIn pairs)) (now (out .entry)) ⌝ }
 {
     bytes::copy(b"GNUTELLA/0.6 503 Busy\r\nX-Try:", &mut *out);
     let n = write_pairs(pairs, b' ', &mut out[29..]);
     let end = 29 + n;
     bytes::copy(b"\r\n\r\n", &mut out[end..]);
+    end + 4
 }
 
 // The reply that refuses a connection, with hosts to try instead.
@@ -68,16 +68,7 @@ pub fn write_busy(pairs: Pairs, out: &mut [u8]) -> Wrote
     if pairs.count == 0 {
         return put_whole(b"GNUTELLA/0.6 503 Busy\r\n\r\n", out);
     }
-    let size = pairs_size(pairs) + 33;
-    if out.len() < size {
-        return Wrote {
-            answer: 2,
-            written: 0,
-        };
-    }
-    put_busy(pairs, out);
-    Wrote {
-        answer: 0,
-        written: size,
-    }
+    let mut text = [0u8; 1024];
+    let n = put_busy(pairs, &mut text);
+    put_whole(&text[..n], out)
 }

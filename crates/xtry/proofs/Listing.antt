@@ -26,12 +26,6 @@ unfolding led pairsText
 led-joined s p [] = ap (λ x. s ∷ x) (append-nil (pairText p))
 led-joined s p (q ∷ qs) = ap (λ x. s ∷ (pairText p ++ x)) (led-joined comma q qs)
 
--- which byte it is does not count for their length
-pub led-size : (s t : ℕ) (ps : List Pair) → length (led s ps) ≡ length (led t ps)
-unfolding led
-led-size s t [] = refl
-led-size s t (p ∷ ps) = refl
-
 pub can-few : (pairs : Pairs) → canWrite pairs ≡ true → pairs .count ≤ 32
 unfolding canWrite
 can-few pairs h = leb-true (pairs .count) 32 (and-fst (leb (pairs .count) 32) (all hasPort (pairsIn pairs)) h)
@@ -47,24 +41,16 @@ pub record Ported (pairs : Pairs) (n i : ℕ) : Type 0 where
   pub within : i ≤ n
   pub ports : all hasPort (pairsIn pairs) ≡ all hasPort (drop i (pairsIn pairs))
 
--- they have so many bytes
-pub record Sized (pairs : Pairs) (n i size : ℕ) : Type 0 where
-  pub within : i ≤ n
-  pub small : size ≤ 30 * i
-  pub left : size + length (led comma (drop i (pairsIn pairs))) ≡ length (led comma (pairsIn pairs))
-
-pub sized-start : (pairs : Pairs) (n : ℕ) → Sized pairs n 0 0
-sized-start pairs n = record { within = omega arith; small = omega arith; left = omega arith }
-
 -- they are written, the first behind s, up to place `to`, and the next one stands behind `lead`
 pub record Listing (pairs : Pairs) (s : ℕ) (before : List ℕ) (n : ℕ) (area : List ℕ) (to lead i : ℕ) : Type 0 where
   pub within : i ≤ n
+  pub small : to ≤ 30 * i
   pub size : length area ≡ length before
   pub place : to + length (led lead (drop i (pairsIn pairs))) ≡ length (led s (pairsIn pairs))
   pub left : over to (led lead (drop i (pairsIn pairs))) area ≡ over 0 (led s (pairsIn pairs)) before
 
 pub listing-start : (pairs : Pairs) (s : ℕ) (area : List ℕ) (n : ℕ) → Listing pairs s area n area 0 s 0
-listing-start pairs s area n = record { within = omega arith; size = refl; place = omega arith; left = refl }
+listing-start pairs s area n = record { within = omega arith; small = omega arith; size = refl; place = omega arith; left = refl }
 
 -- ---- a turn: n pairs are in use
 
@@ -101,29 +87,18 @@ module _ (pairs : Pairs) (n : ℕ) (k : length (pairs .pairs) ≡ 32) (e : n ≡
             ports = p .ports ∙ rw (next-pair i d h, ne-eqb (getD (pairs .pairs) i d .port) 0 z);
           }
 
-  module _ (i size : ℕ) (s : Sized pairs n i size) where
-    pub sized-end : n ≤ i → (size ≡ length (led comma (pairsIn pairs))) × (size ≤ 960)
-    unfolding led
-    sized-end h =
-        let z : length (led comma (drop i (pairsIn pairs))) ≡ 0 = ap (λ x. length (led comma x)) (no-more i h) in
-        (omega (arith, s .left), omega (arith, s .small, s .within))
-
-    pub sized-on : (d : Pair) (m : ℕ) → i < n → m ≡ length (pairText (getD (pairs .pairs) i d)) → m ≤ 29 → Sized pairs n (i + 1) (size + m + 1)
-    unfolding led
-    sized-on d m h f b =
-        let g = ap (λ x. length (led comma x)) (next-pair i d h) in
-        let l = length-append (pairText (getD (pairs .pairs) i d)) (led comma (drop (i + 1) (pairsIn pairs))) in
-        record { within = omega arith; small = omega (arith, s .small); left = omega (arith, s .left) }
-
-  module _ (s : ℕ) (before area : List ℕ) (to lead i : ℕ) (l : Listing pairs s before n area to lead i) (room : length (led s (pairsIn pairs)) ≤ length before) where
-    pub listing-end : n ≤ i → Put 0 (led s (pairsIn pairs)) before area to
+  module _ (s : ℕ) (before area : List ℕ) (to lead i : ℕ) (l : Listing pairs s before n area to lead i) (room : 960 ≤ length before) where
+    pub listing-end : n ≤ i → (to ≡ ledSize s pairs (length before)) × ((area ≡ ledOver s pairs before) × (to ≤ 960))
     unfolding led
     listing-end h =
         let z : led lead (drop i (pairsIn pairs)) ≡ [] = ap (led lead) (no-more i h) in
-        record {
-          written = sym (over-none to area) ∙ ap (λ x. over to x area) (sym z) ∙ l .left;
-          moved = omega (arith, ap length z, l .place);
-        }
+        let most = le-leb 960 (length before) room in
+        let written = sym (over-none to area) ∙ ap (λ x. over to x area) (sym z) ∙ l .left in
+        (rw most (omega (arith, ap length z, l .place)), (rw most written, omega (arith, l .small, l .within)))
+
+    -- the next pair has room
+    pub listing-room : i < n → to + 30 ≤ length area
+    listing-room h = omega (arith, l .small, l .size)
 
     module _ (d : Pair) (h : i < n) where
       abbrev text : List ℕ
@@ -136,37 +111,22 @@ module _ (pairs : Pairs) (n : ℕ) (k : length (pairs .pairs) ≡ 32) (e : n ≡
       unfolding led
       more = rw (next-pair i d h)
 
-      pub listing-room : to + length text ≤ length area
-      listing-room = omega (arith, l .place, l .size, ap length more, length-append text rest)
-
-      pub listing-on : (after : List ℕ) (next : ℕ) → length after ≡ length area → Put to text area after next → Listing pairs s before n after next 44 (i + 1)
-      listing-on after next z p =
+      pub listing-on : (after : List ℕ) (next : ℕ) → length after ≡ length area → Put to text area after next → next ≤ to + 30
+          → Listing pairs s before n after next 44 (i + 1)
+      listing-on after next z p b =
           record {
             within = omega arith;
+            small = omega (arith, l .small);
             size = z ∙ l .size;
             place = omega (arith, p .moved, l .place, ap length more, length-append text rest);
             left =
                 ap (λ m. over m rest after) (p .moved)
                 ∙ ap (λ a. over (to + length text) rest a) (p .written)
-                ∙ over-append to text rest area listing-room
+                ∙ over-append to text rest area (omega (arith, listing-room h, p .moved))
                 ∙ ap (λ x. over to x area) (sym more)
                 ∙ l .left;
           }
 
--- ---- all of them, or none
-
-module _ (pairs : Pairs) (s : ℕ) (area : List ℕ) (size : ℕ) (e : size ≡ length (led comma (pairsIn pairs))) where
-  pub led-short : length area < size → (0 ≡ ledSize s pairs (length area)) × (area ≡ ledOver s pairs area)
-  led-short h =
-      let f = lt-leb (length (led s (pairsIn pairs))) (length area) (omega (arith, led-size s comma (pairsIn pairs))) in
-      (rw f, rw f)
-
-  pub led-room : size ≤ length area → length (led s (pairsIn pairs)) ≤ length area
-  led-room h = omega (arith, led-size s comma (pairsIn pairs))
-
-  pub led-put : (after : List ℕ) (n : ℕ) → size ≤ length area → Put 0 (led s (pairsIn pairs)) area after n
-      → (n ≡ ledSize s pairs (length area)) × (after ≡ ledOver s pairs area)
-  led-put after n h p =
-      let f = le-leb (length (led s (pairsIn pairs))) (length area) (led-room h) in
-      let m : n ≡ length (led s (pairsIn pairs)) = omega (arith, p .moved) in
-      (rw f m, rw f (p .written))
+-- no room
+pub led-none : (pairs : Pairs) (s : ℕ) (area : List ℕ) → length area < 960 → (0 ≡ ledSize s pairs (length area)) × ((area ≡ ledOver s pairs area) × (0 ≤ 960))
+led-none pairs s area h = let f = lt-leb 960 (length area) h in (rw f, (rw f, omega arith))

@@ -58,16 +58,14 @@ module _ (lead : ℕ) (p : Pair) where
   pair-size = omega (arith, simp length-append at (ap length pair-text))
 
   -- its five numbers, each put where the one before it ends
-  pub pair-put : (at : ℕ) (a₀ a₁ a₂ a₃ a₄ a₅ : List ℕ) (i j k l n : ℕ) → at + suc (length (pairText p)) ≤ length a₀ → Put at (lead ∷ octetText 0) a₀ a₁ i → Put i (dot ∷ octetText 1) a₁ a₂ j → Put j (dot ∷ octetText 2) a₂ a₃ k → Put k (dot ∷ octetText 3) a₃ a₄ l → Put l (colon ∷ decimal (p .port)) a₄ a₅ n → Put at (lead ∷ pairText p) a₀ a₅ n
-  pair-put at a₀ a₁ a₂ a₃ a₄ a₅ i j k l n room p₁ p₂ p₃ p₄ p₅ =
+  pub pair-put : (at : ℕ) (a₀ a₁ a₂ a₃ a₄ a₅ : List ℕ) (i j k l n : ℕ) → at + 30 ≤ length a₀ → Put at (lead ∷ octetText 0) a₀ a₁ i → i ≤ at + 6
+      → Put i (dot ∷ octetText 1) a₁ a₂ j → j ≤ i + 6 → Put j (dot ∷ octetText 2) a₂ a₃ k → k ≤ j + 6 → Put k (dot ∷ octetText 3) a₃ a₄ l → l ≤ k + 6
+      → Put l (colon ∷ decimal (p .port)) a₄ a₅ n → Put at (lead ∷ pairText p) a₀ a₅ n
+  pair-put at a₀ a₁ a₂ a₃ a₄ a₅ i j k l n room p₁ b₁ p₂ b₂ p₃ b₃ p₄ b₄ p₅ =
       let x₂ = (lead ∷ octetText 0) ++ (dot ∷ octetText 1) in
       let x₃ = x₂ ++ (dot ∷ octetText 2) in
       let x₄ = x₃ ++ (dot ∷ octetText 3) in
-      let m₁ = p₁ .moved in
-      let m₂ = p₂ .moved in
-      let m₃ = p₃ .moved in
-      let m₄ = p₄ .moved in
-      let q₂ : Put at x₂ a₀ a₂ j = put-then at (lead ∷ octetText 0) (dot ∷ octetText 1) a₀ a₁ a₂ i j p₁ p₂ (omega (arith, pair-size)) in
-      let q₃ : Put at x₃ a₀ a₃ k = put-then at x₂ (dot ∷ octetText 2) a₀ a₂ a₃ j k q₂ p₃ (omega (arith, pair-size)) in
-      let q₄ : Put at x₄ a₀ a₄ l = put-then at x₃ (dot ∷ octetText 3) a₀ a₃ a₄ k l q₃ p₄ (omega (arith, pair-size)) in
-      rw (← pair-text) (put-then at x₄ (colon ∷ decimal (p .port)) a₀ a₄ a₅ l n q₄ p₅ (omega (arith, pair-size)))
+      let q₂ : Put at x₂ a₀ a₂ j = put-then at (lead ∷ octetText 0) (dot ∷ octetText 1) a₀ a₁ a₂ i j p₁ p₂ (omega arith) in
+      let q₃ : Put at x₃ a₀ a₃ k = put-then at x₂ (dot ∷ octetText 2) a₀ a₂ a₃ j k q₂ p₃ (omega arith) in
+      let q₄ : Put at x₄ a₀ a₄ l = put-then at x₃ (dot ∷ octetText 3) a₀ a₃ a₄ k l q₃ p₄ (omega arith) in
+      rw (← pair-text) (put-then at x₄ (colon ∷ decimal (p .port)) a₀ a₄ a₅ l n q₄ p₅ (omega arith))

@@ -47,17 +47,13 @@ unfoldable pub led : ℕ → List Pair → List ℕ
 led s [] = []
 led s (p ∷ ps) = s ∷ (pairText p ++ led comma ps)
 
--- the pairs behind the byte s have room in an area of so many bytes
-abbrev pub hasRoom : ℕ → Pairs → ℕ → Bool
-hasRoom s pairs room = leb (length (led s (pairsIn pairs))) room
-
--- how many bytes were written: none where there is no room
+-- how many bytes of the pairs behind s were written: none where the area has not room for the most that pairs can take
 abbrev pub ledSize : ℕ → Pairs → ℕ → ℕ
-ledSize s pairs room = cond (hasRoom s pairs room) (length (led s (pairsIn pairs))) 0
+ledSize s pairs room = cond (leb 960 room) (length (led s (pairsIn pairs))) 0
 
--- the area afterwards: the pairs behind s at its front, and as it was where they have no room
+-- the area afterwards: the pairs behind s at its front, or as it was
 abbrev pub ledOver : ℕ → Pairs → List ℕ → List ℕ
-ledOver s pairs area = cond (hasRoom s pairs (length area)) (over 0 (led s (pairsIn pairs)) area) area
+ledOver s pairs area = cond (leb 960 (length area)) (over 0 (led s (pairsIn pairs)) area) area
 
 -- a text was put over an area at a place, and the next place is past it
 pub record Put (at : ℕ) (text area after : List ℕ) (next : ℕ) : Type 0 where

@@ -6,13 +6,16 @@ ghost use mathlib.Core.List.{_∷_};
 ghost use Prim.Native.Nat.{_+_, _≤_, min};
 ghost use lib.ListN.{length};
 ghost use Rattle.digits.specs.Decimal.{decimal};
-ghost use Rattle.xtry.specs.Pairs.{comma};
-ghost use Rattle.xtry.specs.Writing.{pairText, pairsIn, canWrite, led, ledSize, ledOver, Put};
+ghost use Rattle.xtry.specs.Writing.{pairText, canWrite, ledSize, ledOver, Put};
+
+// The most bytes that 32 pairs take, each with a byte in front of it: five numbers of at most five digits, and five bytes between them.
+pub const MOST: usize = 960;
 
 // The byte `lead` and a number in decimal.
 fn put_number(out: &mut [u8], at: usize, lead: u8, n: u16) -> usize
-    requires { ⌜ at + length (lead ∷ decimal n) ≤ length (now out) ⌝ }
+    requires { ⌜ at + 6 ≤ length (now out) ⌝ }
     ensures { λ r. ⌜ Put at (lead ∷ decimal n) (now (out .entry)) (now (out .exit)) r ⌝ }
+    ensures { λ r. ⌜ r ≤ at + 6 ⌝ }
 {
     let digits = digits::spell(n);
     let size = digits.size;
@@ -25,16 +28,18 @@ fn put_number(out: &mut [u8], at: usize, lead: u8, n: u16) -> usize
 
 // The byte `lead` and an octet in decimal.
 fn put_octet(out: &mut [u8], at: usize, lead: u8, b: u8) -> usize
-    requires { ⌜ at + length (lead ∷ decimal b) ≤ length (now out) ⌝ }
+    requires { ⌜ at + 6 ≤ length (now out) ⌝ }
     ensures { λ r. ⌜ Put at (lead ∷ decimal b) (now (out .entry)) (now (out .exit)) r ⌝ }
+    ensures { λ r. ⌜ r ≤ at + 6 ⌝ }
 {
     put_number(out, at, lead, b as u16)
 }
 
 // The byte `lead` and a pair.
 fn put_pair(out: &mut [u8], at: usize, lead: u8, p: Pair) -> usize
-    requires { ⌜ at + length (lead ∷ pairText p) ≤ length (now out) ⌝ }
+    requires { ⌜ at + 30 ≤ length (now out) ⌝ }
     ensures { λ r. ⌜ Put at (lead ∷ pairText p) (now (out .entry)) (now (out .exit)) r ⌝ }
+    ensures { λ r. ⌜ r ≤ at + 30 ⌝ }
 {
     let a = p.address;
     let i = put_octet(out, at, lead, a[0]);
@@ -42,44 +47,6 @@ fn put_pair(out: &mut [u8], at: usize, lead: u8, p: Pair) -> usize
     let k = put_octet(out, j, b'.', a[2]);
     let l = put_octet(out, k, b'.', a[3]);
     put_number(out, l, b':', p.port)
-}
-
-fn octet_digits(b: u8) -> usize
-    ensures { λ r. ⌜ (r ≡ length (decimal b)) × (r ≤ 5) ⌝ }
-{
-    digits::size(b as u16)
-}
-
-// How long a pair is in text.
-fn pair_size(p: Pair) -> usize
-    ensures { λ r. ⌜ (r ≡ length (pairText p)) × (r ≤ 29) ⌝ }
-{
-    let a = p.address;
-    let first = octet_digits(a[0]) + octet_digits(a[1]);
-    let last = octet_digits(a[2]) + octet_digits(a[3]);
-    first + last + digits::size(p.port) + 4
-}
-
-// How many pairs are in use.
-fn used(count: usize) -> usize
-    ensures { λ r. ⌜ r ≡ min count 32 ⌝ }
-{
-    if count < 32 { count } else { 32 }
-}
-
-// How long the pairs are in text, each with a byte in front of it.
-pub fn pairs_size(pairs: Pairs) -> usize
-    ensures { λ r. ⌜ (r ≡ length (led comma (pairsIn pairs))) × (r ≤ 960) ⌝ }
-{
-    let n = used(pairs.count);
-    let mut size: usize = 0;
-    let mut i: usize = 0;
-    while i < n {
-        let p = pairs.pairs[i];
-        size = size + pair_size(p) + 1;
-        i += 1;
-    }
-    size
 }
 
 // At most 32 pairs, and each has a port.
@@ -101,11 +68,23 @@ pub fn can_write(pairs: Pairs) -> bool
     true
 }
 
-// The pairs at the front of an area that has room for them, the first behind `first` and the others behind a comma.
-fn put_pairs(out: &mut [u8], first: u8, pairs: Pairs) -> usize
-    requires { ⌜ length (led first (pairsIn pairs)) ≤ length (now out) ⌝ }
-    ensures { λ r. ⌜ Put 0 (led first (pairsIn pairs)) (now (out .entry)) (now (out .exit)) r ⌝ }
+// How many pairs are in use.
+fn used(count: usize) -> usize
+    ensures { λ r. ⌜ r ≡ min count 32 ⌝ }
 {
+    if count < 32 { count } else { 32 }
+}
+
+// The pairs at the front of an area, the first behind `first` and the others behind a comma. Answers how many bytes it wrote: none where
+// the area has not room for the most that pairs can take.
+pub fn write_pairs(pairs: Pairs, first: u8, out: &mut [u8]) -> usize
+    ensures { λ r. ⌜ r ≡ ledSize first pairs (length (now (out .entry))) ⌝ }
+    ensures { λ r. ⌜ now (out .exit) ≡ ledOver first pairs (now (out .entry)) ⌝ }
+    ensures { λ r. ⌜ r ≤ 960 ⌝ }
+{
+    if out.len() < MOST {
+        return 0;
+    }
     let n = used(pairs.count);
     let mut to: usize = 0;
     let mut lead = first;
@@ -117,16 +96,4 @@ fn put_pairs(out: &mut [u8], first: u8, pairs: Pairs) -> usize
         i += 1;
     }
     to
-}
-
-// The pairs at the front of an area, the first behind `first` and the others behind a comma. Answers how many bytes it wrote: none where
-// there is no room for all.
-pub fn write_pairs(pairs: Pairs, first: u8, out: &mut [u8]) -> usize
-    ensures { λ r. ⌜ r ≡ ledSize first pairs (length (now (out .entry))) ⌝ }
-    ensures { λ r. ⌜ now (out .exit) ≡ ledOver first pairs (now (out .entry)) ⌝ }
-{
-    if out.len() < pairs_size(pairs) {
-        return 0;
-    }
-    put_pairs(out, first, pairs)
 }

@@ -1,7 +1,5 @@
 use mathlib.Core.Path.{refl}
-use native.Mathlib.Omega.{arith}
-use lib.ListN.{length-take, length-drop}
-use Rattle.handshake.proofs.Busy.{busy-fits, busy-all}
+use Rattle.handshake.proofs.Busy.{busy-size, busy-all}
 use borrow.Author.Needs.{needs}
 use Rattle.handshake.proofs.write.put_busy.Statement.{statement}
 use Rattle.handshake.proofs.write.put_busy.Tie as tie
@@ -25,54 +23,40 @@ write-pairs-requires : tie.Need-write-pairs-requires
 write-pairs-requires c κs = search needs
 
 add-end : tie.Need-add-end
-add-end c =
-    let w = c .before .before in
-    let f = w .before .before .before .before in
-    let start = f .before .before .before .before in
-    let x = start .args in
-    omega (arith, busy-fits (x .pairs) (x .out .now) (f .copy .last .1 .0) (start .pre) (f .copy .ensures .1) _ _ (w .write-pairs .ensures .1) refl (w .write-pairs .result) (w .write-pairs .ensures .0))
+add-end c = search needs
 
 slice-aggregate-copy-2 : tie.Need-slice-aggregate-copy-2
 slice-aggregate-copy-2 c = search needs
 
 sub-copy : tie.Need-sub-copy
-sub-copy c =
-    let w = c .before .before .before in
-    let f = w .before .before .before .before in
-    let start = f .before .before .before .before in
-    let x = start .args in
-    omega (arith, busy-fits (x .pairs) (x .out .now) (f .copy .last .1 .0) (start .pre) (f .copy .ensures .1) _ _ (w .write-pairs .ensures .1) refl (w .write-pairs .result) (w .write-pairs .ensures .0))
+sub-copy c = search needs
 
 part-copy-start : tie.Need-part-copy-start
-part-copy-start c =
-    let w = c .before .before .before in
-    let f = w .before .before .before .before in
-    let start = f .before .before .before .before in
-    let x = start .args in
-    omega (arith, busy-fits (x .pairs) (x .out .now) (f .copy .last .1 .0) (start .pre) (f .copy .ensures .1) _ _ (w .write-pairs .ensures .1) refl (w .write-pairs .result) (w .write-pairs .ensures .0))
+part-copy-start c = search needs
 
 part-copy-end : tie.Need-part-copy-end
 part-copy-end c = search needs
 
 copy-requires-2 : tie.Need-copy-requires-2
-copy-requires-2 c κs =
-    let w = c .before .before .before .before in
-    let f = w .before .before .before .before in
-    let start = f .before .before .before .before in
-    let x = start .args in
-    simp (length-take, length-drop) (omega (arith, busy-fits (x .pairs) (x .out .now) (f .copy .last .1 .0) (start .pre) (f .copy .ensures .1) _ _ (w .write-pairs .ensures .1) refl (w .write-pairs .result) (w .write-pairs .ensures .0)))
+copy-requires-2 c κs = search needs
+
+add-result : tie.Need-add-result
+add-result c = search needs
 
 same-length : tie.Need-same-length
 same-length c = search needs
 
 returns : tie.Need-returns
 returns c =
-    let w = c .before .before .before .before .before .before .before in
+    let q = c .before .before .before in
+    let w = q .before .before .before .before in
+    let r = w .write-pairs in
     let f = w .before .before .before .before in
     let start = f .before .before .before .before in
-    let x = start .args in
-    busy-all (x .pairs) (x .out .now) (f .copy .last .1 .0) (start .pre) (f .copy .ensures .1) _ _ (w .write-pairs .ensures .1) refl
-    (w .write-pairs .result) _ (w .write-pairs .ensures .0) (c .before .before .copy2 .ensures .1)
+    let x = start .args in (
+      busy-size (x .pairs) (x .out .now) (f .copy .last .1 .0) (start .pre) (f .copy .ensures .1) (r .result) (r .ensures .0) (r .ensures .1 .1),
+      busy-all (x .pairs) (x .out .now) (f .copy .last .1 .0) (start .pre) (f .copy .ensures .1) (r .result) (r .ensures .0) (r .ensures .1 .1) _ _ (r .ensures .1 .0) refl _ (c .before .before .copy2 .ensures .1),
+    )
 
 pub put-busy-spec : {M : Type 1} → statement M
 put-busy-spec =
@@ -90,5 +74,6 @@ put-busy-spec =
     part-copy-start
     part-copy-end
     copy-requires-2
+    add-result
     same-length
     returns)

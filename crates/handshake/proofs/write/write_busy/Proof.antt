@@ -1,7 +1,9 @@
 use mathlib.Core.Path.{_≡_, sym, _∙_}
-use lib.ListN.{length, length-map}
+use lib.ListN.{length, length-map, replicate}
 use borrow.Author.Tests.{not-true, not-false}
-use Rattle.handshake.proofs.Busy.{busy-wrong, busy-alone, busy-short, busy-put}
+use Rattle.xtry.specs.Writing.{pairsIn}
+use Rattle.handshake.specs.Groups.{namedBytes}
+use Rattle.handshake.proofs.Busy.{busy-wrong, busy-alone, busy-taken, busy-some}
 use borrow.Author.Needs.{needs}
 use Rattle.handshake.proofs.write.write_busy.Statement.{statement}
 use Rattle.handshake.proofs.write.write_busy.Tie as tie
@@ -28,38 +30,39 @@ returns-2 c =
     let x = e .before .before .before .args in
     busy-alone (x .pairs) (x .out .now) (sym (e .before .can-write .ensures) ∙ not-false _ (e .if1 .left)) (i .if2 .taken) _ _ (c .before .before .put-whole .ensures)
 
-pairs-size-requires : tie.Need-pairs-size-requires
-pairs-size-requires c κs = search needs
-
-add-size : tie.Need-add-size
-add-size c = search needs
-
-returns-3 : tie.Need-returns-3
-returns-3 c =
-    let i = c .before .before in
-    let e = i .before .before in
-    let start = e .before .before .before in
-    let x = start .args in
-    let k : length (x .pairs .pairs) ≡ 32 = sym (length-map (x .pairs .pairs) _) ∙ (start .good .0 .1 .1 .1 .0 .1 .0 .1) in
-    busy-short (x .pairs) (x .out .now) (sym (e .before .can-write .ensures) ∙ not-false _ (e .if1 .left)) k (i .if2 .left)
-    (c .before .pairs-size .result) (c .before .pairs-size .ensures .0) (c .if3 .taken)
+slice-aggregate-put-busy : tie.Need-slice-aggregate-put-busy
+slice-aggregate-put-busy c = search needs
 
 put-busy-requires : tie.Need-put-busy-requires
 put-busy-requires c κs = search needs
 
+array-share-prefix-text : tie.Need-array-share-prefix-text
+array-share-prefix-text c = search needs
+
+slice-aggregate-put-whole-2 : tie.Need-slice-aggregate-put-whole-2
+slice-aggregate-put-whole-2 c =
+    let p = c .before .before in
+    let e = p .before .before .before .before in
+    let b = p .put-busy in
+    busy-taken (namedBytes (pairsIn (e .before .before .before .args .pairs))) (replicate 1024 0) (b .last .1 .0) (b .result) (b .ensures .0 .0) (b .ensures .1)
+
+put-whole-requires-2 : tie.Need-put-whole-requires-2
+put-whole-requires-2 c κs = search needs
+
 same-length-2 : tie.Need-same-length-2
 same-length-2 c = search needs
 
-returns-4 : tie.Need-returns-4
-returns-4 c =
-    let p = c .before .before .before .before .before in
-    let i = p .before in
+returns-3 : tie.Need-returns-3
+returns-3 c =
+    let q = c .before .before .before in
+    let p = q .before .before .before in
+    let i = p .before .before in
     let e = i .before .before in
     let start = e .before .before .before in
     let x = start .args in
     let k : length (x .pairs .pairs) ≡ 32 = sym (length-map (x .pairs .pairs) _) ∙ (start .good .0 .1 .1 .1 .0 .1 .0 .1) in
-    busy-put (x .pairs) (x .out .now) (sym (e .before .can-write .ensures) ∙ not-false _ (e .if1 .left)) k (i .if2 .left)
-    (p .pairs-size .result) (p .pairs-size .ensures .0) _ (search needs) (c .before .before .put-busy .ensures)
+    busy-some (x .pairs) (x .out .now) (sym (e .before .can-write .ensures) ∙ not-false _ (e .if1 .left)) k (i .if2 .left)
+    (p .put-busy .result) (p .put-busy .last .1 .0) _ _ _ (p .put-busy .ensures .0 .0) (p .put-busy .ensures .1) (c .before .before .put-whole2 .ensures)
 
 pub write-busy-spec : {M : Type 1} → statement M
 write-busy-spec =
@@ -71,9 +74,10 @@ write-busy-spec =
     put-whole-requires
     same-length
     returns-2
-    pairs-size-requires
-    add-size
-    returns-3
+    slice-aggregate-put-busy
     put-busy-requires
+    array-share-prefix-text
+    slice-aggregate-put-whole-2
+    put-whole-requires-2
     same-length-2
-    returns-4)
+    returns-3)

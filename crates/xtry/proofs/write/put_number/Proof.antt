@@ -1,10 +1,10 @@
 -- The digits are the front of what is spelled, and stand behind the byte that leads them.
 use native.Mathlib.Omega.{arith}
-use mathlib.Core.Path.{_≡_, sym, ap, _∙_}
+use mathlib.Core.Path.{_≡_, sym, _∙_}
 use Prim.Native.Nat.{_+_, _-_, _≤_}
 use lib.ListN.{length, take, drop, set, length-set, length-take, length-drop}
 use borrow.Author.Needs.{needs}
-use Rattle.digits.proofs.Spelling.{spelled, spelled-size, spelled-room}
+use Rattle.digits.proofs.Spelling.{spelled-size, spelled-room}
 use Rattle.xtry.proofs.Putting.{put-led}
 use Rattle.xtry.proofs.write.put_number.Statement.{statement}
 use Rattle.xtry.proofs.write.put_number.Tie as tie
@@ -44,7 +44,7 @@ copy-requires c κs =
     let area = set (x .out .now) (x .at) (x .lead) in
     let d = at-spell .spell .result in
     let lent : length (take (length area - (x .at + 1)) (drop (x .at + 1) area)) ≡ length (x .out .now) - (x .at + 1) = simp (length-take, length-drop, length-set) (omega arith) in
-    let fits : length (take (d .size) (d .bytes)) ≤ length (take (length area - (x .at + 1)) (drop (x .at + 1) area)) = omega (arith, lent, ap length (spelled (x .n) e), start .pre) in
+    let fits : length (take (d .size) (d .bytes)) ≤ length (take (length area - (x .at + 1)) (drop (x .at + 1) area)) = omega (arith, lent, spelled-size (x .n) e, at-spell .spell .ensures .1, start .pre) in
     fits
 
 add-result : tie.Need-add-result
@@ -61,8 +61,10 @@ returns c =
     let at-spell = c .before .before .before .before .before .before in
     let start = at-spell .before .before in
     let x = start .args in
-    put-led (x .n) (x .at) (x .lead) (at-spell .spell .result) (x .out .now) _ (at-spell .spell .ensures .0) (omega (arith, start .pre))
-    (c .before .before .copy .ensures .1)
+    let e = at-spell .spell .ensures in (
+      put-led (x .n) (x .at) (x .lead) (at-spell .spell .result) (x .out .now) _ (e .0) (omega (arith, start .pre)) (c .before .before .copy .ensures .1),
+      omega (arith, e .1),
+    )
 
 pub put-number-spec : {M : Type 1} → statement M
 put-number-spec =
