@@ -14,7 +14,8 @@
 //! - Askers: those that are known are counted. There each is held against every closed line.
 //! - PATCH: added at once, with a note of the least and the greatest sum, and undone if one is outside. There every number is tried, in blocks at
 //!   4 bits, before any is added.
-//! - Hash: four bytes of a keyword at a time. There it goes byte by byte. A handshake field: one pass over the group. There it takes three.
+//! - Hash: four bytes of a keyword at a time. There it goes byte by byte. A handshake field: one pass over the group. There it takes three: for its end, over its lines, and up to the
+//!   last byte of the value.
 //!
 //! Both go the same way, the plain one, in this: the kept places of a ring are taken as two straight stretches; a query's keywords are cut and
 //! hashed once for all lines; a place is the top bits of the hash, moved down; a table's state has the same seven fields; and every update is

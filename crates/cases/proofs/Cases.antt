@@ -6,7 +6,7 @@ use native.Mathlib.Omega.{arith}
 use lib.ListN.{length}
 use Rattle.laws.specs.Ring.{keptPlaces}
 use Rattle.wire.specs.Header.{message}
-use Rattle.laws.specs.Text.{lower}
+use Rattle.keywords.specs.Keywords.{lower}
 use Rattle.keywords.specs.Keywords.{isSeparator, keywordsOf, pieces, filled}
 use Rattle.keywords.specs.Hash.{xor32, hashOf, word, placeOf}
 use Rattle.keywords.proofs.PlaceLaws.{place-cut}

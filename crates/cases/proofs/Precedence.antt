@@ -2,7 +2,7 @@
 use mathlib.Core.Path.{refl}
 use Rattle.laws.specs.Ring.{keptPlaces}
 use Rattle.wire.specs.Header.{message}
-use Rattle.laws.specs.Text.{lower}
+use Rattle.keywords.specs.Keywords.{lower}
 use Rattle.keywords.specs.Keywords.{isSeparator, keywordsOf, pieces, filled}
 use Rattle.keywords.specs.Hash.{xor32, hashOf, word}
 use Rattle.tables.specs.Tables.{goodLength, tableInOrder}

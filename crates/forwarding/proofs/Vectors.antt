@@ -5,7 +5,7 @@ use mathlib.Core.Bool.{Bool, true, false}
 use mathlib.Core.List.{List, [], _∷_, _++_, map}
 use lib.ListN.{length, getD, replicate, drop}
 use Rattle.wire.specs.Header.{message}
-use Rattle.laws.specs.Text.{lower}
+use Rattle.keywords.specs.Keywords.{lower}
 use Rattle.keywords.specs.Keywords.{keywordsOf, pieces, filled, isSeparator}
 use Rattle.keywords.specs.Hash.{hashOf, word, xor32}
 use Rattle.tables.specs.declared.Table.{Table}

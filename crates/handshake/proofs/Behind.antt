@@ -8,18 +8,17 @@ use native.Mathlib.Decide.{decLt}
 use lib.Dec.{eqb, leb, ltb}
 use lib.ListN.{length, getD, take, drop, length-append, length-take, length-drop}
 use lib.Seq.{getD-take, take-take, take-append-le}
-use borrow.Author.Tests.{ne-eqb, le-ltb, leb-true}
-use Rattle.laws.specs.Tests.{firstOf, all}
-use Rattle.handshake.specs.declared.start.Start.{Start}
-use Rattle.handshake.specs.Text.{isText}
-use Rattle.handshake.specs.Lines.{pairAt, endsAt, groupLength, linesOf, lineLength, firstLine, otherLines}
-use Rattle.handshake.specs.Start.{startOf}
-use Rattle.handshake.specs.Fields.{linesOk, valueFor, isAbsent}
-use Rattle.handshake.specs.Group.{linesIn, startIn, fieldsIn, understood, groupFrom, readGroup, valueIn, askedFrom, askedNumber}
+use borrow.Author.Tests.{ne-eqb, eqb-false, le-ltb, leb-true}
+use Rattle.laws.specs.Tests.{firstOf}
+use Rattle.groups.specs.Lines.{pairAt, endsAt, groupLength, linesOf, lineLength, firstLine, otherLines}
+use Rattle.groups.specs.Start.{startOf}
+use Rattle.fields.specs.Fields.{linesOk, valueFor, isAbsent}
+use Rattle.handshake.specs.Group.{linesIn, fieldsIn, isStart, understood, groupNumber, readNumber, groupFrom, readGroup, valueIn, askedFrom, askedNumber}
 use Rattle.handshake.specs.Claims.{SameAnswers, NotReadBehind, GroupAlone, RoomEnough}
-use Rattle.handshake.proofs.LineLaws.{lines-others}
-use Rattle.handshake.proofs.FieldLaws.{value-short}
-use Rattle.handshake.proofs.Ends.{found-some, found-is}
+use Rattle.groups.proofs.LineLaws.{lines-others}
+use Rattle.fields.proofs.FieldLaws.{value-short}
+use Rattle.groups.proofs.Ends.{found-some, found-is}
+use Rattle.handshake.proofs.Order.{not-two}
 
 -- the group's length is in the bytes and at most 4,096
 pub length-in : (m : List ℕ) → 0 < groupLength m → (2 ≤ groupLength m) × (groupLength m ≤ length m) × (groupLength m ≤ 4096)
@@ -92,31 +91,26 @@ module _ (m b : List ℕ) (g : SameGroup m b) where
 
   pub understood-same : understood b (groupLength m) ≡ understood m (groupLength m)
   unfolding understood
-  understood-same = ap (λ ls. all isText (firstLine ls) && (not (eqb (startOf (firstLine ls) .kind) 0) && linesOk false (otherLines ls))) lines-same
+  understood-same = ap (λ ls. isStart (firstLine ls) (startOf (firstLine ls) .kind) && linesOk false (otherLines ls)) lines-same
 
   -- where a group is whole, how much stands behind it does not count
-  group-size : (x y : ℕ) (ok : Bool) (s : Start) → groupFrom (groupLength m) x ok s ≡ groupFrom (groupLength m) y ok s
-  unfolding groupFrom
-  group-size x y ok s = rw (ne-eqb (groupLength m) 0 (λ e. omega arith))
+  number-size : (x y : ℕ) (ok : Bool) → groupNumber (groupLength m) x ok ≡ groupNumber (groupLength m) y ok
+  unfolding groupNumber
+  number-size x y ok = rw (ne-eqb (groupLength m) 0 (λ e. omega arith))
 
-  asked-size : (x y : ℕ) (ok absent : Bool) (n room : ℕ) → askedFrom (groupLength m) x ok absent n room ≡ askedFrom (groupLength m) y ok absent n room
-  unfolding askedFrom
-  asked-size x y ok absent n room = rw (ne-eqb (groupLength m) 0 (λ e. omega arith))
+  pub refusal-same : readNumber b ≡ readNumber m
+  refusal-same = rw (length-same, understood-same) (number-size (length b) (length m) (understood m (groupLength m)))
 
   read-same : readGroup b ≡ readGroup m
-  read-same =
-      rw (length-same, understood-same)
-      (ap (λ ls. groupFrom (groupLength m) (length b) (understood m (groupLength m)) (startOf (firstLine ls))) lines-same
-      ∙ group-size (length b) (length m) (understood m (groupLength m)) (startIn m (groupLength m)))
+  read-same = rw (refusal-same, length-same) (ap (λ ls. groupFrom (readNumber m) (groupLength m) (startOf (firstLine ls))) lines-same)
 
   pub value-same : (name : List ℕ) → valueIn b name ≡ valueIn m name
   value-same name = rw length-same (ap (λ ls. valueFor name (otherLines ls)) lines-same)
 
   number-same : (name : List ℕ) (room : ℕ) → askedNumber b name room ≡ askedNumber m name room
   number-same name room =
-      rw (value-same name, length-same, understood-same)
-      (ap (λ ls. askedFrom (groupLength m) (length b) (understood m (groupLength m)) (isAbsent name (otherLines ls)) (length (valueIn m name)) room) lines-same
-      ∙ asked-size (length b) (length m) (understood m (groupLength m)) (isAbsent name (fieldsIn m (groupLength m))) (length (valueIn m name)) room)
+      rw (refusal-same, value-same name, length-same)
+      (ap (λ ls. askedFrom (readNumber m) (isAbsent name (otherLines ls)) (length (valueIn m name)) room) lines-same)
 
   pub answers-same : SameAnswers b m
   answers-same = (
@@ -153,17 +147,16 @@ value-most m name =
       length-most m,
     )
 
-not-short : (a b c d : Bool) → firstOf ((a, 18) ∷ (b, 4) ∷ (c, 17) ∷ (d, 10) ∷ (false, 2) ∷ []) ≡ 2 → ⊥
-not-short true b c d e = omega arith
-not-short false true c d e = omega arith
-not-short false false true d e = omega arith
-not-short false false false true e = omega arith
-not-short false false false false e = omega arith
-
 pub room-enough : RoomEnough
 unfolding askedFrom
 room-enough m name room h =
     let v = value-most m name in
     let n = groupLength m in
+    let r = readNumber m in
     let f : ltb room (length (valueIn m name)) ≡ false = le-ltb room (length (valueIn m name)) (omega arith) in
-    (omega arith, λ e. not-short (eqb n 0 && leb 4096 (length m)) (eqb n 0) (not (understood m n)) (isAbsent name (fieldsIn m n)) (rw f at e))
+    (omega arith, λ e. go r (eqb r 0) (isAbsent name (fieldsIn m n)) (not-two n (length m) (understood m n)) (rw f at e))
+  where
+    go : (r : ℕ) (t absent : Bool) → eqb r 2 ≡ false → firstOf ((not t, r) ∷ (absent, 10) ∷ (false, 2) ∷ []) ≡ 2 → ⊥
+    go r false absent k e = eqb-false r 2 k e
+    go r true true k e = omega arith
+    go r true false k e = omega arith

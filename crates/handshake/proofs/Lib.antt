@@ -1,12 +1,10 @@
--- Laws of the definitions, by which the functions' loops go.
-pub mod Tests
-pub mod TextLaws
-pub mod LineLaws
-pub mod FieldLaws
+-- Laws of the definitions, vectors, and what is proved of them.
 pub mod GroupLaws
 pub mod Vectors
-pub mod Ends
-pub mod Behind
-pub mod Words
-pub mod FirstLine
 pub mod Order
+pub mod Behind
+pub mod Busy
+pub mod Asking
+pub mod HostsBehind
+pub mod HostVectors
+pub mod ReadGroups

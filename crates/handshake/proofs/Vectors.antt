@@ -7,11 +7,11 @@ use lib.ListN.{length, replicate}
 use Rattle.laws.specs.Text.{codes}
 use Rattle.handshake.specs.declared.Group.{Group}
 use Rattle.handshake.specs.declared.Asked.{Asked}
-use Rattle.handshake.specs.Text.{lower, compared, digitOf, digitValue}
-use Rattle.handshake.specs.Lines.{endsAt, groupLength}
-use Rattle.handshake.specs.Start.{versionLength, statusOk, greetingFrom, replyFrom, startOf}
-use Rattle.handshake.specs.Fields.{isAbsent, valueFor}
-use Rattle.handshake.specs.Group.{understood, groupFrom, readGroup, askedFrom, askedWith, askField, askedOut}
+use Rattle.ascii.specs.Text.{lower, compared, digitOf, digitValue}
+use Rattle.groups.specs.Lines.{endsAt, groupLength}
+use Rattle.groups.specs.Start.{versionLength, statusOk, greetingFrom, replyFrom, startOf}
+use Rattle.fields.specs.Fields.{isAbsent, valueFor}
+use Rattle.handshake.specs.Group.{understood, groupNumber, groupFrom, readGroup, askedFrom, askedWith, askField, askedOut}
 
 abbrev group : ℕ → ℕ → ℕ → ℕ → ℕ → ℕ → Group
 group answer used kind major minor code = record { answer = answer; used = used; kind = kind; major = major; minor = minor; code = code }
@@ -75,12 +75,12 @@ groups =
     ∷ []
 
 groups-read : map (λ g. readGroup (codes (g .0))) groups ≡ map (λ g. g .1) groups
-unfolding groupLength endsAt lower compared digitOf digitValue versionLength statusOk greetingFrom replyFrom startOf isAbsent valueFor understood groupFrom askedFrom askedWith
+unfolding groupLength endsAt lower compared digitOf digitValue versionLength statusOk greetingFrom replyFrom startOf isAbsent valueFor understood groupNumber groupFrom askedFrom askedWith
 groups-read = refl
 
 -- the empty line alone is a group
 two-bytes : groupLength (codes "\r\n") ≡ 2
-unfolding groupLength endsAt lower compared digitOf digitValue versionLength statusOk greetingFrom replyFrom startOf isAbsent valueFor understood groupFrom askedFrom askedWith
+unfolding groupLength endsAt lower compared digitOf digitValue versionLength statusOk greetingFrom replyFrom startOf isAbsent valueFor understood groupNumber groupFrom askedFrom askedWith
 two-bytes = refl
 
 -- a group, a name, and the name's value
@@ -111,11 +111,11 @@ abbrev area : List ℕ
 area = replicate 7 1
 
 fields-asked : map (λ f. askField (codes (f .0)) (codes (f .1 .0)) 7) fields ≡ map (λ f. asked 0 (length (codes (f .0))) (length (codes (f .1 .1)))) fields
-unfolding groupLength endsAt lower compared digitOf digitValue versionLength statusOk greetingFrom replyFrom startOf isAbsent valueFor understood groupFrom askedFrom askedWith
+unfolding groupLength endsAt lower compared digitOf digitValue versionLength statusOk greetingFrom replyFrom startOf isAbsent valueFor understood groupNumber groupFrom askedFrom askedWith
 fields-asked = refl
 
 fields-written : map (λ f. askedOut (codes (f .0)) (codes (f .1 .0)) area) fields ≡ map (λ f. codes (f .1 .1) ++ replicate (7 - length (codes (f .1 .1))) 1) fields
-unfolding groupLength endsAt lower compared digitOf digitValue versionLength statusOk greetingFrom replyFrom startOf isAbsent valueFor understood groupFrom askedFrom askedWith
+unfolding groupLength endsAt lower compared digitOf digitValue versionLength statusOk greetingFrom replyFrom startOf isAbsent valueFor understood groupNumber groupFrom askedFrom askedWith
 fields-written = refl
 
 -- two names that are not the same: 91 and 123, 64 and 96, 192 and 224 are 32 apart as the two cases of a letter are
@@ -127,7 +127,7 @@ abbrev named : String → List ℕ
 named name = codes "GNUTELLA/0.6 200\r\n" ++ (codes name ++ codes ": x\r\n\r\n")
 
 apart-asked : map (λ p. askField (named (p .0)) (codes (p .1)) 7) apart ≡ map (λ p. asked 10 (length (named (p .0))) 0) apart
-unfolding groupLength endsAt lower compared digitOf digitValue versionLength statusOk greetingFrom replyFrom startOf isAbsent valueFor understood groupFrom askedFrom askedWith
+unfolding groupLength endsAt lower compared digitOf digitValue versionLength statusOk greetingFrom replyFrom startOf isAbsent valueFor understood groupNumber groupFrom askedFrom askedWith
 apart-asked = refl
 
 -- groups that are asked for B in an area of no bytes
@@ -146,7 +146,7 @@ ordered =
     ∷ []
 
 ordered-asked : map (λ g. askField (codes (g .0)) (codes "B") 0) ordered ≡ map (λ g. g .1) ordered
-unfolding groupLength endsAt lower compared digitOf digitValue versionLength statusOk greetingFrom replyFrom startOf isAbsent valueFor understood groupFrom askedFrom askedWith
+unfolding groupLength endsAt lower compared digitOf digitValue versionLength statusOk greetingFrom replyFrom startOf isAbsent valueFor understood groupNumber groupFrom askedFrom askedWith
 ordered-asked = refl
 
 abbrev one-field : List ℕ
@@ -154,18 +154,18 @@ one-field = codes "GNUTELLA CONNECT/0.6\r\nA: wxyz\r\n\r\n"
 
 -- absent, also where the area is empty: the group is used up
 absent : askField one-field (codes "B") 0 ≡ asked 10 33 0
-unfolding groupLength endsAt lower compared digitOf digitValue versionLength statusOk greetingFrom replyFrom startOf isAbsent valueFor understood groupFrom askedFrom askedWith
+unfolding groupLength endsAt lower compared digitOf digitValue versionLength statusOk greetingFrom replyFrom startOf isAbsent valueFor understood groupNumber groupFrom askedFrom askedWith
 absent = refl
 
 no-name : askField one-field [] 0 ≡ asked 10 33 0
-unfolding groupLength endsAt lower compared digitOf digitValue versionLength statusOk greetingFrom replyFrom startOf isAbsent valueFor understood groupFrom askedFrom askedWith
+unfolding groupLength endsAt lower compared digitOf digitValue versionLength statusOk greetingFrom replyFrom startOf isAbsent valueFor understood groupNumber groupFrom askedFrom askedWith
 no-name = refl
 
 -- an area of three bytes for a value of four stays as it is
 short : askField one-field (codes "a") 3 ≡ asked 2 0 0
-unfolding groupLength endsAt lower compared digitOf digitValue versionLength statusOk greetingFrom replyFrom startOf isAbsent valueFor understood groupFrom askedFrom askedWith
+unfolding groupLength endsAt lower compared digitOf digitValue versionLength statusOk greetingFrom replyFrom startOf isAbsent valueFor understood groupNumber groupFrom askedFrom askedWith
 short = refl
 
 short-area : askedOut one-field (codes "a") (7 ∷ 8 ∷ 9 ∷ []) ≡ 7 ∷ 8 ∷ 9 ∷ []
-unfolding groupLength endsAt lower compared digitOf digitValue versionLength statusOk greetingFrom replyFrom startOf isAbsent valueFor understood groupFrom askedFrom askedWith
+unfolding groupLength endsAt lower compared digitOf digitValue versionLength statusOk greetingFrom replyFrom startOf isAbsent valueFor understood groupNumber groupFrom askedFrom askedWith
 short-area = refl

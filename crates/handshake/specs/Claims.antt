@@ -1,30 +1,11 @@
 -- What is proved of reading a group and asking for a field, besides the functions' contracts.
-use Prim.Native.Nat.{ℕ, _+_, _-_, _≤_, _<_}
+use Prim.Native.Nat.{ℕ, _≤_, _<_}
 use mathlib.Core.Path.{_≡_}
-use mathlib.Core.Logic.{_↔_, _⊎_}
 use mathlib.Core.List.{List, _++_}
-use lib.ListN.{length, getD, take}
-use Rattle.handshake.specs.Lines.{groupLength}
+use lib.ListN.{length, take}
+use Rattle.groups.specs.Lines.{groupLength}
+use Rattle.groups.specs.Claims.{EndsIn}
 use Rattle.handshake.specs.Group.{readGroup, valueIn, askedNumber, askField, askedOut}
-
--- an empty line stands at place p: CR and LF, at the start or behind another CR and LF
-abbrev pub EmptyLineAt : List ℕ → ℕ → Type 0
-EmptyLineAt m p =
-    (getD m p 0 ≡ 13)
-    × (getD m (p + 1) 0 ≡ 10)
-    × ((p ≡ 0) ⊎ ((2 ≤ p) × (getD m (p - 2) 0 ≡ 13) × (getD m (p - 1) 0 ≡ 10)))
-
--- it ends in the bytes, and in the first 4,096 of them
-abbrev pub EndsIn : List ℕ → ℕ → Type 0
-EndsIn m p = (p + 2 ≤ length m) × (p + 2 ≤ 4096) × EmptyLineAt m p
-
--- a group ends with the first empty line
-abbrev pub EndIsFirst : Type 0
-EndIsFirst = (m : List ℕ) (p : ℕ) → (groupLength m ≡ p + 2) ↔ (EndsIn m p × ((k : ℕ) → k < p → EmptyLineAt m k → ⊥))
-
--- there is no end exactly where there is no such line
-abbrev pub NoEnd : Type 0
-NoEnd = (m : List ℕ) → (groupLength m ≡ 0) ↔ ((p : ℕ) → EndsIn m p → ⊥)
 
 -- a group without an end is refused for that, whatever its bytes are: 18 where 4,096 of them are there, else 4
 abbrev pub EndFirst : Type 0

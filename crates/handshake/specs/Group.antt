@@ -6,13 +6,13 @@ use lib.Dec.{leb, ltb, eqb}
 use lib.ListN.{length, take}
 use Rattle.laws.specs.Tests.{firstOf, all}
 use Rattle.laws.specs.Parts.{over}
-use Rattle.handshake.specs.declared.start.Start.{Start}
+use Rattle.groups.specs.declared.start.Start.{Start}
 use Rattle.handshake.specs.declared.Group.{Group}
 use Rattle.handshake.specs.declared.Asked.{Asked}
-use Rattle.handshake.specs.Text.{isText}
-use Rattle.handshake.specs.Lines.{groupLength, linesOf, firstLine, otherLines}
-use Rattle.handshake.specs.Start.{startOf}
-use Rattle.handshake.specs.Fields.{linesOk, isAbsent, valueFor}
+use Rattle.ascii.specs.Text.{isText}
+use Rattle.groups.specs.Lines.{groupLength, linesOf, firstLine, otherLines}
+use Rattle.groups.specs.Start.{startOf}
+use Rattle.fields.specs.Fields.{linesOk, isAbsent, valueFor}
 
 -- ---- of the first n bytes, a group
 
@@ -26,13 +26,13 @@ startIn m n = startOf (firstLine (linesIn m n))
 abbrev pub fieldsIn : List ℕ → ℕ → List (List ℕ)
 fieldsIn m n = otherLines (linesIn m n)
 
--- the first line is of a kind, the others are fields, and no CR or LF stands by itself
-abbrev pub understoodAs : List ℕ → ℕ → List (List ℕ) → Bool
-understoodAs first kind others = all isText first && (not (eqb kind 0) && linesOk false others)
+-- the first line is of a kind, and no CR or LF stands by itself in it
+abbrev pub isStart : List ℕ → ℕ → Bool
+isStart first kind = all isText first && not (eqb kind 0)
 
--- the first line is a greeting or a reply
+-- the first line is a greeting or a reply, and the others are fields
 unfoldable pub understood : List ℕ → ℕ → Bool
-understood m n = understoodAs (firstLine (linesIn m n)) (startIn m n .kind) (fieldsIn m n)
+understood m n = isStart (firstLine (linesIn m n)) (startIn m n .kind) && linesOk false (fieldsIn m n)
 
 -- ---- reading a group
 
@@ -40,17 +40,24 @@ understood m n = understoodAs (firstLine (linesIn m n)) (startIn m n .kind) (fie
 abbrev pub groupRules : ℕ → ℕ → Bool → List (Bool × ℕ)
 groupRules n size ok = (eqb n 0 && leb 4096 size, 18) ∷ (eqb n 0, 4) ∷ (not ok, 17) ∷ []
 
+unfoldable pub groupNumber : ℕ → ℕ → Bool → ℕ
+groupNumber n size ok = firstOf (groupRules n size ok)
+
+-- what reading is refused with, or 0
+abbrev pub readNumber : List ℕ → ℕ
+readNumber m = groupNumber (groupLength m) (length m) (understood m (groupLength m))
+
 abbrev pub refusedGroup : ℕ → Group
 refusedGroup a = record { answer = a; used = 0; kind = 0; major = 0; minor = 0; code = 0 }
 
-unfoldable pub groupFrom : ℕ → ℕ → Bool → Start → Group
-groupFrom n size ok s =
-    cond (eqb (firstOf (groupRules n size ok)) 0)
+unfoldable pub groupFrom : ℕ → ℕ → Start → Group
+groupFrom a n s =
+    cond (eqb a 0)
     (record { answer = 0; used = n; kind = s .kind; major = s .major; minor = s .minor; code = s .code })
-    (refusedGroup (firstOf (groupRules n size ok)))
+    (refusedGroup a)
 
 abbrev pub readGroup : List ℕ → Group
-readGroup m = groupFrom (groupLength m) (length m) (understood m (groupLength m)) (startIn m (groupLength m))
+readGroup m = groupFrom (readNumber m) (groupLength m) (startIn m (groupLength m))
 
 -- ---- asking for a field
 
@@ -58,16 +65,15 @@ readGroup m = groupFrom (groupLength m) (length m) (understood m (groupLength m)
 abbrev pub valueIn : List ℕ → List ℕ → List ℕ
 valueIn m name = valueFor name (fieldsIn m (groupLength m))
 
--- as for reading; then 10 where no field has the name, and 2 where its value is longer than the room for it
-abbrev pub askedRules : ℕ → ℕ → Bool → Bool → ℕ → ℕ → List (Bool × ℕ)
-askedRules n size ok absent long room = (eqb n 0 && leb 4096 size, 18) ∷ (eqb n 0, 4) ∷ (not ok, 17) ∷ (absent, 10) ∷ (ltb room long, 2) ∷ []
+-- as reading is refused; then 10 where no field has the name, and 2 where its value is longer than the room for it
+abbrev pub askedRules : ℕ → Bool → ℕ → ℕ → List (Bool × ℕ)
+askedRules read absent long room = (not (eqb read 0), read) ∷ (absent, 10) ∷ (ltb room long, 2) ∷ []
 
-unfoldable pub askedFrom : ℕ → ℕ → Bool → Bool → ℕ → ℕ → ℕ
-askedFrom n size ok absent long room = firstOf (askedRules n size ok absent long room)
+unfoldable pub askedFrom : ℕ → Bool → ℕ → ℕ → ℕ
+askedFrom read absent long room = firstOf (askedRules read absent long room)
 
 abbrev pub askedNumber : List ℕ → List ℕ → ℕ → ℕ
-askedNumber m name room =
-    askedFrom (groupLength m) (length m) (understood m (groupLength m)) (isAbsent name (fieldsIn m (groupLength m))) (length (valueIn m name)) room
+askedNumber m name room = askedFrom (readNumber m) (isAbsent name (fieldsIn m (groupLength m))) (length (valueIn m name)) room
 
 -- the group is used up by 0 and 10; only 0 writes
 unfoldable pub askedWith : ℕ → ℕ → ℕ → Asked

@@ -1,9 +1,6 @@
--- What contracts of the handshake reader cite.
-pub mod Text
-pub mod Lines
-pub mod Start
-pub mod Fields
-pub mod Step
+-- A group read, its fields and hosts asked for, and the groups that the station writes.
 pub mod Group
 pub mod Claims
-pub mod Words
+pub mod Groups
+pub mod Tried
+pub mod Hosts

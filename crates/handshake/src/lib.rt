@@ -1,26 +1,26 @@
-// The handshake: reading a group of lines, and asking it for a field. Bytes behind the group are not looked at.
-pub mod fields;
-pub mod lines;
-pub mod start;
-pub mod text;
+// The handshake: reading a group of lines, asking it for a field or for hosts to try, and writing groups. Bytes behind a group are not
+// looked at.
+pub mod hosts;
+pub mod write;
 
+use ascii::TEXT;
+use ascii::after;
+use ascii::front;
+use ascii::leading;
 use fields::find;
-use fields::lines_ok;
 use fields::write_value;
-use lines::group_length;
-use lines::line_at;
-use start::Start;
-use start::read_start;
-use text::TEXT;
-use text::after;
-use text::front;
-use text::leading;
+use groups::lines::group_length;
+use groups::lines::line_at;
+use groups::start::Start;
+use groups::start::read_start;
+use xtry::Pairs;
 ghost use mathlib.Core.Path.{_≡_};
-ghost use mathlib.Core.Bool.{not};
+ghost use mathlib.Core.Bool.{false, not, _&&_};
 ghost use Prim.Native.Nat.{_-_};
 ghost use lib.ListN.{length, take};
-ghost use Rattle.handshake.specs.Lines.{groupLength, linesOf};
-ghost use Rattle.handshake.specs.Group.{understoodAs, refusedGroup, groupFrom, readGroup, askedFrom, askedWith, askField, askedOut};
+ghost use Rattle.groups.specs.Lines.{linesOf};
+ghost use Rattle.fields.specs.Fields.{linesOk};
+ghost use Rattle.handshake.specs.Group.{isStart, groupNumber, refusedGroup, groupFrom, readGroup, askedFrom, askedWith, askField, askedOut};
 
 // The kinds of a group that is understood.
 pub const GREETING: u8 = 1;
@@ -48,6 +48,21 @@ pub struct Asked {
     pub written: usize,
 }
 
+// What asking a group for its hosts gives: `used` is the group's length where the group was understood.
+#[repr(C)]
+pub struct TriedGroup {
+    pub answer: u8,
+    pub used: usize,
+    pub pairs: Pairs,
+}
+
+// What writing a group gives: the answer (RULES 2.1), and how many bytes were written (none where it is not 0).
+#[repr(C)]
+pub struct Wrote {
+    pub answer: u8,
+    pub written: usize,
+}
+
 // The lines of a group of n bytes, without the empty one.
 fn lines_part(m: &[u8], n: usize) -> &[u8]
     ensures { λ r. ⌜ now r ≡ take (n - 2) (now (m .entry)) ⌝ }
@@ -55,17 +70,37 @@ fn lines_part(m: &[u8], n: usize) -> &[u8]
     if n < 2 { front(m, 0) } else { front(m, n - 2) }
 }
 
-// Whether all lines are understood: the first, of this kind, and those behind it.
-fn is_understood(first: &[u8], kind: u8, fields: &[u8]) -> bool
-    ensures { λ r. ⌜ r ≡ understoodAs (now (first .entry)) kind (linesOf (now (fields .entry))) ⌝ }
+// The first line is of this kind, and of text.
+fn is_start(first: &[u8], kind: u8) -> bool
+    ensures { λ r. ⌜ r ≡ isStart (now (first .entry)) kind ⌝ }
 {
     if leading(first, TEXT) != first.len() {
         return false;
     }
-    if kind == 0 {
-        return false;
+    kind != 0
+}
+
+// Whether all lines are understood: the first, of this kind, and those behind it. No field is asked for here: none has an empty name.
+fn is_understood(first: &[u8], kind: u8, fields: &[u8]) -> bool
+    ensures { λ r. ⌜ r ≡ (isStart (now (first .entry)) kind && linesOk false (linesOf (now (fields .entry)))) ⌝ }
+{
+    if is_start(first, kind) {
+        return find(fields, b"").good;
     }
-    lines_ok(fields)
+    false
+}
+
+// What reading a group of n bytes is refused with, or 0; n is 0 where no end was found.
+fn group_number(n: usize, size: usize, ok: bool) -> u8
+    ensures { λ r. ⌜ r ≡ groupNumber n size ok ⌝ }
+{
+    if n == 0 {
+        if size >= 4096 {
+            return 18;
+        }
+        return 4;
+    }
+    if ok { 0 } else { 17 }
 }
 
 fn refused_group(answer: u8) -> Group
@@ -81,16 +116,10 @@ fn refused_group(answer: u8) -> Group
     }
 }
 
-fn group_from(n: usize, size: usize, ok: bool, s: Start) -> Group
-    ensures { λ r. ⌜ r ≡ groupFrom n size ok s ⌝ }
+fn group_from(answer: u8, n: usize, s: Start) -> Group
+    ensures { λ r. ⌜ r ≡ groupFrom answer n s ⌝ }
 {
-    if n == 0 {
-        if size >= 4096 {
-            return refused_group(18);
-        }
-        return refused_group(4);
-    }
-    if ok {
+    if answer == 0 {
         return Group {
             answer: 0,
             used: n,
@@ -100,7 +129,7 @@ fn group_from(n: usize, size: usize, ok: bool, s: Start) -> Group
             code: s.code,
         };
     }
-    refused_group(17)
+    refused_group(answer)
 }
 
 // Reads the group at the front of the bytes.
@@ -113,28 +142,23 @@ pub fn read_group(bytes: &[u8]) -> Group
     let start = read_start(first);
     let fields = after(lines, first.len() + 2);
     let ok = is_understood(first, start.kind, fields);
-    group_from(n, bytes.len(), ok, start)
+    group_from(group_number(n, bytes.len(), ok), n, start)
 }
 
-fn asked_number(n: usize, size: usize, ok: bool, there: bool, long: usize, room: usize) -> u8
-    ensures { λ r. ⌜ r ≡ askedFrom n size ok (not there) long room ⌝ }
+// What asking is refused with, or 0: what reading is, then 10 for an absent name, and 2 for a short area.
+fn asked_number(read: u8, there: bool, long: usize, room: usize) -> u8
+    ensures { λ r. ⌜ r ≡ askedFrom read (not there) long room ⌝ }
 {
-    if n == 0 {
-        if size >= 4096 {
-            return 18;
-        }
-        return 4;
+    if read != 0 {
+        return read;
     }
-    if ok {
-        if there {
-            if room < long {
-                return 2;
-            }
-            return 0;
+    if there {
+        if room < long {
+            return 2;
         }
-        return 10;
+        return 0;
     }
-    17
+    10
 }
 
 fn asked_with(answer: u8, n: usize, long: usize) -> Asked
@@ -172,19 +196,12 @@ pub fn field(bytes: &[u8], name: &[u8], out: &mut [u8]) -> Asked
     let first = line_at(lines, 0);
     let start = read_start(first);
     let fields = after(lines, first.len() + 2);
-    let found = find(fields, name);
-    let long = found.length;
-    let answer = asked_number(
-        n,
-        bytes.len(),
-        is_understood(first, start.kind, fields),
-        found.there,
-        long,
-        out.len(),
-    );
-    if answer == 0 {
-        write_value(fields, name, long, out);
-        return asked_with(0, n, long);
+    if is_start(first, start.kind) {
+        let room = out.len();
+        let found = write_value(fields, name, out);
+        let long = found.length;
+        let read = group_number(n, bytes.len(), found.good);
+        return asked_with(asked_number(read, found.there, long, room), n, long);
     }
-    asked_with(answer, n, long)
+    asked_with(group_number(n, bytes.len(), false), n, 0)
 }

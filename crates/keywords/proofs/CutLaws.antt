@@ -14,7 +14,7 @@ use borrow.Author.Tests.{lt-ltb, le-ltb}
 use Rattle.laws.specs.Tests.{any, all}
 use Rattle.laws.proofs.Parts.{part-tail}
 use Rattle.keywords.specs.declared.cut.Cut.{Cut}
-use Rattle.laws.specs.Text.{lower, onto}
+use Rattle.ascii.specs.Text.{lower, onto}
 use Rattle.keywords.specs.Keywords.{isSeparator, filled, leading, matching, pieces, startBy, endBy, keywordsOf, cutStart, cutEnd}
 use Rattle.keywords.specs.Keywords.{cutOf, keywordAt, textBehind}
 use Rattle.keywords.specs.Hash.{hashOf}

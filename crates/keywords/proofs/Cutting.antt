@@ -1,18 +1,16 @@
 -- The keywords of a text from outside, proved.
-use Prim.Native.Nat.{ℕ, _+_, _≤_, _<_}
+use Prim.Native.Nat.{ℕ, _<_}
 use native.Mathlib.Omega.{arith}
 use mathlib.Core.Path.{_≡_, refl, sym, ap, _∙_}
-use mathlib.Core.Bool.{Bool, true, false, cond, _&&_, _||_, and-false}
-use mathlib.Core.Logic.{_⊎_, inl, inr}
+use mathlib.Core.Bool.{Bool, true, false, cond, _||_}
 use mathlib.Core.List.{List, [], _∷_, _++_, map, map-append}
-use lib.Dec.{eqb, leb}
+use lib.Dec.{eqb}
 use lib.ListN.{length}
-use borrow.Author.Tests.{le-leb, lt-leb, eqb-false, ne-eqb}
+use borrow.Author.Tests.{eqb-false, ne-eqb}
 use Rattle.laws.specs.Tests.{any}
 use Rattle.laws.proofs.Refusals.{or-fst, or-snd}
-use Rattle.laws.specs.Text.{lower, onto}
-use Rattle.keywords.specs.Keywords.{isSeparator, filled, pieces, keywordsOf}
-use Rattle.keywords.specs.Cutting.{CutAtSpaces, FoldsLetters}
+use Rattle.keywords.specs.Keywords.{isSeparator, lower, onto, filled, pieces, keywordsOf}
+use Rattle.keywords.specs.Cutting.{CutAtSpaces}
 
 filled-append : (ps qs : List (List ℕ)) → filled (ps ++ qs) ≡ filled ps ++ filled qs
 unfolding filled
@@ -69,11 +67,6 @@ unfolding filled
 one-piece [] h = absurd (omega arith)
 one-piece (b ∷ bs) h = refl
 
--- a byte that a test leaves
-kept : (a b : Bool) (n m : ℕ) → (a ≡ false) ⊎ (b ≡ false) → cond (a && b) n m ≡ m
-kept a b n m (inl e) = rw e
-kept a b n m (inr e) = ap (λ (t : Bool). cond (a && t) n m) e ∙ ap (λ (t : Bool). cond t n m) (and-false a)
-
 pub cut-at-spaces : CutAtSpaces
 unfolding keywordsOf pieces filled isSeparator
 cut-at-spaces =
@@ -84,15 +77,3 @@ cut-at-spaces =
           ∙ ap (map (map lower)) (filled-append (pieces isSeparator a) (pieces isSeparator b))
           ∙ map-append (map lower) (filled (pieces isSeparator a)) (filled (pieces isSeparator b));
     }
-
-pub folds-letters : FoldsLetters
-unfolding lower
-folds-letters =
-    record {
-      letters = λ b l h. rw (le-leb 65 b l, le-leb b 90 h);
-      others = others;
-    }
-  where
-    others : (b : ℕ) → (b < 65) ⊎ (90 < b) → lower b ≡ b
-    others b (inl h) = kept (leb 65 b) (leb b 90) (b + 32) b (inl (lt-leb 65 b h))
-    others b (inr h) = kept (leb 65 b) (leb b 90) (b + 32) b (inr (lt-leb b 90 h))

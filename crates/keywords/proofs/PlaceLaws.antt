@@ -7,7 +7,7 @@ use native.Mathlib.Nat.{mul-comm, mul-lt-mul-of-pos-right, div-lt-iff-lt-mul, mu
 use native.Mathlib.Decide.{decLe}
 use native.Mathlib.Omega.{arith}
 use lib.Pow.{pow-pos, pow-add, shr-lt, shr-shr}
-use Rattle.laws.specs.Text.{lower}
+use Rattle.ascii.specs.Text.{lower}
 use Rattle.keywords.specs.Hash.{hashOf, placeOf, scaled, placeIn}
 use Rattle.keywords.proofs.HashLaws.{hash-below, hash-lower}
 

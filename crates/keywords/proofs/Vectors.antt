@@ -3,7 +3,7 @@ use Prim.Native.Nat.{ℕ}
 use mathlib.Core.Path.{_≡_, refl}
 use mathlib.Core.List.{List, [], _∷_, map}
 use lib.ListN.{take}
-use Rattle.laws.specs.Text.{lower}
+use Rattle.ascii.specs.Text.{lower}
 use Rattle.keywords.specs.Keywords.{keywordsOf, pieces, filled, isSeparator, leading, cutOf}
 use Rattle.keywords.specs.Hash.{xor32, word, hashOf, placeOf, placeIn}
 

@@ -2,7 +2,7 @@
 use Prim.Native.Nat.{ℕ, _+_, _-_, _*_, _/_, _%_, _^_}
 use mathlib.Core.List.{List, [], _∷_, map}
 use Rattle.laws.specs.Bytes.{little, xor}
-use Rattle.laws.specs.Text.{lower}
+use Rattle.ascii.specs.Text.{lower}
 
 -- exclusive or of two 32-bit numbers
 unfoldable pub xor32 : ℕ → ℕ → ℕ

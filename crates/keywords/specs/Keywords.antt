@@ -1,21 +1,17 @@
 -- Keywords of a text (RULES 11.1, 11.2).
 use Prim.Native.Nat.{ℕ, suc, _+_, _-_}
-use mathlib.Core.Bool.{Bool, true, false, cond, not}
+use mathlib.Core.Bool.{Bool, true, false, cond, not, _&&_}
 use mathlib.Core.List.{List, [], _∷_, map}
-use lib.Dec.{eqb}
+use lib.Dec.{eqb, leb}
 use lib.ListN.{take, drop}
-use Rattle.laws.specs.Text.{lower, onto}
 use Rattle.keywords.specs.declared.cut.Cut.{Cut}
+-- letters A to Z in lower case, every other byte as it is (RULES 11.2); a text cut into pieces, of which empty ones vanish
+unfoldable pub use Rattle.ascii.specs.Text.{lower, pieces, filled}
+pub use Rattle.ascii.specs.Text.{onto}
 
 -- the bytes that part keywords
 unfoldable pub isSeparator : ℕ → Bool
 isSeparator b = eqb b 0x20
-
--- empty pieces vanish
-unfoldable pub filled : List (List ℕ) → List (List ℕ)
-filled [] = []
-filled ([] ∷ ps) = filled ps
-filled ((b ∷ p) ∷ ps) = (b ∷ p) ∷ filled ps
 
 -- how many elements at the front meet the test
 unfoldable pub leading : (ℕ → Bool) → List ℕ → ℕ
@@ -29,11 +25,6 @@ matching false b = not (isSeparator b)
 
 -- for any test of a separator
 module _ (separates : ℕ → Bool) where
-  -- the text cut at each separator
-  unfoldable pub pieces : List ℕ → List (List ℕ)
-  pieces [] = [] ∷ []
-  pieces (b ∷ bs) = cond (separates b) ([] ∷ pieces bs) (onto b (pieces bs))
-
   -- where the first piece that is not empty begins, and where it ends; both the text's length where there is none
   abbrev pub startBy : List ℕ → ℕ
   startBy text = leading separates text

@@ -1,21 +1,10 @@
 // The hash of a keyword and its place in a table.
+use ascii::lower;
 ghost use Prim.Native.Nat.{_+_, _-_, _*_, _/_, _^_, _<_};
 ghost use mathlib.Core.Path.{_≡_};
 ghost use mathlib.Core.List.{map};
-ghost use Rattle.laws.specs.Text.{lower};
+ghost use Rattle.ascii.specs.Text.{lower};
 ghost use Rattle.keywords.specs.Hash.{word, hashOf, placeOf, scaled};
-
-// Letters A to Z in lower case.
-pub fn lower_case(b: u8) -> u8
-    ensures { λ r. ⌜ r ≡ lower b ⌝ }
-{
-    if 0x41 <= b {
-        if b <= 0x5A {
-            return b + 32;
-        }
-    }
-    b
-}
 
 // A byte moved up by some of the four bytes of a chunk.
 fn moved(b: u8, bytes: usize) -> u32
@@ -32,7 +21,7 @@ fn joined(keyword: &[u8]) -> u32
     let mut n: u32 = 0;
     let mut i = 0;
     while i < keyword.len() {
-        n = n ^ moved(lower_case(keyword[i]), i % 4);
+        n = n ^ moved(lower(keyword[i]), i % 4);
         i += 1;
     }
     n

@@ -1,6 +1,6 @@
 -- Laws of a list written over another, and of a part that is lent and comes back.
 use Prim.Native.Nat.{ℕ, zero, suc, _+_, _-_, _≤_, _<_}
-use mathlib.Core.Path.{_≡_, refl, sym, ap, _∙_}
+use mathlib.Core.Path.{_≡_, refl, sym, ap, ap₂, _∙_}
 use mathlib.Core.List.{List, [], _∷_, _++_, append-assoc, append-nil}
 use native.Mathlib.Nat.{zero-add, sub-zero, zero-sub, suc-sub-suc}
 use native.Mathlib.Omega.{arith}
@@ -8,6 +8,7 @@ use lib.ListN.{length, take, drop, replicate, length-append, length-take, length
 use lib.Seq.{take-nil, drop-nil, take-take, drop-drop, take-append-seam, drop-append-seam, take-all, take-length}
 use borrow.Rule.Slice.PartMut.{putMid}
 use Rattle.laws.specs.Parts.{over, copied}
+use Rattle.laws.proofs.Parts.{part-tail}
 
 -- `&l[k..end]` where end is as far as the first n go
 pub rest-front : (l : List ℕ) (k n : ℕ) → take (length (take n l) - k) (drop k l) ≡ drop k (take n l)
@@ -63,6 +64,15 @@ over-lent k n l ys h e =
     ap (λ z. take k l ++ (ys ++ z)) (drop-drop (length (take n l) - k) k l ∙ ap (λ j. drop j l) w)
     ∙ sym (append-assoc (take k l) ys (drop (0 + length (take k l ++ ys)) l))
     ∙ ap (λ z. over 0 (z ++ ys) l) (sym (take-take k n l m))
+
+-- `bytes::copy(part, &mut l[at..])`
+pub over-copied : (at : ℕ) (part l ys : List ℕ) → ys ≡ take (length part) part ++ drop (length part) (take (length l - at) (drop at l))
+    → putMid at (length l - at) l ys ≡ over at part l
+over-copied at part l ys e =
+    let none : drop (length l - at) (drop at l) ≡ [] = drop-of-length-le (drop at l) {i = length l - at} (simp length-drop (omega arith)) in
+    let behind : drop (length part) (take (length l - at) (drop at l)) ≡ drop (at + length part) l = ap (drop (length part)) (part-tail at l) ∙ drop-drop (length part) at l in
+    ap (λ z. take at l ++ (ys ++ z)) none
+    ∙ ap (λ z. take at l ++ z) (append-nil ys ∙ e ∙ ap₂ (λ x y. x ++ y) (take-all (length part) part (omega arith)) behind)
 
 -- `&l[k..]` is shorter than l, where k is not 0
 pub tail-shorter : (k : ℕ) (l : List ℕ) → 0 < k → k ≤ length l → length (take (length l - k) (drop k l)) < length l

@@ -2,13 +2,14 @@
 ghost use mathlib.Core.Path.{_≡_};
 ghost use lib.ListN.{length};
 ghost use Rattle.handshake.specs.Group.{readGroup, askField, askedOut};
-ghost use Rattle.tryhosts.specs.Tried.{groupTried};
-ghost use Rattle.tryhosts.specs.Groups.{greetingBytes, okBytes, busyBytes, pairsIn, textAnswer, busyAnswer, wroteOf, areaOf};
+ghost use Rattle.handshake.specs.Tried.{groupTried};
+ghost use Rattle.handshake.specs.Groups.{greetingBytes, okBytes, busyBytes, textAnswer, busyAnswer, wroteOf, areaOf};
+ghost use Rattle.xtry.specs.Writing.{pairsIn};
 use handshake::Asked;
 use handshake::Group;
-use tryhosts::Pairs;
-use tryhosts::TriedGroup;
-use tryhosts::Wrote;
+use handshake::TriedGroup;
+use handshake::Wrote;
+use xtry::Pairs;
 
 // The kind, version and code of a group.
 #[no_mangle]
@@ -32,7 +33,7 @@ pub extern "C" fn lunozhar_read_field(bytes: &[u8], name: &[u8], value: &mut [u8
 pub extern "C" fn lunozhar_read_hosts(bytes: &[u8]) -> TriedGroup
     ensures { λ r. ⌜ r ≡ groupTried (now (bytes .entry)) ⌝ }
 {
-    tryhosts::group::try_pairs(bytes)
+    handshake::hosts::try_pairs(bytes)
 }
 
 // The greeting.
@@ -41,7 +42,7 @@ pub extern "C" fn lunozhar_write_greeting(out: &mut [u8]) -> Wrote
     ensures result { λ r. ⌜ r ≡ wroteOf (textAnswer (length (now (out .entry))) greetingBytes) greetingBytes ⌝ }
     ensures output { λ _. ⌜ now (out .exit) ≡ areaOf (textAnswer (length (now (out .entry))) greetingBytes) greetingBytes (now (out .entry)) ⌝ }
 {
-    tryhosts::write::write_greeting(out)
+    handshake::write::write_greeting(out)
 }
 
 // The reply that accepts.
@@ -50,7 +51,7 @@ pub extern "C" fn lunozhar_write_ok(out: &mut [u8]) -> Wrote
     ensures result { λ r. ⌜ r ≡ wroteOf (textAnswer (length (now (out .entry))) okBytes) okBytes ⌝ }
     ensures output { λ _. ⌜ now (out .exit) ≡ areaOf (textAnswer (length (now (out .entry))) okBytes) okBytes (now (out .entry)) ⌝ }
 {
-    tryhosts::write::write_ok(out)
+    handshake::write::write_ok(out)
 }
 
 // The reply that refuses, with pairs to try.
@@ -59,5 +60,5 @@ pub extern "C" fn lunozhar_write_busy(pairs: Pairs, out: &mut [u8]) -> Wrote
     ensures result { λ r. ⌜ r ≡ wroteOf (busyAnswer (length (now (out .entry))) pairs) (busyBytes (pairsIn pairs)) ⌝ }
     ensures output { λ _. ⌜ now (out .exit) ≡ areaOf (busyAnswer (length (now (out .entry))) pairs) (busyBytes (pairsIn pairs)) (now (out .entry)) ⌝ }
 {
-    tryhosts::write::write_busy(pairs, out)
+    handshake::write::write_busy(pairs, out)
 }

@@ -3,7 +3,7 @@ use Prim.Native.Nat.{ℕ}
 use mathlib.Core.Path.{_≡_, refl}
 use mathlib.Core.Bool.{true, false}
 use mathlib.Core.List.{List, [], _∷_}
-use Rattle.laws.specs.Text.{lower}
+use Rattle.keywords.specs.Keywords.{lower}
 use Rattle.keywords.specs.Keywords.{isSeparator, keywordsOf, pieces, filled}
 use Rattle.keywords.specs.Hash.{xor32, hashOf, word}
 use Rattle.tables.specs.Tables.{Held, heldIn, noTable, atRest, settled, waiting, running, broken, goodLength, tableInOrder}

@@ -8,7 +8,7 @@ use Rattle.laws.specs.Text.{codes}
 use Rattle.laws.specs.Bytes.{littleBytes}
 use Rattle.laws.specs.Ring.{keptPlaces}
 use Rattle.wire.specs.Header.{message, routeUpdate}
-use Rattle.laws.specs.Text.{lower}
+use Rattle.keywords.specs.Keywords.{lower}
 use Rattle.keywords.specs.Keywords.{isSeparator, keywordsOf, pieces, filled}
 use Rattle.keywords.specs.Hash.{xor32, hashOf, word}
 use Rattle.tables.specs.Tables.{goodLength, tableInOrder}

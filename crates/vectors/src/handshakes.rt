@@ -4,10 +4,10 @@ use crate::print;
 use crate::words;
 use handshake::Asked;
 use handshake::Group;
-use tryhosts::Pair;
-use tryhosts::Pairs;
-use tryhosts::TriedGroup;
-use tryhosts::Wrote;
+use handshake::TriedGroup;
+use handshake::Wrote;
+use xtry::Pair;
+use xtry::Pairs;
 
 fn group_words(line: &[u8], g: Group) {
     print::start(line);
@@ -91,7 +91,7 @@ fn try_words(line: &[u8], r: TriedGroup) {
 pub(crate) fn try_hosts(line: &[u8]) {
     let mut area = [0u8; 8192];
     let n = decode::bytes(line, 2, &mut area);
-    try_words(line, tryhosts::group::try_pairs(&area[..n]));
+    try_words(line, handshake::hosts::try_pairs(&area[..n]));
 }
 
 // The pair whose six bytes stand here: the address, and the port with its low byte first.
@@ -126,9 +126,9 @@ fn pairs_of(bytes: &[u8; 256], size: usize) -> Pairs {
 
 fn wrote(line: &[u8], pairs: Pairs, out: &mut [u8]) -> Wrote {
     match words::name(b"greeting ok busy", line, 2) {
-        0 => tryhosts::write::write_greeting(out),
-        1 => tryhosts::write::write_ok(out),
-        _ => tryhosts::write::write_busy(pairs, out),
+        0 => handshake::write::write_greeting(out),
+        1 => handshake::write::write_ok(out),
+        _ => handshake::write::write_busy(pairs, out),
     }
 }
 

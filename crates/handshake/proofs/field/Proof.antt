@@ -1,22 +1,8 @@
-use Rattle.handshake.proofs.GroupLaws.{Asking, fields-are, understood-is, room-for, asked-done, asked-refused}
+use mathlib.Core.Path.{sym, _∙_}
+use Rattle.handshake.proofs.GroupLaws.{front-of, field-not, field-done}
 use borrow.Author.Needs.{needs}
 use Rattle.handshake.proofs.field.Statement.{statement}
 use Rattle.handshake.proofs.field.Tie as tie
-
--- what is in hand once the number is there
-asking : (c : tie.After-asked-number)
-    → Asking (c .before .before .before .before .before .before .before .before .before .before .before .args .bytes .now) (c .before .before .before .before .before .before .before .before .before .before .before .args .name .now) (c .before .before .before .before .before .before .before .before .before .before .before .args .out .now)
-    (c .before .before .before .before .before .before .before .group-length .result) (c .before .before .before .after .result .now) (c .before .is-understood .result) (c .before .before .find .result) (c .asked-number .result)
-asking c = record {
-  is-length = c .before .before .before .before .before .before .before .group-length .ensures;
-  are-lines =
-      fields-are (c .before .before .before .before .before .before .before .before .before .before .before .args .bytes .now) (c .before .before .before .before .before .before .lines-part .result .now) (c .before .before .before .before .before .line-at .result .now) (c .before .before .before .after .result .now) (c .before .before .before .before .before .before .before .group-length .result) (c .before .before .before .before .before .before .lines-part .ensures) (c .before .before .before .before .before .line-at .ensures) (c .before .before .before .after .ensures);
-  is-ok =
-      understood-is (c .before .before .before .before .before .before .before .before .before .before .before .args .bytes .now) (c .before .before .before .before .before .before .lines-part .result .now) (c .before .before .before .before .before .line-at .result .now) (c .before .before .before .after .result .now) (c .before .before .before .before .before .before .before .group-length .result) (c .before .before .before .before .before .before .lines-part .ensures) (c .before .before .before .before .before .line-at .ensures) (c .before .before .before .after .ensures)
-      (c .before .before .before .before .read-start .result) (c .before .before .before .before .read-start .ensures) (c .before .is-understood .result) (c .before .is-understood .ensures);
-  is-found = c .before .before .find .ensures;
-  is-number = c .asked-number .ensures;
-}
 
 group-length-requires : tie.Need-group-length-requires
 group-length-requires c κs = search needs
@@ -36,17 +22,17 @@ add-after c = search needs
 after-requires : tie.Need-after-requires
 after-requires c κs = search needs
 
-find-requires : tie.Need-find-requires
-find-requires c κs = search needs
+is-start-requires : tie.Need-is-start-requires
+is-start-requires c κs = search needs
 
-is-understood-requires : tie.Need-is-understood-requires
-is-understood-requires c κs = search needs
+write-value-requires : tie.Need-write-value-requires
+write-value-requires c κs = search needs
+
+group-number-requires : tie.Need-group-number-requires
+group-number-requires c κs = search needs
 
 asked-number-requires : tie.Need-asked-number-requires
 asked-number-requires c κs = search needs
-
-write-value-requires : tie.Need-write-value-requires
-write-value-requires c κs = room-for (asking (c .before .before)) (c .before .if1 .taken)
 
 asked-with-requires : tie.Need-asked-with-requires
 asked-with-requires c κs = search needs
@@ -56,14 +42,35 @@ same-length c = search needs
 
 returns : tie.Need-returns
 returns c =
-    asked-done (asking (c .before .before .before .before .before .before)) (c .asked-with .result) (c .before .before .before .write-value .last .1 .1 .1 .0) (c .before .before .before .before .before .if1 .taken) (c .asked-with .ensures)
-    (c .before .before .before .write-value .ensures)
+    let w = c .before .before .before .before .before in
+    let i = w .before .before in
+    let a = i .before .before in
+    let first = a .before .before in
+    let lines = first .before in
+    let x = lines .before .before .before .before .before .args in
+    let front = front-of (x .bytes .now) (lines .lines-part .result .now) (first .line-at .result .now) (a .after .result .now) (lines .before .group-length .result) (a .before .read-start .result)
+    (lines .before .group-length .ensures) (lines .lines-part .ensures) (first .line-at .ensures) (a .before .read-start .ensures) (a .after .ensures) in
+    field-done front (x .name .now) (x .out .now) (sym (i .before .is-start .ensures) ∙ i .if1 .taken)
+    (w .write-value .result) _ (c .before .before .group-number .result) (c .before .asked-number .result) (c .asked-with .result)
+    (w .write-value .ensures .0) (w .write-value .ensures .1) (c .before .before .group-number .ensures) (c .before .asked-number .ensures) (c .asked-with .ensures)
+
+group-number-requires-2 : tie.Need-group-number-requires-2
+group-number-requires-2 c κs = search needs
 
 asked-with-requires-2 : tie.Need-asked-with-requires-2
 asked-with-requires-2 c κs = search needs
 
 returns-2 : tie.Need-returns-2
-returns-2 c = asked-refused (asking (c .before .before)) (c .asked-with2 .result) (c .before .if1 .left) (c .asked-with2 .ensures)
+returns-2 c =
+    let i = c .before .before in
+    let a = i .before .before in
+    let first = a .before .before in
+    let lines = first .before in
+    let x = lines .before .before .before .before .before .args in
+    let front = front-of (x .bytes .now) (lines .lines-part .result .now) (first .line-at .result .now) (a .after .result .now) (lines .before .group-length .result) (a .before .read-start .result)
+    (lines .before .group-length .ensures) (lines .lines-part .ensures) (first .line-at .ensures) (a .before .read-start .ensures) (a .after .ensures) in
+    field-not front (x .name .now) (x .out .now) (sym (i .before .is-start .ensures) ∙ i .if1 .left)
+    (c .before .group-number2 .result) (c .asked-with2 .result) (c .before .group-number2 .ensures) (c .asked-with2 .ensures)
 
 pub field-spec : {M : Type 1} → statement M
 field-spec =
@@ -75,12 +82,13 @@ field-spec =
     read-start-requires
     add-after
     after-requires
-    find-requires
-    is-understood-requires
-    asked-number-requires
+    is-start-requires
     write-value-requires
+    group-number-requires
+    asked-number-requires
     asked-with-requires
     same-length
     returns
+    group-number-requires-2
     asked-with-requires-2
     returns-2)

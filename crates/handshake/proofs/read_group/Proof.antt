@@ -1,4 +1,4 @@
-use Rattle.handshake.proofs.GroupLaws.{start-is, understood-is}
+use Rattle.handshake.proofs.GroupLaws.{front-of, read-is}
 use borrow.Author.Needs.{needs}
 use Rattle.handshake.proofs.read_group.Statement.{statement}
 use Rattle.handshake.proofs.read_group.Tie as tie
@@ -24,17 +24,22 @@ after-requires c κs = search needs
 is-understood-requires : tie.Need-is-understood-requires
 is-understood-requires c κs = search needs
 
+group-number-requires : tie.Need-group-number-requires
+group-number-requires c κs = search needs
+
 group-from-requires : tie.Need-group-from-requires
 group-from-requires c κs = search needs
 
 returns : tie.Need-returns
 returns c =
-    rw (
-      c .group-from .ensures,
-      understood-is (c .before .before .before .before .before .before .before .before .args .bytes .now) (c .before .before .before .before .before .lines-part .result .now) (c .before .before .before .before .line-at .result .now) (c .before .before .after .result .now) (c .before .before .before .before .before .before .group-length .result) (c .before .before .before .before .before .lines-part .ensures) (c .before .before .before .before .line-at .ensures) (c .before .before .after .ensures) (c .before .before .before .read-start .result) (c .before .before .before .read-start .ensures) (c .before .is-understood .result) (c .before .is-understood .ensures),
-      start-is (c .before .before .before .before .before .before .before .before .args .bytes .now) (c .before .before .before .before .before .lines-part .result .now) (c .before .before .before .before .line-at .result .now) (c .before .before .after .result .now) (c .before .before .before .before .before .before .group-length .result) (c .before .before .before .before .before .lines-part .ensures) (c .before .before .before .before .line-at .ensures) (c .before .before .after .ensures) (c .before .before .before .read-start .result) (c .before .before .before .read-start .ensures),
-      c .before .before .before .before .before .before .group-length .ensures,
-    )
+    let a = c .before .before .before in
+    let first = a .before .before in
+    let lines = first .before in
+    let x = lines .before .before .before .args in
+    let front = front-of (x .bytes .now) (lines .lines-part .result .now) (first .line-at .result .now) (a .after .result .now) (lines .before .group-length .result) (a .before .read-start .result)
+    (lines .before .group-length .ensures) (lines .lines-part .ensures) (first .line-at .ensures) (a .before .read-start .ensures) (a .after .ensures) in
+    read-is front (c .before .before .is-understood .result) (c .before .group-number .result) (c .group-from .result)
+    (c .before .before .is-understood .ensures) (c .before .group-number .ensures) (c .group-from .ensures)
 
 pub read-group-spec : {M : Type 1} → statement M
 read-group-spec =
@@ -47,5 +52,6 @@ read-group-spec =
     add-after
     after-requires
     is-understood-requires
+    group-number-requires
     group-from-requires
     returns)

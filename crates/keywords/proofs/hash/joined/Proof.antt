@@ -5,7 +5,7 @@ use mathlib.Core.List.{map}
 use lib.ListN.{length, getD, drop, drop-of-length-le}
 use lib.Bits.{xor-lt}
 use borrow.Author.Needs.{needs}
-use Rattle.laws.specs.Text.{lower}
+use Rattle.ascii.specs.Text.{lower}
 use Rattle.keywords.specs.Hash.{rolling, word}
 use Rattle.keywords.proofs.HashLaws.{rolling-next, word-rolling, lower-bytes}
 use Rattle.keywords.proofs.hash.joined.Statement.{statement}
@@ -23,11 +23,11 @@ loop-holds c =
     let keyword = c .before .args .keyword .now in
     (search needs, sym (word-rolling (map lower keyword) (lower-bytes keyword (λ i. c .shared-slice-known .given i .fits))), search needs)
 
-shared-slice-read-lower-case : tie.Need-shared-slice-read-lower-case Inv-loop μ-loop
-shared-slice-read-lower-case c = search needs
+shared-slice-read-lower : tie.Need-shared-slice-read-lower Inv-loop μ-loop
+shared-slice-read-lower c = search needs
 
-lower-case-requires : tie.Need-lower-case-requires Inv-loop μ-loop
-lower-case-requires c κs = search needs
+lower-requires : tie.Need-lower-requires Inv-loop μ-loop
+lower-requires c κs = search needs
 
 moved-requires : tie.Need-moved-requires Inv-loop μ-loop
 moved-requires c κs = search needs
@@ -44,7 +44,7 @@ loop-again c =
     let at = c .before .before .before .before .loop in
     let fits : c .moved .result < 2 ^ 32 = search needs in
     let moved : c .moved .result ≡ lower (getD keyword (at .i) 0) * 256 ^ (at .i % 4)
-    = c .moved .ensures ∙ ap (λ x. x * 256 ^ (at .i % 4)) (c .before .lower-case .ensures) in (
+    = c .moved .ensures ∙ ap (λ x. x * 256 ^ (at .i % 4)) (c .before .lower .ensures) in (
       search needs,
       rolling-next keyword (at .i) (at .n) (c .moved .result) (search needs) (at .inv .2) fits moved ∙ at .inv .1,
       xor-lt 32 (at .n) (c .moved .result) (at .inv .2) fits,
@@ -62,8 +62,8 @@ joined-spec =
     Inv-loop
     μ-loop
     loop-holds
-    shared-slice-read-lower-case
-    lower-case-requires
+    shared-slice-read-lower
+    lower-requires
     moved-requires
     add-i
     loop-less

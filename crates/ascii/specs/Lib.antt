@@ -1,0 +1,3 @@
+-- Bytes as text.
+pub mod Text
+pub mod Words
