@@ -1,203 +1,451 @@
--- The one return of each call: from what its parts ensure to the rules of crate protocol.
+-- The calls from their parts: what a message does by its type, its first refusal, and the state after a call. A line's number counts modulo
+-- eight: where it is over seven, the call is refused, and what stands there is stored again.
 -- Assumes nothing.
-use Prim.Native.Nat.{ℕ, _+_, _%_, _≤_, _<_, min}
+use Prim.Native.Nat.{ℕ, _+_, _/_, _%_, _≤_, _<_}
 use native.Mathlib.Omega.{arith}
-use mathlib.Core.Path.{_≡_, refl, sym, ap, ap₂, _∙_}
-use mathlib.Core.Bool.{Bool, true, false, cond, _&&_, and-false}
-use mathlib.Core.List.{List, []}
-use lib.Dec.{eqb, leb}
-use lib.ListN.{length, getD, set, take, drop, length-append}
-use borrow.Author.Tests.{eq-eqb, ne-eqb, le-leb, lt-leb, eqb-true, ltb-true, ltb-false}
-use Rattle.laws.specs.Tests.{firstOf, any}
-use Rattle.laws.specs.Bytes.{little}
-use Rattle.laws.proofs.Refusals.{clash, no-refusal, or-fst}
+use mathlib.Core.Path.{_≡_, refl, sym, ap, ap₂, subst, _∙_}
+use mathlib.Core.Bool.{Bool, true, false, cond, not, _&&_, _||_}
+use mathlib.Core.List.{List, [], _∷_, _++_, map}
+use lib.Dec.{eqb, leb, ltb}
+use lib.ListN.{length, getD, set}
+use lib.Seq.{set-getD}
+use borrow.Author.Tests.{eq-eqb, ne-eqb, eqb-true, eqb-false, ltb-true, ltb-false, not-false}
 use Rattle.laws.specs.Parts.{over}
-use Rattle.laws.specs.Ring.{onward}
-use Rattle.wire.specs.Header.{sizeOf}
-use Rattle.wire.proofs.HeaderLaws.{message-length}
-use Rattle.tables.specs.declared.Table.{Table}
-use Rattle.tables.specs.Tables.{heldIn}
+use Rattle.laws.specs.Tests.{firstOf, any, all, every}
+use Rattle.laws.proofs.Refusals.{or-fst, or-snd, no-refusal, NoRefusal}
+use Rattle.wire.specs.declared.Header.{Header}
+use Rattle.wire.specs.Header.{
+  headerIn,
+  kindOf,
+  sizeOf,
+  payloadOf,
+  largestMessage,
+  pingType,
+  pongType,
+  routeUpdate,
+  queryType,
+  hitType,
+}
 use Rattle.protocol.specs.declared.Line.{Line}
-use Rattle.protocol.specs.declared.Station.{Station}
-use Rattle.protocol.specs.declared.Own.{Own}
-use Rattle.protocol.specs.declared.Handled.{Handled}
-use Rattle.protocol.specs.Memory.{find, numberIn, remember, remembered}
-use Rattle.protocol.specs.Lines.{nowhere, partOf}
-use Rattle.protocol.specs.Order.{inOrder}
-use Rattle.protocol.specs.Outcomes.{Outcome, quiet, nobody, pickOutcome, handled, usedOf, writtenFor}
-use Rattle.protocol.specs.Queries.{usualLimit, queryType, passes, ownPayload, ownBytes, ownTaken}
-use Rattle.protocol.specs.Calls.{early, messageOutcome, messageResult, shortOutput, otherRoom, ownRules, asking, ownOutcome, ownResult}
-use Rattle.protocol.proofs.Outcomes.{asked-in}
-use Rattle.protocol.proofs.InOrder.{state-facts}
-use Rattle.refusals.specs.Numbers.{ownNumber}
-use Rattle.refusals.proofs.Joined.{own-is}
-use Rattle.memory.specs.declared.search.Looked.{Looked}
-use Rattle.memory.specs.Queries.{looked}
-use Rattle.forwarding.specs.Messages.{sendable, countIf, writtenIf}
-use Rattle.forwarding.specs.Passing.{passingOf}
-use Rattle.forwarding.proofs.LineLaws.{flag-of, each-same}
-use Rattle.station.specs.declared.acted.Acted.{Acted}
-use Rattle.station.specs.declared.asking.Sent.{Sent}
-use Rattle.station.specs.Acting.{actOutcome, actedFor}
-use Rattle.station.specs.Steps.{livesIn, tablesIn, ownLines, ownWritten, sentBy, stored}
-use Rattle.station.proofs.StateLaws.{partsOf, message-acts, message-is, stored-by}
-use Rattle.station.proofs.ReturnLaws.{table-of}
-use Rattle.station.proofs.ActLaws.{seen-is}
+use Rattle.protocol.specs.declared.Lookup.{Lookup}
+use Rattle.protocol.specs.declared.Report.{Report}
+use Rattle.protocol.specs.Memory.{
+  Memory,
+  memoryOf,
+  capacity,
+  here,
+  gone,
+  Number,
+  numberIn,
+  numberFrom,
+  Query,
+  queriesIn,
+  find,
+  lookupOf,
+  noTwice,
+  askerFits,
+  memoryInOrder,
+  rememberIf,
+  left,
+  leftAll,
+}
+use Rattle.protocol.specs.Lines.{lineIn, livesIn, nowhere, emptyLine, withPong}
+use Rattle.protocol.specs.State.{Station, Change, stationOf, lookedUp, lineAt, withLine}
+use Rattle.protocol.specs.Order.{linesInOrder, inOrder}
+use Rattle.protocol.specs.Outcomes.{Terms, Result, Outcome, Step, quiet, sends, writtenFor, pickResult, refusedOr, stored, unused, usedOf}
+use Rattle.protocol.specs.Queries.{usualLimit, hasText, queryRules, queryTaken, queryStep, ownLines, ownBytes}
+use Rattle.protocol.specs.Hits.{hitStep, hitRules, hitTaken}
+use Rattle.protocol.specs.Pings.{pingStep, pingRules, pingTaken, pongStep, pongRules, arrivedPong}
+use Rattle.protocol.specs.Calls.{
+  openingRules,
+  opening,
+  closingRules,
+  closing,
+  closedState,
+  notOpen,
+  shortRoute,
+  otherRoom,
+  unfitAreas,
+  extentRules,
+  earlyRules,
+  early,
+  updateStep,
+  byType,
+  arrived,
+  arriving,
+  messageOutcome,
+  ownRules,
+  ownAnswer,
+  asking,
+  ownTaken,
+  ownOutcome,
+}
+use Rattle.protocol.proofs.Outcomes.{eachLine-at}
+use Rattle.station.specs.declared.actions.Action.{Action}
+use Rattle.station.specs.Actions.{actionOf, quietAction, Does, Whole, Fit, acting}
+use Rattle.station.specs.Calls.{Met, MessageMet, OwnMet, Changed, ownSent, Sends}
+use Rattle.station.proofs.ActionLaws.{step-refused}
 
--- the bytes used of a message
-module _ (n : ℕ) (m : List ℕ) where
-  pub used-below : {size : ℕ} → n < 1 → size ≡ sizeOf m → 23 + size ≡ usedOf n m
-  used-below h es = rw (lt-leb 1 n h, es)
+-- ---- what a message does by its type
 
-  pub used-above : {size : ℕ} → 5 < n → size ≡ sizeOf m → 23 + size ≡ usedOf n m
-  used-above h es = let u : (leb 1 n && leb n 5) ≡ false = ap (λ b. leb 1 n && b) (lt-leb n 5 h) ∙ and-false (leb 1 n) in rw (u, es)
+-- a step that is refused by n or else r leaves the route area, where r does; one that writes nothing leaves the output area
+module _ (n : ℕ) (c : Change) (route : List ℕ) (r : Step) where
+  route-by : (b : Bool) → r .route ≡ route → route ≡ pickResult b r (quiet n c route) .route
+  route-by true e = sym e
+  route-by false e = refl
 
-  pub used-none : 1 ≤ n → n ≤ 5 → 0 ≡ usedOf n m
-  used-none a b = rw (le-leb 1 n a, le-leb n 5 b)
+  route-kept : r .route ≡ route → route ≡ refusedOr n c route r .route
+  route-kept e = route-by (eqb n 0) e
 
--- a message
-module _ (s : Station) (line clock : ℕ) (own : Own) (m out route : List ℕ) (eight : length (s .lines) ≡ 8) where
-  abbrev acts : ℕ → Outcome
-  acts n = actOutcome n s (line % 8) clock own m route
+  silent-by : (out : List ℕ) (b : Bool) → r .sent ≡ [] → out ≡ over 0 (pickResult b r (quiet n c route) .sent) out
+  silent-by out true e = rw e
+  silent-by out false e = refl
 
-  abbrev leaves : Outcome
-  leaves = messageOutcome s line clock own m (length out) route
+  silent : (out : List ℕ) → r .sent ≡ [] → out ≡ over 0 (refusedOr n c route r .sent) out
+  silent out e = silent-by out (eqb n 0) e
 
-  abbrev first : ℕ
-  first = early s line m (length out) (length route)
+module _ (room : ℕ) (lines : List Line) (l : ℕ) (k : Lookup) (m : List ℕ) (t : Terms) (route out : List ℕ) where
+  abbrev unchanged : Change
+  unchanged = record { line = lineIn lines l; taken = false }
 
-  -- what it does but for the state, by its first refusal
-  pub arrive-done : {n : ℕ} {a : Acted} {o r : List ℕ} → n ≡ first → a ≡ actedFor n s (line % 8) clock own m route → o ≡ over 0 (acts n .sent) out → r ≡ acts n .route
-      → (a ≡ actedFor first s (line % 8) clock own m route) × ((o ≡ over 0 (leaves .sent) out) × ((r ≡ leaves .route) × (length (s .lines) ≡ 8)))
-  arrive-done en ea eo er =
-      let u : acts _ ≡ leaves = ap acts en ∙ sym (message-acts s line clock own m (length out) route) in (
-        ea ∙ ap (λ k. actedFor k s (line % 8) clock own m route) en,
-        (eo ∙ ap (λ (v : Outcome). over 0 (v .sent) out) u, (er ∙ ap (λ (v : Outcome). v .route) u, eight)),
-      )
+  -- a message whose first refusal is n is done, with the route area after it
+  abbrev Done : ℕ → Action → List ℕ → List ℕ → Type 0
+  Done n a out′ route′ = Does (acting n room lines l k m t route) a out out′ × (route′ ≡ acting n room lines l k m t route .route)
 
-  -- and with the state
-  pub message-done : {count next used low high : ℕ} {a : Acted} {lo hi asker : List ℕ} → a ≡ actedFor first s (line % 8) clock own m route
-      → low ≡ little (take 8 m) → high ≡ little (take 8 (drop 8 m))
-      → lo ≡ set (s .lo) (s .next % 512) (cond (a .remember) low (getD (s .lo) (s .next % 512) 0))
-      → hi ≡ set (s .hi) (s .next % 512) (cond (a .remember) high (getD (s .hi) (s .next % 512) 0))
-      → asker ≡ set (s .asker) (s .next % 512) (cond (a .remember) (line % 8) (getD (s .asker) (s .next % 512) 0))
-      → count ≡ cond (a .remember) (min 512 (s .count + 1)) (s .count) → next ≡ cond (a .remember) (onward 512 (s .next)) (s .next)
-      → used ≡ usedOf (a .answer) m
-      → partsOf a used
-      (record { room = s .room; lines = set (s .lines) (line % 8) (a .line); lo = lo; hi = hi; asker = asker; count = count; next = next })
-      ≡ messageResult s line clock own m (length out) route
-  unfolding stored
-  message-done ea el eh elo ehi eas ec ex eu =
-      rw (elo, ehi, el, eh, eas, ec, ex, eu) (message-is s line clock own m (length out) route eight refl ea)
+  pub act-refused : {n : ℕ} {a : Action} → (n ≡ 0 → ⊥) → a ≡ quietAction n (lineIn lines l) → Done n a out route
+  act-refused {n} z ea = (
+    step-refused n (lineIn lines l) route (byType usualLimit room lines l k m t route) out refl z ea,
+    rw (ne-eqb n 0 z),
+  )
 
--- an own query: its refusals
-module _ (s : Station) (number text : List ℕ) (out route : ℕ) where
-  pub own-refusal-is : {order zero : Bool} {k : Looked} {a : ℕ} → order ≡ inOrder s → k ≡ looked (find (remembered s) (numberIn number)) → zero ≡ any (eqb 0) text
-      → a ≡ ownNumber order (s .room) out route (length text) zero (k .found) → a ≡ firstOf (ownRules s number text out route)
-  own-refusal-is {order} {zero} {k} eo ek ez ea =
-      ea
-      ∙ ap (λ b. ownNumber b (s .room) out route (length text) zero (k .found)) eo
-      ∙ ap₂ (λ z f. ownNumber (inOrder s) (s .room) out route (length text) z f) ez (seen-is s number ek)
-      ∙ sym (own-is s number text out route)
+  module _ {n : ℕ} (z : n ≡ 0) (h : Header) (eh : h ≡ headerIn m) where
+    kind-is : kindOf m ≡ h .kind
+    kind-is = sym (ap (λ (h : Header). h .kind) eh)
 
-  -- one that is not refused fits the output area
-  pub own-fits : {n : ℕ} → n ≡ firstOf (ownRules s number text out route) → n ≡ 0 → (length text ≤ 4093) × (4119 ≤ out)
-  own-fits e z =
-      let p = no-refusal (ownRules s number text out route) refl (sym e ∙ z) in
-      (ltb-false 4093 (length text) (p .1 .1 .0), ltb-false out 4119 (or-fst (shortOutput out) (otherRoom s route) (p .1 .0)))
+    -- it is done as its type's step is
+    by-step : (r : Step) {a : Action} {out′ route′ : List ℕ} → byType usualLimit room lines l k m t route ≡ r
+        → Does r a out out′ → route′ ≡ r .route → Done n a out′ route′
+    by-step r {a} {out′} {route′} e d f =
+        rw (eq-eqb n 0 z) (subst (λ (r : Step). Does r a out out′ × (route′ ≡ r .route)) (sym e) (d, f))
 
--- what is sent of it
-module _ (n : ℕ) (to : List Bool) (number text out : List ℕ) (long : length number ≡ 16) where
-  abbrev bytes : List ℕ
-  bytes = ownBytes usualLimit number text
+    pub act-ping : h .kind ≡ pingType → {a : Action} {out′ : List ℕ} → ((area : List ℕ) → Does (pingStep lines l t m area) a out out′) → Done n a out′ route
+    unfolding byType pingStep
+    act-ping e1 d =
+        by-step (pingStep lines l t m route) (rw (eq-eqb (kindOf m) pingType (kind-is ∙ e1))) (d route)
+        (route-kept (firstOf (pingRules (lineIn lines l .pinged) (lineIn lines l .pingtime) (t .clock) (headerIn m))) unchanged route
+        (pingTaken lines l t m route) refl)
 
-  abbrev OwnDone : Sent → List ℕ → Type 0
-  OwnDone r o = (r ≡ sentBy n to bytes) × (o ≡ over 0 (ownWritten n to bytes) out)
+    module _ (n1 : h .kind ≡ pingType → ⊥) where
+      t1 : eqb (kindOf m) pingType ≡ false
+      t1 = ne-eqb (kindOf m) pingType (λ e. n1 (sym kind-is ∙ e))
 
-  abbrev sent : ℕ → List Bool → Sent
-  sent w ts = record { written = w; to = ts }
+      pub act-pong : h .kind ≡ pongType → {a : Action} → ((area : List ℕ) → a ≡ actionOf (pongStep (lineIn lines l) (t .clock) m area)) → Done n a out route
+      unfolding byType pongStep
+      act-pong e2 d =
+          by-step (pongStep (lineIn lines l) (t .clock) m route) (rw (t1, eq-eqb (kindOf m) pongType (kind-is ∙ e2)))
+          (record { action = d route; output = silent (firstOf (pongRules (headerIn m))) unchanged route stays out refl })
+          (route-kept (firstOf (pongRules (headerIn m))) unchanged route stays refl)
+        where
+          stays : Step
+          stays = quiet 0 (record { line = withPong (lineIn lines l) (arrivedPong (t .clock) m); taken = false }) route
 
-  pub own-refused : (n ≡ 0 → ⊥) → OwnDone (sent 0 nobody) out
-  own-refused z = let t = ne-eqb n 0 z in (rw t, rw t)
+      module _ (n2 : h .kind ≡ pongType → ⊥) where
+        t2 : eqb (kindOf m) pongType ≡ false
+        t2 = ne-eqb (kindOf m) pongType (λ e. n2 (sym kind-is ∙ e))
 
-  pub own-nobody : {ts : List Bool} → n ≡ 0 → ts ≡ to → any (λ b. b) ts ≡ false → OwnDone (sent 0 ts) out
-  own-nobody z et ea = let t = eq-eqb n 0 z in let f : any (λ b. b) to ≡ false = ap (any (λ b. b)) (sym et) ∙ ea in (rw (t, f, et), rw (t, f))
+        pub act-update : h .kind ≡ routeUpdate → {a : Action} {route′ : List ℕ} → a ≡ actionOf (updateStep room l (lineIn lines l) m route)
+            → route′ ≡ updateStep room l (lineIn lines l) m route .route → Done n a out route′
+        unfolding byType updateStep
+        act-update e3 d f =
+            by-step (updateStep room l (lineIn lines l) m route) (rw (t1, t2, eq-eqb (kindOf m) routeUpdate (kind-is ∙ e3)))
+            (record { action = d; output = refl }) f
 
-  own-length : length bytes ≡ 26 + length text
-  own-length =
-      message-length number queryType usualLimit 0 (ownPayload text) long ∙ (simp length-append (omega arith))
+        module _ (n3 : h .kind ≡ routeUpdate → ⊥) where
+          t3 : eqb (kindOf m) routeUpdate ≡ false
+          t3 = ne-eqb (kindOf m) routeUpdate (λ e. n3 (sym kind-is ∙ e))
 
-  pub own-some : {ts : List Bool} {w : ℕ} {o : List ℕ} → n ≡ 0 → ts ≡ to → any (λ b. b) ts ≡ true → length text ≤ 4093 → 26 + length text ≤ length out
-      → w ≡ countIf (sendable text out) (26 + length text) → o ≡ writtenIf (sendable text out) bytes out → OwnDone (sent w ts) o
-  own-some z et ea small room ew eo =
-      let t = eq-eqb n 0 z in
-      let f : any (λ b. b) to ≡ true = ap (any (λ b. b)) (sym et) ∙ ea in
-      let fits : sendable text out ≡ true = rw (le-leb (length text) 4093 small, le-leb (26 + length text) (length out) room) in
-      let w : _ ≡ length bytes = ew ∙ ap (λ b. countIf b (26 + length text)) fits ∙ sym own-length in
-      (rw (t, f, et, w), rw (t, f) (eo ∙ ap (λ b. writtenIf b bytes out) fits))
+          pub act-query : h .kind ≡ queryType → {a : Action} {out′ : List ℕ} → Does (queryStep usualLimit room lines l k m route) a out out′ → Done n a out′ route
+          unfolding byType queryStep
+          act-query e4 d =
+              by-step (queryStep usualLimit room lines l k m route) (rw (t1, t2, t3, eq-eqb (kindOf m) queryType (kind-is ∙ e4))) d
+              (route-kept (firstOf (queryRules usualLimit (headerIn m) (hasText (payloadOf m)) k)) unchanged route
+              (queryTaken usualLimit room lines l m route) refl)
 
--- the lines that it goes to
-pub own-lines : (lines : List Line) (room : ℕ) (text route : List ℕ) {live : List Bool} {tables : List Table} {to : List Bool} → live ≡ livesIn lines → tables ≡ tablesIn lines
-    → to ≡ passingOf live tables room route text 7 → to ≡ ownLines lines room text route
-unfolding passingOf
-own-lines lines room text route ev et eo =
-    eo
-    ∙ (rw (ev, et)
-    (each-same _ _
-    (λ k b. ap₂ (λ f t. passes f (heldIn t (partOf room k route)) text 7) (flag-of (λ k. getD lines k nowhere .live) k b) (table-of lines k b))))
+          module _ (n4 : h .kind ≡ queryType → ⊥) where
+            t4 : eqb (kindOf m) queryType ≡ false
+            t4 = ne-eqb (kindOf m) queryType (λ e. n4 (sym kind-is ∙ e))
 
--- the one return of the call
-module _ (s : Station) (number text out route : List ℕ) where
-  abbrev numberBy : ℕ
-  numberBy = firstOf (ownRules s number text (length out) (length route))
+            pub act-hit : h .kind ≡ hitType → {a : Action} {out′ : List ℕ} → ((area : List ℕ) → Does (hitStep (lineIn lines l) k m area) a out out′) → Done n a out′ route
+            unfolding byType hitStep
+            act-hit e5 d =
+                by-step (hitStep (lineIn lines l) k m route) (rw (t1, t2, t3, t4, eq-eqb (kindOf m) hitType (kind-is ∙ e5))) (d route)
+                (route-kept (firstOf (hitRules (headerIn m) k)) unchanged route (hitTaken (lineIn lines l) k m route) refl)
 
-  abbrev toBy : List Bool
-  toBy = ownLines (s .lines) (s .room) text route
+            pub act-none : (h .kind ≡ hitType → ⊥) → {a : Action} → a ≡ quietAction 7 (lineIn lines l) → Done n a out route
+            unfolding byType
+            act-none n5 d =
+                by-step (quiet 7 (record { line = lineIn lines l; taken = false }) route)
+                (rw (t1, t2, t3, t4, ne-eqb (kindOf m) hitType (λ e. n5 (sym kind-is ∙ e)))) (record { action = d; output = refl }) refl
 
-  abbrev bytesBy : List ℕ
-  bytesBy = ownBytes usualLimit number text
+-- ---- the first refusal of a call, given what is read off the lines
 
-  abbrev askedBy : ℕ → Sent → Station → Handled
-  askedBy n sent x =
+-- a test of every element is another where the two agree
+all-same : {A : Type 0} (f g : A → Bool) → ((x : A) → f x ≡ g x) → (xs : List A) → all f xs ≡ all g xs
+all-same f g h [] = refl
+all-same f g h (x ∷ xs) = ap₂ _&&_ (h x) (all-same f g h xs)
+
+module _ (room : ℕ) (lines : List Line) (q : Memory) where
+  abbrev state : Station
+  state = stationOf room lines q
+
+  fits-same : (a : ℕ) → askerFits (λ k. getD (livesIn lines) k false) a ≡ askerFits (λ k. lineIn lines k .live) a
+  fits-same a = by (ltb a 8) refl
+    where
+      by : (b : Bool) → ltb a 8 ≡ b
+          → ((b && getD (livesIn lines) a false) || (eqb a here || eqb a gone)) ≡ ((b && lineIn lines a .live) || (eqb a here || eqb a gone))
+      by true e =
+          let h : a < 8 = ltb-true a 8 e in
+          ap (λ b. b || (eqb a here || eqb a gone)) (eachLine-at (λ k. lineIn lines k .live) a (omega arith))
+      by false e = refl
+
+  -- the state is in order where its memory and its lines are
+  pub order-is : {b : Bool} → b ≡ (memoryInOrder capacity (λ k. getD (livesIn lines) k false) q && linesInOrder room lines) → b ≡ inOrder state
+  unfolding inOrder memoryInOrder
+  order-is e =
+      e ∙ ap (λ x. every (leb (q .count) capacity ∷ ltb (q .next) capacity ∷ noTwice (queriesIn capacity q) ∷ x ∷ []) && linesInOrder room lines)
+      (all-same _ _ (λ x. fits-same (x .asker)) (queriesIn capacity q))
+
+  module _ (line : ℕ) where
+    -- a test of a line that is asked only of the eight
+    same-test : (f : Line → Bool) → (not (ltb line 8) || f (lineIn lines (line % 8))) ≡ (not (ltb line 8) || f (lineIn lines line))
+    same-test f = by (ltb line 8) refl
+      where
+        by : (b : Bool) → ltb line 8 ≡ b → (not b || f (lineIn lines (line % 8))) ≡ (not b || f (lineIn lines line))
+        by true e = let h : line < 8 = ltb-true line 8 e in let k : line % 8 ≡ line = omega arith in rw k
+        by false e = refl
+
+    pub early-is : (m : List ℕ) (out route : ℕ) {n : ℕ} {order live : Bool} {size : ℕ} → order ≡ inOrder state → live ≡ lineIn lines (line % 8) .live
+        → size ≡ sizeOf m → n ≡ firstOf (earlyRules order room out route line live (length m) size) → n ≡ early state line m out route
+    unfolding early
+    early-is m out route eo el es en =
+        en
+        ∙ rw (eo, el, es)
+        (ap (λ x. firstOf ((not (inOrder state), 1) ∷ (unfitAreas room out route, 2) ∷ (x, 3) ∷ extentRules (length m) (sizeOf m)))
+        (same-test (λ x. not (x .live))))
+
+-- ---- an arriving message
+
+-- a report with the bytes used
+abbrev usedIn : Report → ℕ → Report
+usedIn q n =
+    record {
+      answer = q .answer;
+      used = n;
+      written = q .written;
+      to = q .to;
+      search = q .search;
+      delivered = q .delivered;
+      textat = q .textat;
+      textlen = q .textlen;
+    }
+
+module _ (room : ℕ) (lines : List Line) (q : Memory) (m : List ℕ) (t : Terms) (route out : List ℕ) where
+  -- what a step hands on, stored
+  met-by : (l : ℕ) (x : Number) (r : Step) {a : Action} {out′ route′ : List ℕ} {q′ : Memory} {used : ℕ} → a ≡ actionOf r → out′ ≡ over 0 (r .sent) out
+      → route′ ≡ r .route → q′ ≡ rememberIf (a .remember) capacity q x l → used ≡ cond (unused (a .report .answer)) 0 (23 + sizeOf m)
+      → Met (stored (state room lines q) l x r) (usedOf (r .answer) m) (usedIn (a .report) used) (stationOf room (set lines l (a .line)) q′) out out′ route′
+  met-by l x r ea eo er eq eu =
       record {
-        state = x;
-        answer = n;
-        used = 0;
-        written = sent .written;
-        to = sent .to;
-        search = false;
-        delivered = false;
-        textat = 0;
-        textlen = 0;
+        report = rw eu (ap (λ (a : Action). usedIn (a .report) (cond (unused (a .report .answer)) 0 (23 + sizeOf m))) ea);
+        state = rw eq (ap (λ (a : Action). stationOf room (set lines l (a .line)) (rememberIf (a .remember) capacity q x l)) ea);
+        output = eo;
+        area = er;
       }
 
-  by-answer : (n : ℕ) (b : Bool) → eqb n 0 ≡ b → n ≡ numberBy
-      → (askedBy n (record { written = length (cond b (writtenFor toBy bytesBy) []); to = cond b toBy nobody }) (stored s (s .lines) b (numberIn number) 8)
-      ≡ handled (pickOutcome b (ownTaken usualLimit s number text route) (quiet n s route)) 0)
-      × (cond b (writtenFor toBy bytesBy) [] ≡ pickOutcome b (ownTaken usualLimit s number text route) (quiet n s route) .sent)
-  by-answer n true e en =
-      let z : n ≡ 0 = eqb-true n 0 e in
-      let k = state-facts s (asked-in s number text (length out) (length route) (sym en ∙ z) .order) .next in
-      (rw (z, stored-by s (s .lines) true (numberIn number) 8 (λ _. (ltb-true (s .next) 512 k, refl))), refl)
-  by-answer n false e en = (rw (stored-by s (s .lines) false (numberIn number) 8 (λ t. absurd (clash t refl))), refl)
+  module _ (line n : ℕ) (en : n ≡ early (state room lines q) line m (t .out) (length route)) where
+    abbrev S : Station
+    S = state room lines q
 
-  answered-by : {n : ℕ} → n ≡ numberBy → ownOutcome s number text (length out) route ≡ pickOutcome (eqb n 0) (ownTaken usualLimit s number text route) (quiet n s route)
-  unfolding asking
-  answered-by en = rw en
+    -- a message with no first refusal came by one of the eight lines
+    below : n ≡ 0 → line < 8
+    unfolding early
+    below z =
+        let p : NoRefusal (earlyRules (inOrder S) room (t .out) (length route) line (lineIn lines line .live) (length m) (sizeOf m))
+        = no-refusal (earlyRules (inOrder S) room (t .out) (length route) line (lineIn lines line .live) (length m) (sizeOf m)) refl (sym en ∙ z) in
+        ltb-true line 8 (not-false (ltb line 8) (or-fst (not (ltb line 8)) (not (lineIn lines line .live)) (p .1 .1 .0)))
 
-  pub ask-done : {n count next low high : ℕ} {sent : Sent} {o lo hi asker : List ℕ} → n ≡ numberBy → sent ≡ sentBy n toBy bytesBy → o ≡ over 0 (ownWritten n toBy bytesBy) out
-      → low ≡ little (take 8 number) → high ≡ little (take 8 (drop 8 number))
-      → lo ≡ set (s .lo) (s .next % 512) (cond (eqb n 0) low (getD (s .lo) (s .next % 512) 0))
-      → hi ≡ set (s .hi) (s .next % 512) (cond (eqb n 0) high (getD (s .hi) (s .next % 512) 0))
-      → asker ≡ set (s .asker) (s .next % 512) (cond (eqb n 0) 8 (getD (s .asker) (s .next % 512) 0))
-      → count ≡ cond (eqb n 0) (min 512 (s .count + 1)) (s .count) → next ≡ cond (eqb n 0) (onward 512 (s .next)) (s .next)
-      → (askedBy n sent (record { room = s .room; lines = s .lines; lo = lo; hi = hi; asker = asker; count = count; next = next })
-      ≡ ownResult s number text (length out) route)
-      × (o ≡ over 0 (ownOutcome s number text (length out) route .sent) out)
-  unfolding stored
-  ask-done {n} en es eo el eh elo ehi eas ec ex =
-      let p = by-answer n (eqb n 0) refl en in
-      let u = answered-by en in (
-        rw (elo, ehi, el, eh, eas, ec, ex, es) (p .0 ∙ ap (λ (v : Outcome). handled v 0) (sym u)),
-        eo ∙ ap (λ b. over 0 b out) (p .1) ∙ ap (λ (v : Outcome). over 0 (v .sent) out) (sym u),
-      )
+    pub message-fits : (h : Header) → h ≡ headerIn m → n ≡ 0 → Fit room h m (t .out) (length route)
+    unfolding early
+    message-fits h eh z =
+        let p : NoRefusal (earlyRules (inOrder S) room (t .out) (length route) line (lineIn lines line .live) (length m) (sizeOf m))
+        = no-refusal (earlyRules (inOrder S) room (t .out) (length route) line (lineIn lines line .live) (length m) (sizeOf m)) refl (sym en ∙ z) in
+        let a : otherRoom room (length route) ≡ false = or-snd (ltb (t .out) largestMessage) (otherRoom room (length route)) (p .1 .0) in
+        let b : not (eqb (length route / 8) room) ≡ false = or-snd (shortRoute (length route)) (not (eqb (length route / 8) room)) a in
+        record {
+          message = record {
+            header = eh;
+            small = ltb-false 4096 (sizeOf m) (p .1 .1 .1 .1 .0);
+            whole = ltb-false (length m) (23 + sizeOf m) (p .1 .1 .1 .1 .1 .0);
+          };
+          output = ltb-false (t .out) largestMessage (or-fst (ltb (t .out) largestMessage) (otherRoom room (length route)) (p .1 .0));
+          rooms = eqb-true (length route / 8) room (not-false (eqb (length route / 8) room) b);
+        }
+
+    module _ {a : Action} {out′ route′ : List ℕ} {q′ : Memory} {used : ℕ}
+        (d : Done room lines (line % 8) (lookedUp S (numberIn m)) m t route out n a out′ route′)
+        (eq : q′ ≡ rememberIf (a .remember) capacity q (numberIn m) (line % 8))
+        (eu : used ≡ cond (unused (a .report .answer)) 0 (23 + sizeOf m)) where
+      abbrev Goal : Outcome → Type 0
+      Goal o = Met o (usedOf (o .answer) m) (usedIn (a .report) used) (stationOf room (set lines (line % 8) (a .line)) q′) out out′ route′
+
+      taken : eqb n 0 ≡ true → Goal (arrived usualLimit S line m t route)
+      taken b =
+          let z : n ≡ 0 = eqb-true n 0 b in
+          let h : line < 8 = below z in
+          let k : line % 8 ≡ line = omega arith in
+          let e : Does (byType usualLimit room lines line (lookedUp S (numberIn m)) m t route) a out out′
+          × (route′ ≡ byType usualLimit room lines line (lookedUp S (numberIn m)) m t route .route) = rw (b, k) at d in
+          rw k (met-by line (numberIn m) (byType usualLimit room lines line (lookedUp S (numberIn m)) m t route)
+          (e .0 .action) (e .0 .output) (e .1) (rw k at eq) eu)
+
+      refused : eqb n 0 ≡ false → Goal (quiet n S route)
+      refused b =
+          let e : Does (quiet n (record { line = lineIn lines (line % 8); taken = false }) route) a out out′ × (route′ ≡ route) = rw b at d in
+          let w = met-by (line % 8) (numberIn m) (quiet n (record { line = lineIn lines (line % 8); taken = false }) route)
+          (e .0 .action) (e .0 .output) (e .1) eq eu in
+          record {
+            report = w .report;
+            state = w .state ∙ ap (λ (x : List Line). stationOf room x q) (set-getD lines (line % 8) nowhere);
+            output = w .output;
+            area = w .area;
+          }
+
+      pub message-done : MessageMet S line m t route (usedIn (a .report) used) (stationOf room (set lines (line % 8) (a .line)) q′) out out′ route′
+      unfolding arriving
+      message-done = subst (λ n. Goal (refusedOr n S route (arrived usualLimit S line m t route))) en (by (eqb n 0) refl)
+        where
+          by : (b : Bool) → eqb n 0 ≡ b → Goal (pickResult b (arrived usualLimit S line m t route) (quiet n S route))
+          by true e = taken e
+          by false e = refused e
+
+-- ---- a line opened or closed
+
+-- who is gone already stays so
+gone-stays : (xs : List ℕ) → map (left gone) xs ≡ xs
+gone-stays [] = refl
+gone-stays (x ∷ xs) = ap₂ _∷_ (one (eqb x gone) refl) (gone-stays xs)
+  where
+    one : (b : Bool) → eqb x gone ≡ b → cond b gone x ≡ x
+    one true e = sym (eqb-true x gone e)
+    one false e = refl
+
+module _ (room : ℕ) (lines : List Line) (q : Memory) (line : ℕ) where
+  -- the line's record as it stands, or, where the answer n is 0, another
+  record-put : (n : ℕ) (x : Line) (b : Bool) → eqb n 0 ≡ b → (n ≡ 0 → line < 8)
+      → set lines (line % 8) (cond b x (lineIn lines (line % 8))) ≡ cond b (set lines line x) lines
+  record-put n x true e h = let f : line < 8 = h (eqb-true n 0 e) in let k : line % 8 ≡ line = omega arith in rw k
+  record-put n x false e h = set-getD lines (line % 8) nowhere
+
+  first-two : (order test : Bool) {n : ℕ} → n ≡ firstOf ((not order, 1) ∷ (not (ltb line 8) || test, 3) ∷ []) → n ≡ 0 → line < 8
+  first-two order test e z =
+      let p : NoRefusal ((not order, 1) ∷ (not (ltb line 8) || test, 3) ∷ [])
+      = no-refusal ((not order, 1) ∷ (not (ltb line 8) || test, 3) ∷ []) refl (sym e ∙ z) in
+      ltb-true line 8 (not-false (ltb line 8) (or-fst (not (ltb line 8)) test (p .1 .0)))
+
+  module _ {n : ℕ} {order live : Bool} (eo : order ≡ inOrder (state room lines q)) (el : live ≡ lineIn lines (line % 8) .live) where
+    pub opening-done : n ≡ firstOf (openingRules order line live) → {y : Line} → y ≡ cond (eqb n 0) (emptyLine true) (lineIn lines (line % 8))
+        → Changed (opening (state room lines q) line) n (stationOf room (set lines (line % 8) y) q)
+    unfolding opening
+    opening-done en {y} ey = subst (λ k. Changed (refusedOr k S [] (quiet 0 (withLine S line (emptyLine true)) [])) n (stationOf room (set lines (line % 8) y) q)) number
+        (rw ey (by (eqb n 0) refl))
+      where
+        S : Station
+        S = state room lines q
+
+        number : n ≡ firstOf (openingRules (inOrder S) line (lineIn lines line .live))
+        number = en ∙ rw (eo, el) (ap (λ x. firstOf ((not (inOrder S), 1) ∷ (x, 3) ∷ [])) (same-test room lines q line (λ x. x .live)))
+
+        by : (b : Bool) → eqb n 0 ≡ b
+            → Changed (pickResult b (quiet 0 (withLine S line (emptyLine true)) []) (quiet n S [])) n
+            (stationOf room (set lines (line % 8) (cond b (emptyLine true) (lineIn lines (line % 8)))) q)
+        by true e =
+            record {
+              answered = eqb-true n 0 e;
+              state = ap (λ (x : List Line). stationOf room x q) (record-put n (emptyLine true) true e (first-two (inOrder S) (lineIn lines line .live) number));
+            }
+        by false e =
+            record {
+              answered = refl;
+              state = ap (λ (x : List Line). stationOf room x q) (record-put n (emptyLine true) false e (first-two (inOrder S) (lineIn lines line .live) number));
+            }
+
+    pub closing-done : n ≡ firstOf (closingRules order line live) → {y : Line} {who : ℕ} {asker : List ℕ}
+        → y ≡ cond (eqb n 0) (emptyLine false) (lineIn lines (line % 8)) → who ≡ cond (eqb n 0) (line % 8) gone → asker ≡ map (left who) (q .asker)
+        → Changed (closing (state room lines q) line) n
+        (stationOf room (set lines (line % 8) y) (memoryOf (q .lo) (q .hi) asker (q .count) (q .next)))
+    unfolding closing
+    closing-done en {y} {who} {asker} ey ew ea =
+        subst (λ k. Changed (refusedOr k S [] (quiet 0 (closedState S line) [])) n (stationOf room (set lines (line % 8) y) (memoryOf (q .lo) (q .hi) asker (q .count) (q .next)))) number
+        (rw (ea, ey, ew) (by (eqb n 0) refl))
+      where
+        S : Station
+        S = state room lines q
+
+        number : n ≡ firstOf (closingRules (inOrder S) line (lineIn lines line .live))
+        number = en ∙ rw (eo, el) (ap (λ x. firstOf ((not (inOrder S), 1) ∷ (x, 3) ∷ [])) (same-test room lines q line (λ x. not (x .live))))
+
+        by : (b : Bool) → eqb n 0 ≡ b
+            → Changed (pickResult b (quiet 0 (closedState S line) []) (quiet n S [])) n
+            (stationOf room (set lines (line % 8) (cond b (emptyLine false) (lineIn lines (line % 8))))
+            (memoryOf (q .lo) (q .hi) (map (left (cond b (line % 8) gone)) (q .asker)) (q .count) (q .next)))
+        by true e =
+            let f : line < 8 = first-two (inOrder S) (not (lineIn lines line .live)) number (eqb-true n 0 e) in
+            let k : line % 8 ≡ line = omega arith in
+            rw k (record { answered = eqb-true n 0 e; state = refl })
+        by false e =
+            record {
+              answered = refl;
+              state = ap₂ (λ (x : List Line) a. stationOf room x (memoryOf (q .lo) (q .hi) a (q .count) (q .next)))
+                  (set-getD lines (line % 8) nowhere) (gone-stays (q .asker));
+            }
+
+-- ---- an own query
+
+module _ (room : ℕ) (lines : List Line) (q : Memory) (number text route out : List ℕ) where
+  pub own-is : {n : ℕ} {order zero : Bool} {known : Lookup} → order ≡ inOrder (state room lines q) → zero ≡ any (eqb 0) text
+      → known ≡ lookedUp (state room lines q) (numberIn number)
+      → n ≡ firstOf (ownRules order room (length out) (length route) (length text) zero known)
+      → n ≡ ownAnswer (state room lines q) number text (length out) (length route)
+  unfolding ownAnswer
+  own-is eo ez ek en = en ∙ rw (eo, ez, ek)
+
+  module _ {n : ℕ} (en : n ≡ ownAnswer (state room lines q) number text (length out) (length route)) where
+    pub own-fits : n ≡ 0 → (length text ≤ 4093) × (4119 ≤ length out)
+    unfolding ownAnswer
+    own-fits z =
+        let rules = ownRules (inOrder (state room lines q)) room (length out) (length route) (length text) (any (eqb 0) text)
+        (lookedUp (state room lines q) (numberIn number)) in
+        let p : NoRefusal rules = no-refusal rules refl (sym en ∙ z) in (
+          ltb-false 4093 (length text) (p .1 .1 .0),
+          ltb-false (length out) largestMessage (or-fst (ltb (length out) largestMessage) (otherRoom room (length route)) (p .1 .0)),
+        )
+
+    pub own-done : {r : Report} {out′ : List ℕ} {q′ : Memory} {taken : Bool} → Sends (ownSent usualLimit n room lines number text route) r out out′
+        → taken ≡ eqb n 0 → q′ ≡ rememberIf taken capacity q (numberIn number) here
+        → OwnMet (state room lines q) number text route r (stationOf room lines q′) out out′
+    unfolding asking ownSent
+    own-done {r} {out′} {q′} d et eq =
+        subst (λ k. Met (refusedOr k S route (ownTaken usualLimit S number text route)) 0 r (stationOf room lines q′) out out′ route) en
+        (rw (eq, et) (by (eqb n 0) refl d))
+      where
+        S : Station
+        S = state room lines q
+
+        sent : Bool → Result Bool
+        sent b = sends (ownLines usualLimit room lines text route) (writtenFor (ownLines usualLimit room lines text route) (ownBytes usualLimit number text)) (quiet 0 b route)
+
+        by : (b : Bool) → eqb n 0 ≡ b → Sends (pickResult b (sent (eqb n 0)) (quiet n (eqb n 0) route)) r out out′
+            → Met (pickResult b (ownTaken usualLimit S number text route) (quiet n S route)) 0 r
+            (stationOf room lines (rememberIf b capacity q (numberIn number) here)) out out′ route
+        by true e w = record { report = w .report; state = refl; output = w .output; area = refl }
+        by false e w = record { report = w .report; state = refl; output = w .output; area = refl }

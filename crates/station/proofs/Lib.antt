@@ -1,7 +1,3 @@
--- Laws that join the steps to the rules.
-pub mod LineLaws
-pub mod StateLaws
-pub mod StepLaws
-pub mod ReturnLaws
-pub mod ActLaws
+-- Laws of the steps and of the calls.
+pub mod ActionLaws
 pub mod CallLaws

@@ -1,73 +1,61 @@
-// Whether a state is in order.
+// Whether a state is in order, and what it remembers of a number.
 ghost use mathlib.Core.Path.{_≡_};
-ghost use Rattle.laws.specs.Tests.{all};
-ghost use Rattle.protocol.specs.Memory.{find, numberIn, remembered};
-ghost use Rattle.protocol.specs.Order.{lineInOrder, inOrder};
-ghost use Rattle.memory.specs.Queries.{looked};
-ghost use Rattle.station.specs.Acting.{stationOf};
-use crate::lines::lives;
-use crate::numbers::high_half;
-use crate::numbers::low_half;
-use memory::order::Surveyed;
-use pinging::order::line_in_order;
+ghost use mathlib.Core.Bool.{_&&_};
+ghost use lib.ListN.{getD};
+ghost use Rattle.protocol.specs.Memory.{memoryOf, numberFrom, capacity, memoryInOrder, queriesIn, find, lookupOf};
+ghost use Rattle.protocol.specs.State.{stationOf};
+ghost use Rattle.protocol.specs.Order.{inOrder};
+use crate::lines::view;
+use memory::order::Survey;
 use protocol::Line;
 
-fn lines_in_order(lines: [Line; 8], room: usize) -> bool
-    ensures { λ r. ⌜ r ≡ all (lineInOrder room) lines ⌝ }
-{
-    let mut k = 0;
-    while k < 8 {
-        if !line_in_order(lines[k], room) {
-            return false;
-        }
-        k += 1;
-    }
-    true
-}
-
-// Whether the remembered queries and the lines are in order, as a state has them, and the query that has the message's number. The lines
-// are tested first, so that they are copied once.
+// Given whether the lines are in order and which are open: whether all is, and what is known of the number (low, high).
 pub(crate) fn survey<'a>(
     lo: &'a [u64; 512],
     hi: &'a [u64; 512],
     asker: &'a [u8; 512],
-    next: usize,
     count: usize,
-    room: usize,
-    lines: [Line; 8],
-    m: &[u8],
-) -> Surveyed
-    ensures order { λ r. ⌜ r .order ≡ inOrder (stationOf room lines (now (lo .entry)) (now (hi .entry)) (now (asker .entry)) count next) ⌝ }
-    ensures known { λ r. ⌜ r .known ≡ looked (find (remembered (stationOf room lines (now (lo .entry)) (now (hi .entry)) (now (asker .entry)) count next)) (numberIn (now (m .entry)))) ⌝ }
+    next: usize,
+    good: bool,
+    live: [bool; 8],
+    low: u64,
+    high: u64,
+) -> Survey
+    ensures order { λ r.
+      let memory = memoryOf (now (lo .entry)) (now (hi .entry)) (now (asker .entry)) count next in
+      ⌜ r .order ≡ (memoryInOrder capacity (λ k. getD live k false) memory && good) ⌝ }
+    ensures known { λ r.
+      let memory = memoryOf (now (lo .entry)) (now (hi .entry)) (now (asker .entry)) count next in
+      ⌜ r .known ≡ lookupOf (find (queriesIn capacity memory) (numberFrom low high)) ⌝ }
 {
-    let good = lines_in_order(lines, room);
-    let live = lives(lines);
-    let low = low_half(m);
-    let high = high_half(m);
-    let s = memory::order::survey(lo, hi, asker, next, count, live, low, high);
+    let s = memory::order::survey(lo, hi, asker, count, next, live, low, high);
     if good {
         return s;
     }
     let known = s.known;
-    Surveyed {
+    Survey {
         order: false,
         known,
     }
 }
 
-// The same without a message. It is asked with a number of ones, which is looked up only where a word of the filter is all ones.
+// Whether a state is in order. It is asked with a number of ones, which is looked up only where a word of the filter is all ones.
 pub fn in_order<'a>(
     lo: &'a [u64; 512],
     hi: &'a [u64; 512],
     asker: &'a [u8; 512],
-    next: usize,
     count: usize,
+    next: usize,
     room: usize,
     lines: [Line; 8],
 ) -> bool
-    ensures { λ r. ⌜ r ≡ inOrder (stationOf room lines (now (lo .entry)) (now (hi .entry)) (now (asker .entry)) count next) ⌝ }
+    ensures { λ r.
+      let s = stationOf room lines (memoryOf (now (lo .entry)) (now (hi .entry)) (now (asker .entry)) count next) in
+      ⌜ r ≡ inOrder s ⌝ }
 {
-    let number = [255; 16];
-    let s = survey(lo, hi, asker, next, count, room, lines, &number);
+    let v = view(lines, room, 0);
+    let live = v.live;
+    let ones = 18446744073709551615;
+    let s = survey(lo, hi, asker, count, next, v.order, live, ones, ones);
     s.order
 }

@@ -1,5 +1,5 @@
 -- The eight tables.
-use Rattle.station.proofs.ReturnLaws.{tables-are}
+use Rattle.station.proofs.ActionLaws.{tables-are}
 use borrow.Author.Needs.{needs}
 use Rattle.station.proofs.lines.tables_of.Statement.{statement}
 use Rattle.station.proofs.lines.tables_of.Tie as tie
