@@ -13,6 +13,5 @@ pub mod Rings
 pub mod RingScan
 pub mod InPlace
 pub mod Truth
--- Laws on lists and numbers that proofs of several crates cite.
 pub mod Passing
 pub mod Ranks

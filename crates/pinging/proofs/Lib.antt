@@ -2,6 +2,5 @@
 pub mod RingLaws
 pub mod WalkLaws
 pub mod SendLaws
-pub mod Joined
 pub mod Theorems
 pub mod Vectors

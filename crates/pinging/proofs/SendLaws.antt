@@ -1,250 +1,231 @@
--- The messages that are sent.
+-- The messages that are put, one behind the other, and those of the whole answer.
 -- Assumes nothing.
-use Prim.Native.Nat.{ℕ, _+_, _-_, _*_, _/_, _%_, _≤_, _<_, min, max}
+use Prim.Native.Nat.{ℕ, _+_, _-_, _*_, _%_, _/_, _≤_, _<_, min, max}
 use mathlib.Core.Path.{_≡_, refl, sym, ap, ap₂, _∙_}
-use mathlib.Core.Bool.{Bool, true, false, _||_}
-use mathlib.Core.List.{List, [], _∷_, _++_, append-nil}
+use mathlib.Core.Bool.{Bool, true, false, cond, _||_}
+use mathlib.Core.List.{List, [], _∷_, _++_, map, append-assoc, append-nil}
 use native.Mathlib.Omega.{arith}
-use lib.ListN.{length, getD, take, drop, length-append}
-use lib.Seq.{take-nil}
+use lib.ListN.{length, getD, take, drop, length-append, length-take}
 use borrow.Author.Tests.{le-leb, lt-ltb, le-ltb}
 use borrow.Rule.Slice.PartMut.{putMid}
 use Rattle.laws.specs.Bytes.{littleBytes}
-use Rattle.laws.specs.Parts.{over}
+use Rattle.laws.specs.Parts.{over, copied}
 use Rattle.laws.proofs.Over.{over-length}
-use Rattle.laws.proofs.Writing.{written-next, lent-part}
-use Rattle.wire.specs.Header.{header, message, withHeader}
-use Rattle.wire.proofs.HeaderLaws.{header-length}
+use Rattle.laws.proofs.Writing.{written-next, lent-part, copied-part}
+use Rattle.laws.proofs.Ranks.{four-front}
+use Rattle.wire.specs.Header.{header, message, withHeader, pongType}
+use Rattle.wire.proofs.HeaderLaws.{header-length, message-length}
 use Rattle.protocol.specs.declared.Pong.{Pong}
 use Rattle.protocol.specs.declared.Line.{Line}
 use Rattle.protocol.specs.declared.Own.{Own}
-use Rattle.protocol.specs.Lines.{elapsed, isOther, nowhere, storedPongs}
-use Rattle.protocol.specs.Pings.{pongType, ownPong, ranked, isFresh}
-use Rattle.pinging.specs.Sending.{pongMessage, storedMessage, storedBytes, storedFor, freshOf, ranksIn, mostOf, placeOf, ownBytes, pongsFor, pongsWritten, ownCount, pongCount, countWritten}
-use Rattle.laws.proofs.Ranks.{two-front, four-front, over-split, over-none}
-use Rattle.pinging.proofs.RingLaws.{pongIn, pongAt, ranked-place}
-use Rattle.pinging.proofs.WalkLaws.{turnAt, leftFrom, walk-turns, left-next, turn-past, turn-other, left-past, most-all, most-few, ten-next, turn-one, bytes-append}
+use Rattle.protocol.specs.Lines.{elapsed}
+use Rattle.protocol.specs.Pings.{oneHopMore, pongBytes, storedBytes, storedSent, ownPong, ownSent, pongsSent}
+use Rattle.pinging.specs.Ring.{countsIn, nextsIn, ringsIn, largest}
+use Rattle.pinging.specs.Sending.{PongsPut, ifFresh, ownCount, pongCount, pongsWritten, countWritten}
+use Rattle.pinging.proofs.RingLaws.{pongIn}
+use Rattle.pinging.proofs.WalkLaws.{placeAt, turnAt, turned, turned-next, turn-none, turn-some, ten-made, all-made}
 
--- two bytes, four, and two times four
-pub all-joined : (port address files kilobytes : List ℕ) → length port ≡ 2 → length address ≡ 4 → length files ≡ 4 → length kilobytes ≡ 4
-    → getD port 0 0 ∷ getD port 1 0
+-- ---- one pong
+
+-- the parts of the own pong's 14 bytes
+pub own-parts : (port files kilobytes : ℕ) (address ps fs ks : List ℕ) → length address ≡ 4 → ps ≡ littleBytes 2 port
+    → fs ≡ littleBytes 4 files → ks ≡ littleBytes 4 kilobytes
+    → getD ps 0 0 ∷ getD ps 1 0
     ∷ getD address 0 0 ∷ getD address 1 0 ∷ getD address 2 0 ∷ getD address 3 0
-    ∷ getD files 0 0 ∷ getD files 1 0 ∷ getD files 2 0 ∷ getD files 3 0
-    ∷ getD kilobytes 0 0 ∷ getD kilobytes 1 0 ∷ getD kilobytes 2 0 ∷ getD kilobytes 3 0
+    ∷ getD fs 0 0 ∷ getD fs 1 0 ∷ getD fs 2 0 ∷ getD fs 3 0
+    ∷ getD ks 0 0 ∷ getD ks 1 0 ∷ getD ks 2 0 ∷ getD ks 3 0
     ∷ []
-    ≡ port ++ (address ++ (files ++ kilobytes))
-all-joined port address files kilobytes p a f k =
-    rw (four-front kilobytes [] k, append-nil kilobytes, four-front files kilobytes f, four-front address (files ++ kilobytes) a)
-    (two-front port (address ++ (files ++ kilobytes)) p)
+    ≡ littleBytes 2 port ++ (address ++ (littleBytes 4 files ++ littleBytes 4 kilobytes))
+own-parts port files kilobytes address ps fs ks a p f k =
+    rw (p, f, k)
+    (ap (λ l. port % 256 ∷ port / 256 % 256 ∷ l) (four-front address (littleBytes 4 files ++ littleBytes 4 kilobytes) a))
 
-pub own-parts : (own : Own) (port files kilobytes : List ℕ) → port ≡ littleBytes 2 (own .port) → files ≡ littleBytes 4 (own .files)
-    → kilobytes ≡ littleBytes 4 (own .kilobytes) → port ++ (own .address ++ (files ++ kilobytes)) ≡ ownPong own
-own-parts own port files kilobytes p f k = ap₂ (λ a b. a ++ (own .address ++ b)) p (ap₂ _++_ f k)
-
--- a header written at the front and the payload behind it
-pub put-message : (number bytes out mid left : List ℕ) (ttl hops : ℕ) → length number ≡ 16 → length bytes ≡ 14 → 37 ≤ length out
-    → mid ≡ withHeader number pongType ttl hops 14 out → left ≡ over 0 bytes (take (length mid - 23) (drop 23 mid))
-    → putMid 23 (length mid - 23) mid left ≡ over 0 (pongMessage number ttl hops bytes) out
+-- a header written at the front, and the 14 bytes behind it
+pub pong-put : (number bytes part mid left : List ℕ) (ttl pinghops hops : ℕ) → length number ≡ 16 → length bytes ≡ 14 → 37 ≤ length part
+    → ttl ≡ max 1 pinghops → mid ≡ withHeader number pongType ttl hops 14 part → left ≡ copied bytes (take (length mid - 23) (drop 23 mid))
+    → PongsPut 1 (pongBytes number pinghops hops bytes) part (putMid 23 (length mid - 23) mid left) 1
 unfolding withHeader message
-put-message number bytes out mid left ttl hops n b h m l =
-    let top : List ℕ = header number pongType ttl hops 14 in
-    let long : length top ≡ 23 = header-length number pongType ttl hops bytes n 14 in
-    let m′ : mid ≡ over 0 top out = m ∙ rw (le-leb 23 (length out) (omega arith)) in
-    let k : length mid ≡ length out = ap length m′ ∙ over-length 0 top out (omega arith) in
-    lent-part 23 (length mid - 23) bytes mid left (omega arith) (omega arith) l
-    ∙ ap (over 23 bytes) m′
-    ∙ written-next 23 top bytes out long
-    ∙ ap (λ s. over 0 (header number pongType ttl hops s ++ bytes) out) (sym b)
+pong-put number bytes part mid left ttl pinghops hops n b h t m l =
+    let top : List ℕ = header number pongType (max 1 pinghops) hops 14 in
+    let long : length top ≡ 23 = header-length number pongType (max 1 pinghops) hops bytes n 14 in
+    let m′ : mid ≡ over 0 top part = m ∙ rw (t, le-leb 23 (length part) (omega arith)) in
+    let k : length mid ≡ length part = ap length m′ ∙ over-length 0 top part (omega arith) in
+    record {
+      count = refl;
+      size = message-length number pongType (max 1 pinghops) hops bytes n ∙ omega arith;
+      wrote =
+          copied-part 23 (length mid - 23) bytes mid left (omega arith) (omega arith) l
+          ∙ ap (over 23 bytes) m′
+          ∙ written-next 23 top bytes part long
+          ∙ ap (λ s. over 0 (header number pongType (max 1 pinghops) hops s ++ bytes) part) (sym b);
+    }
 
--- the own pong is sent
-pub own-said : (own : Own) (number payload part left : List ℕ) (ttl r : ℕ) (probe : Bool) → (probe || own .calls) ≡ true → payload ≡ ownPong own
-    → r ≡ length (pongMessage number ttl 0 payload) → r ≡ 37 → left ≡ over 0 (pongMessage number ttl 0 payload) part
-    → (r ≡ length (ownBytes own number ttl probe)) × ((r ≡ 37 * ownCount own probe) × (left ≡ over 0 (ownBytes own number ttl probe) part))
-own-said own number payload part left ttl r probe e p n k b =
-    let q : pongMessage number ttl 0 payload ≡ ownBytes own number ttl probe = ap (pongMessage number ttl 0) p ∙ sym (rw e) in
-    (n ∙ ap length q, (rw e k, b ∙ ap (λ l. over 0 l part) q))
+-- ---- several, one behind the other
 
--- what a turn gives, by the place of its rank
-module _ (x : Line) (rank clock place : ℕ) (at : place ≡ placeOf (x .pongnext) (x .pongcount) rank) where
-  found : ranked rank (storedPongs x) ≡ pongAt x place
-  found = ranked-place x rank ∙ ap (pongAt x) (sym at)
+pub put-none : (part : List ℕ) → PongsPut 0 [] part part 0
+put-none part = record { count = refl; size = refl; wrote = refl }
 
-  pub turn-none : 10 ≤ place → freshOf x rank clock ≡ []
-  turn-none h = rw (found, le-ltb place 10 h)
+-- the same pongs by another name
+pub put-same : {n m r : ℕ} {xs ys part left : List ℕ} → n ≡ m → xs ≡ ys → PongsPut n xs part left r → PongsPut m ys part left r
+put-same {part = part} e f p =
+    record {
+      count = p .count ∙ e;
+      size = ap length (sym f) ∙ p .size;
+      wrote = p .wrote ∙ ap (λ bs. over 0 bs part) f;
+    }
 
-  pub turn-old : place < 10 → 15000 ≤ elapsed clock (pongIn x place .clock) → freshOf x rank clock ≡ []
-  turn-old h old = rw (found, lt-ltb place 10 h, le-ltb (elapsed clock (pongIn x place .clock)) 15000 old)
+put-length : {n r : ℕ} {xs start area : List ℕ} → PongsPut n xs start area r → 37 * r ≤ length start → length area ≡ length start
+put-length {xs = xs} {start = start} p room = ap length (p .wrote) ∙ over-length 0 xs start (let s = p .size in omega arith)
 
-  pub turn-fresh : place < 10 → elapsed clock (pongIn x place .clock) < 15000 → freshOf x rank clock ≡ pongIn x place ∷ []
-  turn-fresh h fresh = rw (found, lt-ltb place 10 h, lt-ltb (elapsed clock (pongIn x place .clock)) 15000 fresh)
+-- more of them behind those that have been put
+pub put-both : (n m a b : ℕ) (xs ys start area left : List ℕ) → PongsPut n xs start area a → 37 * (a + b) ≤ length start
+    → PongsPut m ys (take (length area - 37 * a) (drop (37 * a) area)) left b
+    → PongsPut (n + m) (xs ++ ys) start (putMid (37 * a) (length area - 37 * a) area left) (a + b)
+put-both n m a b xs ys start area left p room q =
+    let s = p .size in
+    let t = q .size in
+    let long = put-length p (omega arith) in
+    record {
+      count = ap₂ _+_ (p .count) (q .count);
+      size = length-append xs ys ∙ omega arith;
+      wrote =
+          lent-part (37 * a) (length area - 37 * a) ys area left (omega arith) (omega arith) (q .wrote)
+          ∙ ap (over (37 * a) ys) (p .wrote)
+          ∙ written-next (37 * a) xs ys start s;
+    }
 
-module _ (number : List ℕ) (ttl : ℕ) (ps : List Pong) (part : List ℕ) where
-  -- what a turn leaves: how many, how many bytes, and the part
-  pub record Put (r : ℕ) (left : List ℕ) : Type 0 where
-    pub count : r ≡ length ps
-    pub size : 37 * r ≡ length (storedBytes number ttl ps)
-    pub bytes : left ≡ over 0 (storedBytes number ttl ps) part
+bytes-append : (number : List ℕ) (pinghops : ℕ) (ps qs : List Pong)
+    → storedBytes number pinghops (ps ++ qs) ≡ storedBytes number pinghops ps ++ storedBytes number pinghops qs
+bytes-append number pinghops [] qs = refl
+bytes-append number pinghops (p ∷ ps) qs =
+    ap (λ l. pongBytes number pinghops (oneHopMore (p .hops)) (p .bytes) ++ l) (bytes-append number pinghops ps qs)
+    ∙ sym (append-assoc (pongBytes number pinghops (oneHopMore (p .hops)) (p .bytes)) (storedBytes number pinghops ps) (storedBytes number pinghops qs))
 
-  pub put-none : ps ≡ [] → Put 0 part
-  put-none e =
-      record {
-        count = ap length (sym e);
-        size = ap (λ qs. length (storedBytes number ttl qs)) (sym e);
-        bytes = ap (λ qs. over 0 (storedBytes number ttl qs) part) (sym e);
-      }
+-- ---- stored pongs
 
-  pub put-one : (p : Pong) (hops n : ℕ) (left : List ℕ) → ps ≡ p ∷ [] → hops ≡ min 255 (p .hops + 1)
-      → n ≡ length (pongMessage number ttl hops (p .bytes)) → n ≡ 37 → left ≡ over 0 (pongMessage number ttl hops (p .bytes)) part → Put 1 left
-  put-one p hops n left e h k s b =
-      let q : pongMessage number ttl hops (p .bytes) ≡ storedBytes number ttl ps =
-      ap (λ m. pongMessage number ttl m (p .bytes)) h ∙ sym (append-nil (storedMessage number ttl p)) ∙ ap (storedBytes number ttl) (sym e) in
-      record {
-        count = ap length (sym e);
-        size = sym s ∙ k ∙ ap length q;
-        bytes = b ∙ ap (λ l. over 0 l part) q;
-      }
+module _ (number : List ℕ) (pinghops : ℕ) where
+  -- these pongs are put
+  abbrev pub Stored : List Pong → List ℕ → List ℕ → ℕ → Type 0
+  Stored ps part left r = PongsPut (length ps) (storedBytes number pinghops ps) part left r
 
--- the walk: what is left of the ten is written behind what has been written
-module _ (lines : List Line) (l clock : ℕ) (number : List ℕ) (ttl : ℕ) where
-  abbrev rest : ℕ → ℕ → List Pong
-  rest s i = take (10 - s) (leftFrom lines l clock (80 - i) i)
+  pub stored-same : (ps qs : List Pong) {part left : List ℕ} {r : ℕ} → ps ≡ qs → Stored ps part left r → Stored qs part left r
+  stored-same ps qs e = put-same (ap length e) (ap (storedBytes number pinghops) e)
 
-  abbrev whole : List ℕ
-  whole = storedBytes number ttl (storedFor lines l clock)
+  -- one pong, if it is fresh
+  module _ (clock : ℕ) (p : Pong) (part : List ℕ) where
+    pub stored-old : 15000 ≤ elapsed clock (p .clock) → Stored (ifFresh clock p) part part 0
+    stored-old h = stored-same [] (ifFresh clock p) (sym (rw (le-ltb (elapsed clock (p .clock)) 15000 h))) (put-none part)
 
-  pub record Left (s i : ℕ) (area start : List ℕ) : Type 0 where
-    pub few : s ≤ 10
-    pub turns : i ≤ 80
-    pub long : length area ≡ length start
-    pub bytes : over (37 * s) (storedBytes number ttl (rest s i)) area ≡ over 0 whole start
-    pub size : 37 * s + length (storedBytes number ttl (rest s i)) ≡ length whole
-    pub count : s + length (rest s i) ≡ length (storedFor lines l clock)
+    pub stored-fresh : elapsed clock (p .clock) < 15000 → (hops : ℕ) (left : List ℕ) → hops ≡ oneHopMore (p .hops)
+        → PongsPut 1 (pongBytes number pinghops hops (p .bytes)) part left 1 → Stored (ifFresh clock p) part left 1
+    stored-fresh h hops left e q =
+        stored-same (p ∷ []) (ifFresh clock p) (sym (rw (lt-ltb (elapsed clock (p .clock)) 15000 h)))
+        (put-same refl
+        (ap (λ m. pongBytes number pinghops m (p .bytes)) e ∙ sym (append-nil (pongBytes number pinghops (oneHopMore (p .hops)) (p .bytes))))
+        q)
 
-  pub left-start : (start : List ℕ) → Left 0 0 start start
-  left-start start =
-      let e : storedBytes number ttl (rest 0 0) ≡ whole = ap (λ ps. storedBytes number ttl (take 10 ps)) (sym (walk-turns lines l clock)) in
-      record {
-        few = omega arith;
-        turns = omega arith;
-        long = refl;
-        bytes = ap (λ bs. over 0 bs start) e;
-        size = let z = ap length e in omega arith;
-        count = let z = ap (λ ps. length (take 10 ps)) (sym (walk-turns lines l clock)) in omega arith;
-      }
+  -- the walk: what the first i turns give is put
+  module _ (counts nexts : List ℕ) (rings : List (List Pong)) (l clock : ℕ) where
+    pub record Turned (i s : ℕ) (start area : List ℕ) : Type 0 where
+      pub few : s ≤ 10
+      pub turns : i ≤ 80
+      pub long : length area ≡ length start
+      pub put : Stored (turned counts nexts rings l clock i) start area s
 
-  module _ (s i : ℕ) (area start : List ℕ) (v : Left s i area start) where
-    left-step : (r : ℕ) (left : List ℕ) → i < 80 → s < 10 → 370 ≤ length start
-        → Put number ttl (turnAt lines l clock i) (take (length area - 37 * s) (drop (37 * s) area)) r left
-        → Left (s + r) (i + 1) (putMid (37 * s) (length area - 37 * s) area left) start
-    left-step r left hi hs room p =
-        let turn : List Pong = turnAt lines l clock i in
-        let bs : List ℕ = storedBytes number ttl turn in
-        let on : List ℕ = storedBytes number ttl (rest (s + r) (i + 1)) in
-        let one : length turn ≤ 1 = turn-one (isFresh clock) (isOther l (i % 8)) (i / 8) (storedPongs (getD lines (i % 8) nowhere)) in
-        let n = p .count in
-        let k = p .size in
-        let g = v .long in
-        let few : s + r ≤ 10 = omega arith in
-        let mid : putMid (37 * s) (length area - 37 * s) area left ≡ over (37 * s) bs area =
-        lent-part (37 * s) (length area - 37 * s) bs area left (omega arith) (omega arith) (p .bytes) in
-        let pongs : rest s i ≡ turn ++ rest (s + r) (i + 1) =
-        ap (take (10 - s)) (left-next lines l clock i hi)
-        ∙ ten-next s r turn (leftFrom lines l clock (80 - (i + 1)) (i + 1)) (sym n) few in
-        let parts : storedBytes number ttl (rest s i) ≡ bs ++ on =
-        ap (storedBytes number ttl) pongs ∙ bytes-append number ttl turn (rest (s + r) (i + 1)) in
-        let next : 37 * (s + r) ≡ 37 * s + length bs = omega arith in
+    pub turned-none : (start : List ℕ) → Turned 0 0 start start
+    unfolding turned
+    turned-none start = record { few = omega arith; turns = omega arith; long = refl; put = put-none start }
+
+    module _ (i s : ℕ) (start area : List ℕ) (v : Turned i s start area) where
+      -- a turn past an empty place, and one that puts what it finds if that is fresh
+      module _ (more : i < 80) (place : ℕ) (at : place ≡ placeAt counts nexts rings l clock i) where
+        pub turned-past : 10 ≤ place → Turned (i + 1) s start area
+        turned-past h =
+            let made = turned counts nexts rings l clock i in
+            let same : turned counts nexts rings l clock (i + 1) ≡ made =
+            turned-next counts nexts rings l clock i
+            ∙ ap (λ ps. made ++ ps) (turn-none counts nexts rings l clock i place at h)
+            ∙ append-nil made in
+            record { few = v .few; turns = omega arith; long = v .long; put = stored-same made _ (sym same) (v .put) }
+
+        pub turned-put : place < 10 → s < 10 → 370 ≤ length start → (r : ℕ) (left : List ℕ) → r ≤ 1
+            → Stored (ifFresh clock (pongIn (getD rings (i % 8) []) place)) (take (length area - 37 * s) (drop (37 * s) area)) left r
+            → Turned (i + 1) (s + r) start (putMid (37 * s) (length area - 37 * s) area left)
+        turned-put h hs room r left one q =
+            let made = turned counts nexts rings l clock i in
+            let turn = turnAt counts nexts rings l clock i in
+            let next = turned-next counts nexts rings l clock i in
+            let both =
+            put-both (length made) (length turn) s r (storedBytes number pinghops made) (storedBytes number pinghops turn) start
+            area left (v .put) (omega arith)
+            (stored-same _ turn (sym (turn-some counts nexts rings l clock i place at h)) q) in
+            record {
+              few = omega arith;
+              turns = omega arith;
+              long = put-length both (omega arith);
+              put =
+                  put-same (sym (ap length next ∙ length-append made turn))
+                  (sym (ap (storedBytes number pinghops) next ∙ bytes-append number pinghops made turn))
+                  both;
+            }
+
+      -- ten are put, or no turn is left
+      module _ (lines : List Line) (ec : counts ≡ countsIn lines) (en : nexts ≡ nextsIn lines) (er : rings ≡ ringsIn lines) where
+        pub done-ten : 10 ≤ s → Stored (storedSent lines l clock) start area s
+        done-ten h =
+            let f = v .few in
+            let n = v .put .count in
+            stored-same (turned counts nexts rings l clock i) _
+            (sym (ten-made counts nexts rings l clock lines ec en er i (v .turns) (omega arith)))
+            (v .put)
+
+        pub done-all : (m : ℕ) → m ≡ min 10 (largest counts) → 8 * m ≤ i → Stored (storedSent lines l clock) start area s
+        done-all m em h =
+            let f = v .few in
+            let n = v .put .count in
+            stored-same (turned counts nexts rings l clock i) _
+            (sym (all-made counts nexts rings l clock lines ec en er i (v .turns) (rw em at h) (omega arith)))
+            (v .put)
+
+-- ---- the own pong
+
+module _ (own : Own) (number : List ℕ) (pinghops : ℕ) (probe : Bool) (part : List ℕ) where
+  pub own-unsent : (probe || own .calls) ≡ false → PongsPut (ownCount own probe) (ownSent own number pinghops probe) part part 0
+  own-unsent e = put-same (sym (rw e)) (sym (rw e)) (put-none part)
+
+  pub own-put : (probe || own .calls) ≡ true → (payload left : List ℕ) → payload ≡ ownPong own
+      → PongsPut 1 (pongBytes number pinghops 0 payload) part left 1 → PongsPut (ownCount own probe) (ownSent own number pinghops probe) part left 1
+  own-put e payload left p q = put-same (sym (rw e)) (ap (pongBytes number pinghops 0) p ∙ sym (rw e)) q
+
+-- ---- the whole answer
+
+module _ (lines : List Line) (l clock : ℕ) (own : Own) (number : List ℕ) (hops : ℕ) (probe : Bool) (out : List ℕ) where
+  pub record Answered (r : ℕ) (left : List ℕ) : Type 0 where
+    pub size : r ≡ length (pongsWritten (length out) lines l clock own number hops probe)
+    pub count : r ≡ 37 * countWritten (length out) lines l clock own probe
+    pub bytes : left ≡ over 0 (pongsWritten (length out) lines l clock own number hops probe) out
+
+  module _ (room : 407 ≤ length out) where
+    answered : (n r : ℕ) (bs left : List ℕ) → PongsPut n bs out left r → n ≡ pongCount lines l clock own probe
+        → bs ≡ pongsSent lines l clock own number hops probe → Answered (37 * r) left
+    answered n r bs left p en eb =
+        let w : bs ≡ pongsWritten (length out) lines l clock own number hops probe = eb ∙ sym (rw (le-leb 407 (length out) room)) in
+        let c : n ≡ countWritten (length out) lines l clock own probe = en ∙ sym (rw (le-leb 407 (length out) room)) in
         record {
-          few = few;
-          turns = omega arith;
-          long = ap length mid ∙ over-length (37 * s) bs area (omega arith) ∙ g;
-          bytes =
-              ap₂ (λ m a. over m on a) next mid
-              ∙ sym (over-split (37 * s) bs on area (omega arith))
-              ∙ ap (λ b. over (37 * s) b area) (sym parts)
-              ∙ v .bytes;
-          size = let z = ap length parts in let y = length-append bs on in let u = v .size in omega arith;
-          count = let z = ap length pongs in let y = length-append turn (rest (s + r) (i + 1)) in let u = v .count in omega arith;
+          size = sym (p .size) ∙ ap length w;
+          count = ap (λ k. 37 * k) (p .count ∙ c);
+          bytes = p .wrote ∙ ap (λ bs. over 0 bs out) w;
         }
 
-    done : rest s i ≡ [] → (37 * s ≡ length whole) × ((37 * s ≤ 370) × ((37 * s ≡ 37 * length (storedFor lines l clock)) × (area ≡ over 0 whole start)))
-    done e =
-        let z : storedBytes number ttl (rest s i) ≡ [] = ap (storedBytes number ttl) e in
-        let y = ap length z in
-        let u = v .size in
-        let w = v .few in
-        let n = ap length e in
-        let k = v .count in
-        (omega arith, (omega arith, (omega arith, sym (over-none (37 * s) area) ∙ ap (λ b. over (37 * s) b area) (sym z) ∙ v .bytes)))
+    module _ (a : ℕ) (mid : List ℕ) (p : PongsPut (ownCount own probe) (ownSent own number hops probe) out mid a) where
+      pub to-probe : probe ≡ true → Answered (37 * a) mid
+      unfolding pongsSent pongCount
+      to-probe e = answered _ a _ mid p (sym (rw e (omega arith))) (sym (rw e (append-nil _)))
 
-    pub done-ten : 10 ≤ s → (37 * s ≡ length whole) × ((37 * s ≤ 370) × ((37 * s ≡ 37 * length (storedFor lines l clock)) × (area ≡ over 0 whole start)))
-    done-ten h = let e : 10 - s ≡ 0 = omega arith in done (ap (λ n. take n (leftFrom lines l clock (80 - i) i)) e)
-
-    -- by the ranks of the lines, and m the most of them
-    module _ {ranks : List ℕ} {m : ℕ} (er : ranks ≡ ranksIn lines l) (em : m ≡ mostOf ranks) where
-      below : i < 8 * m → i < 80
-      below h = let few = most-few lines l er em in omega arith
-
-      pub left-skip : i < 8 * m → getD ranks (i % 8) 0 ≤ i / 8 → Left s (i + 1) area start
-      left-skip h k =
-          let hi : i < 80 = below h in
-          let same : rest s i ≡ rest s (i + 1) =
-          ap (take (10 - s)) (left-next lines l clock i hi ∙ ap (λ t. t ++ leftFrom lines l clock (80 - (i + 1)) (i + 1)) (turn-past lines l clock i (rw er at k))) in
-          record {
-            few = v .few;
-            turns = omega arith;
-            long = v .long;
-            bytes = ap (λ ps. over (37 * s) (storedBytes number ttl ps) area) (sym same) ∙ v .bytes;
-            size = let z = ap (λ ps. length (storedBytes number ttl ps)) same in let u = v .size in omega arith;
-            count = let z = ap length same in let u = v .count in omega arith;
-          }
-
-      pub left-turn : (r : ℕ) (left : List ℕ) → i < 8 * m → i / 8 < getD ranks (i % 8) 0 → s < 10 → 370 ≤ length start
-          → Put number ttl (freshOf (getD lines (i % 8) nowhere) (i / 8) clock) (take (length area - 37 * s) (drop (37 * s) area)) r left
-          → Left (s + r) (i + 1) (putMid (37 * s) (length area - 37 * s) area left) start
-      left-turn r left h k hs room p = left-step r left (below h) hs room (rw (turn-other lines l clock i (rw er at k)) p)
-
-      pub done-all : 8 * m ≤ i → (37 * s ≡ length whole) × ((37 * s ≤ 370) × ((37 * s ≡ 37 * length (storedFor lines l clock)) × (area ≡ over 0 whole start)))
-      done-all h =
-          let y : m ≡ mostOf (ranksIn lines l) = em ∙ ap mostOf er in
-          done
-          (ap (take (10 - s)) (left-past lines l clock (80 - i) i (λ k b. let q = most-all (ranksIn lines l) k b in omega arith))
-          ∙ take-nil (10 - s))
-
--- the whole answer
-module _ (lines : List Line) (l clock : ℕ) (own : Own) (number : List ℕ) (hops ttl : ℕ) (bears : ttl ≡ max 1 hops) (out : List ℕ) (room : 407 ≤ length out) where
-  pub to-probe : (probe : Bool) → probe ≡ true → ownBytes own number ttl probe ≡ pongsWritten (length out) lines l clock own number hops probe
-  unfolding pongsFor
-  to-probe probe e = rw (bears, e, le-leb 407 (length out) room) (sym (append-nil (ownBytes own number (max 1 hops) true)))
-
-  pub to-other : (probe : Bool) → probe ≡ false
-      → ownBytes own number ttl probe ++ storedBytes number ttl (storedFor lines l clock) ≡ pongsWritten (length out) lines l clock own number hops probe
-  unfolding pongsFor
-  to-other probe e = rw (bears, e, le-leb 407 (length out) room)
-
--- how many that is
-module _ (lines : List Line) (l clock : ℕ) (own : Own) (room : ℕ) (wide : 407 ≤ room) where
-  pub probe-count : (probe : Bool) → probe ≡ true → ownCount own probe ≡ countWritten room lines l clock own probe
-  unfolding pongCount
-  probe-count probe e = rw (e, le-leb 407 room wide)
-
-  pub other-count : (probe : Bool) → probe ≡ false → ownCount own probe + length (storedFor lines l clock) ≡ countWritten room lines l clock own probe
-  unfolding pongCount
-  other-count probe e = rw (e, le-leb 407 room wide)
-
--- two answers written one behind the other
-pub both-written : (xs bs both out mid left : List ℕ) (f r : ℕ) → xs ++ bs ≡ both → f ≡ length xs → r ≡ length bs → f + r ≤ length out
-    → mid ≡ over 0 xs out → left ≡ over 0 bs (take (length mid - f) (drop f mid))
-    → (f + r ≡ length both) × (putMid f (length mid - f) mid left ≡ over 0 both out)
-both-written xs bs both out mid left f r w fa rb room m e =
-    let long : length mid ≡ length out = ap length m ∙ over-length 0 xs out (omega arith) in
-    let z = ap length w in
-    let y = length-append xs bs in (
-      omega arith,
-      lent-part f (length mid - f) bs mid left (omega arith) (omega arith) e
-          ∙ ap (over f bs) m
-          ∙ written-next f xs bs out (sym fa)
-          ∙ ap (λ l. over 0 l out) w,
-    )
-
-pub sum-of : (f r a b n : ℕ) → f ≡ 37 * a → r ≡ 37 * b → a + b ≡ n → f + r ≡ 37 * n
-sum-of f r a b n u w e = omega arith
+      pub to-other : probe ≡ false → a ≤ 1 → (b : ℕ) (left : List ℕ) → b ≤ 10
+          → Stored number hops (storedSent lines l clock) (take (length mid - 37 * a) (drop (37 * a) mid)) left b
+          → Answered (37 * a + 37 * b) (putMid (37 * a) (length mid - 37 * a) mid left)
+      unfolding pongsSent pongCount
+      to-other e ha b left hb q =
+          let s : 37 * a + 37 * b ≡ 37 * (a + b) = omega arith in
+          rw s (answered _ (a + b) _ _ (put-both _ _ a b _ _ out mid left p (omega arith) q) (sym (rw e)) (sym (rw e)))

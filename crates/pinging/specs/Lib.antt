@@ -1,3 +1,4 @@
 -- Pings and pongs over plain values.
-pub mod Numbers
+pub mod Filled
+pub mod Ring
 pub mod Sending

@@ -1,23 +1,25 @@
 // The ordered refusals of an arriving ping and of an arriving pong: a number of RULES 2.1, 0 where nothing is refused.
 ghost use mathlib.Core.Path.{_≡_};
-ghost use Rattle.pinging.specs.Numbers.{probing, pingNumber, pongNumber};
+ghost use Rattle.laws.specs.Tests.{firstOf};
+ghost use Rattle.protocol.specs.Pings.{isProbe, pingRules, pongRules};
 use crate::clock::elapsed_ms;
+use wire::Header;
 
 // TTL 1 with Hops 0 or 1 asks this station alone.
-pub fn is_probe(ttl: u8, hops: u8) -> bool
-    ensures { λ r. ⌜ r ≡ probing ttl hops ⌝ }
+pub fn is_probe(h: Header) -> bool
+    ensures { λ r. ⌜ r ≡ isProbe h ⌝ }
 {
-    if ttl == 1 { hops <= 1 } else { false }
+    if h.ttl == 1 { h.hops <= 1 } else { false }
 }
 
 // A ping: TTL 0 is 8; one that is no probe is 13 less than a second after the last accepted one of its line.
-pub fn ping_answer(pinged: bool, pingtime: u32, clock: u32, ttl: u8, hops: u8) -> u8
-    ensures { λ r. ⌜ r ≡ pingNumber pinged pingtime clock ttl hops ⌝ }
+pub fn ping_answer(pinged: bool, pingtime: u32, clock: u32, h: Header) -> u8
+    ensures { λ r. ⌜ r ≡ firstOf (pingRules pinged pingtime clock h) ⌝ }
 {
-    if ttl == 0 {
+    if h.ttl == 0 {
         return 8;
     }
-    if is_probe(ttl, hops) {
+    if is_probe(h) {
         return 0;
     }
     if !pinged {
@@ -30,16 +32,16 @@ pub fn ping_answer(pinged: bool, pingtime: u32, clock: u32, ttl: u8, hops: u8) -
 }
 
 // A pong: 6 for a payload of less than 14 bytes; 8 where TTL is 0 or Hops are above 7.
-pub fn pong_answer(size: u32, ttl: u8, hops: u8) -> u8
-    ensures { λ r. ⌜ r ≡ pongNumber size ttl hops ⌝ }
+pub fn pong_answer(h: Header) -> u8
+    ensures { λ r. ⌜ r ≡ firstOf (pongRules h) ⌝ }
 {
-    if size < 14 {
+    if h.size < 14 {
         return 6;
     }
-    if ttl == 0 {
+    if h.ttl == 0 {
         return 8;
     }
-    if 7 < hops {
+    if 7 < h.hops {
         return 8;
     }
     0

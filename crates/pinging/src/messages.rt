@@ -1,10 +1,10 @@
 // What a pong that is sent bears: its TTL, its Hops, and this station's own 14 bytes.
 ghost use mathlib.Core.Path.{_≡_};
 ghost use mathlib.Core.List.{_++_};
-ghost use Prim.Native.Nat.{_+_, min, max};
+ghost use Prim.Native.Nat.{max};
 ghost use Rattle.laws.specs.Bytes.{littleBytes};
-ghost use Rattle.protocol.specs.Pings.{ownPong};
-use protocol::Own;
+ghost use Rattle.protocol.specs.Pings.{oneHopMore};
+use wire::little_bytes4;
 
 // The TTL that pongs bear: the ping's Hops, or 1 where those are 0.
 pub fn pong_ttl(hops: u8) -> u8
@@ -15,7 +15,7 @@ pub fn pong_ttl(hops: u8) -> u8
 
 // Hops plus 1, and 255 where it is 255 already.
 pub fn one_hop_more(hops: u8) -> u8
-    ensures { λ r. ⌜ r ≡ min 255 (hops + 1) ⌝ }
+    ensures { λ r. ⌜ r ≡ oneHopMore hops ⌝ }
 {
     if hops < 255 { hops + 1 } else { 255 }
 }
@@ -27,13 +27,16 @@ fn little_bytes2(n: u16) -> [u8; 2]
     [(n % 256) as u8, (n / 256 % 256) as u8]
 }
 
-// The parts of a pong's 14 bytes, one after another.
-fn joined(port: [u8; 2], address: [u8; 4], files: [u8; 4], kilobytes: [u8; 4]) -> [u8; 14]
-    ensures { λ r. ⌜ r ≡ port ++ (address ++ (files ++ kilobytes)) ⌝ }
+// The 14 bytes of this station's own pong.
+pub fn own_payload(port: u16, address: [u8; 4], files: u32, kilobytes: u32) -> [u8; 14]
+    ensures { λ r. ⌜ r ≡ littleBytes 2 port ++ (address ++ (littleBytes 4 files ++ littleBytes 4 kilobytes)) ⌝ }
 {
+    let ports = little_bytes2(port);
+    let files = little_bytes4(files);
+    let kilobytes = little_bytes4(kilobytes);
     [
-        port[0],
-        port[1],
+        ports[0],
+        ports[1],
         address[0],
         address[1],
         address[2],
@@ -47,15 +50,4 @@ fn joined(port: [u8; 2], address: [u8; 4], files: [u8; 4], kilobytes: [u8; 4]) -
         kilobytes[2],
         kilobytes[3],
     ]
-}
-
-// This station's own pong: port, address, files, kilobytes.
-pub fn own_payload(own: Own) -> [u8; 14]
-    ensures { λ r. ⌜ r ≡ ownPong own ⌝ }
-{
-    let port = little_bytes2(own.port);
-    let address = own.address;
-    let files = wire::little_bytes4(own.files);
-    let kilobytes = wire::little_bytes4(own.kilobytes);
-    joined(port, address, files, kilobytes)
 }

@@ -1,9 +1,9 @@
 // Whether a line is in order (RULES 4.5 to 4.8).
 ghost use mathlib.Core.Path.{_≡_};
 ghost use Prim.Native.Nat.{_≤_, _<_};
-ghost use Rattle.laws.specs.Ring.{back};
-ghost use Rattle.protocol.specs.Order.{emptyWhenClosed, lineInOrder};
-ghost use Rattle.pinging.specs.Sending.{hopsIn, lowHops};
+ghost use Rattle.protocol.specs.Order.{emptyWhenClosed, lowHops, lineInOrder};
+ghost use Rattle.pinging.specs.Ring.{hopsIn};
+use crate::ring::place_of;
 use protocol::Line;
 use protocol::Pong;
 
@@ -22,14 +22,6 @@ fn empty_when_closed(x: Line) -> bool
         return false;
     }
     !x.pinged
-}
-
-// The ring's place before this one.
-fn place_before(place: usize) -> usize
-    requires { ⌜ place < 10 ⌝ }
-    ensures { λ r. ⌜ r ≡ back 10 place ⌝ }
-{
-    if place == 0 { 9 } else { place - 1 }
 }
 
 // The Hops at the ten places of a ring. The loop below goes through these, and the ring itself is not copied.
@@ -56,16 +48,16 @@ fn low_hops(x: Line) -> bool
     ensures { λ r. ⌜ r ≡ lowHops x ⌝ }
 {
     let count = x.pongcount;
+    let next = x.pongnext;
     let pongs = x.pongs;
     let hops = hops_in(pongs);
-    let mut place = x.pongnext;
-    let mut i = 0;
-    while i < count {
-        place = place_before(place);
+    let mut rank = 0;
+    while rank < count {
+        let place = place_of(next, rank);
         if 7 < hops[place] {
             return false;
         }
-        i += 1;
+        rank += 1;
     }
     true
 }

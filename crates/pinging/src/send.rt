@@ -1,66 +1,32 @@
 // The pongs that answer a ping: this station's own, and up to ten stored ones of the other lines.
 ghost use mathlib.Core.Path.{_≡_};
 ghost use mathlib.Core.Bool.{_||_};
-ghost use Prim.Native.Nat.{_*_, _≤_, max};
+ghost use Prim.Native.Nat.{_*_, _≤_, min, max};
 ghost use lib.ListN.{length};
 ghost use Rattle.laws.specs.Parts.{over};
-ghost use Rattle.protocol.specs.Lines.{isOther};
-ghost use Rattle.pinging.specs.Sending.{placeOf, pongMessage, ownBytes, freshOf, ranksOf, ranksIn, mostOf, storedBytes, storedFor, pongsWritten, ownCount, countWritten};
+ghost use Rattle.protocol.specs.Pings.{pongBytes, storedBytes, storedSent, ownSent};
+ghost use Rattle.pinging.specs.Ring.{countsIn, nextsIn, ringsIn, placeFor, largest};
+ghost use Rattle.pinging.specs.Sending.{PongsPut, ifFresh, ownCount, pongsWritten, countWritten};
 use crate::clock::elapsed_ms;
 use crate::messages::one_hop_more;
 use crate::messages::own_payload;
 use crate::messages::pong_ttl;
+use crate::ring::place_of;
 use protocol::Line;
 use protocol::Own;
+use protocol::Pong;
+use protocol::lines::is_other;
+use wire::PONG;
+use wire::copy_onto;
+use wire::put_header;
 
-// 14 bytes at the front of the part.
-fn put_bytes(bytes: [u8; 14], part: &mut [u8])
-    requires { ⌜ 14 ≤ length (now part) ⌝ }
-    ensures { λ _. ⌜ now (part .exit) ≡ over 0 bytes (now (part .entry)) ⌝ }
-{
-    let mut i = 0;
-    while i < 14 {
-        part[i] = bytes[i];
-        i += 1;
-    }
-}
-
-// A pong as a message at the front of the part; how many bytes that takes.
-fn put_pong(number: [u8; 16], ttl: u8, hops: u8, bytes: [u8; 14], part: &mut [u8]) -> usize
+// A pong with these Hops and bytes as a message at the front of the part.
+fn put_pong(number: [u8; 16], pinghops: u8, hops: u8, bytes: [u8; 14], part: &mut [u8])
     requires { ⌜ 37 ≤ length (now part) ⌝ }
-    ensures size { λ r. ⌜ r ≡ length (pongMessage number ttl hops bytes) ⌝ }
-    ensures whole { λ r. ⌜ r ≡ 37 ⌝ }
-    ensures bytes { λ _. ⌜ now (part .exit) ≡ over 0 (pongMessage number ttl hops bytes) (now (part .entry)) ⌝ }
+    ensures { λ _. ⌜ PongsPut 1 (pongBytes number pinghops hops bytes) (now (part .entry)) (now (part .exit)) 1 ⌝ }
 {
-    wire::put_header(number, 1, ttl, hops, 14, &mut *part);
-    put_bytes(bytes, &mut part[23..]);
-    37
-}
-
-// The place of the pong of this rank, the newest being rank 0, and 10 where the ring keeps none of that rank.
-fn place_of(next: usize, count: usize, rank: usize) -> usize
-    ensures { λ r. ⌜ r ≡ placeOf next count rank ⌝ }
-{
-    if 10 < count {
-        return 10;
-    }
-    if 10 <= next {
-        return 10;
-    }
-    if count <= rank {
-        return 10;
-    }
-    if rank < next {
-        return next - 1 - rank;
-    }
-    next + 9 - rank
-}
-
-// The line is another than the ping's.
-fn is_other(line: u32, k: usize) -> bool
-    ensures { λ r. ⌜ r ≡ isOther line k ⌝ }
-{
-    k != line as usize
+    put_header(number, PONG, pong_ttl(pinghops), hops, 14, &mut *part);
+    copy_onto(&bytes, &mut part[23..]);
 }
 
 // The own pong goes to a probe always, else where the station takes calls.
@@ -70,47 +36,87 @@ fn sends_own(probe: bool, calls: bool) -> bool
     if probe { true } else { calls }
 }
 
-// The own pong at the front of the part, if it is sent; how many bytes.
-fn put_own(own: Own, number: [u8; 16], ttl: u8, probe: bool, part: &mut [u8]) -> usize
+// The own pong at the front of the part, if it is sent; how many that is.
+fn put_own(own: Own, number: [u8; 16], pinghops: u8, probe: bool, part: &mut [u8]) -> usize
     requires { ⌜ 37 ≤ length (now part) ⌝ }
-    ensures size { λ r. ⌜ r ≡ length (ownBytes own number ttl probe) ⌝ }
-    ensures room { λ r. ⌜ r ≤ 37 ⌝ }
-    ensures count { λ r. ⌜ r ≡ 37 * ownCount own probe ⌝ }
-    ensures bytes { λ _. ⌜ now (part .exit) ≡ over 0 (ownBytes own number ttl probe) (now (part .entry)) ⌝ }
+    ensures { λ r. ⌜ PongsPut (ownCount own probe) (ownSent own number pinghops probe) (now (part .entry)) (now (part .exit)) r ⌝ }
+    ensures few { λ r. ⌜ r ≤ 1 ⌝ }
 {
     if !sends_own(probe, own.calls) {
         return 0;
     }
-    let payload = own_payload(own);
-    put_pong(number, ttl, 0, payload, part)
+    let address = own.address;
+    let payload = own_payload(own.port, address, own.files, own.kilobytes);
+    put_pong(number, pinghops, 0, payload, part);
+    1
 }
 
-// How many ranks of line k's pongs the walk goes through: none of the ping's own line, nor of a ring that can't hold so many.
-fn ranks_of(line: u32, k: usize, count: usize) -> usize
-    ensures { λ r. ⌜ r ≡ ranksOf line k count ⌝ }
+// The pong at the front of the part, if it is less than 15,000 ms old; how many that is.
+fn put_fresh(pong: Pong, clock: u32, number: [u8; 16], pinghops: u8, part: &mut [u8]) -> usize
+    requires { ⌜ 37 ≤ length (now part) ⌝ }
+    ensures { λ r. ⌜ PongsPut (length (ifFresh clock pong)) (storedBytes number pinghops (ifFresh clock pong)) (now (part .entry)) (now (part .exit)) r ⌝ }
+    ensures few { λ r. ⌜ r ≤ 1 ⌝ }
 {
-    if !is_other(line, k) {
+    if 15000 <= elapsed_ms(clock, pong.clock) {
         return 0;
     }
-    if 10 < count {
-        return 0;
-    }
-    count
+    let bytes = pong.bytes;
+    put_pong(number, pinghops, one_hop_more(pong.hops), bytes, part);
+    1
 }
 
-// The same of each line. The walk looks here, and copies a line only where it has a pong of the rank.
-fn ranks_in(lines: [Line; 8], line: u32) -> [usize; 8]
-    ensures { λ r. ⌜ r ≡ ranksIn lines line ⌝ }
+// How many pongs each line keeps, and where its ring goes on. The walk below reads these and the rings by themselves, so that no line is
+// copied.
+fn counts_in(lines: [Line; 8]) -> [usize; 8]
+    ensures { λ r. ⌜ r ≡ countsIn lines ⌝ }
 {
-    let a = ranks_of(line, 0, lines[0].pongcount);
-    let b = ranks_of(line, 1, lines[1].pongcount);
-    let c = ranks_of(line, 2, lines[2].pongcount);
-    let d = ranks_of(line, 3, lines[3].pongcount);
-    let e = ranks_of(line, 4, lines[4].pongcount);
-    let f = ranks_of(line, 5, lines[5].pongcount);
-    let g = ranks_of(line, 6, lines[6].pongcount);
-    let h = ranks_of(line, 7, lines[7].pongcount);
-    [a, b, c, d, e, f, g, h]
+    [
+        lines[0].pongcount,
+        lines[1].pongcount,
+        lines[2].pongcount,
+        lines[3].pongcount,
+        lines[4].pongcount,
+        lines[5].pongcount,
+        lines[6].pongcount,
+        lines[7].pongcount,
+    ]
+}
+
+fn nexts_in(lines: [Line; 8]) -> [usize; 8]
+    ensures { λ r. ⌜ r ≡ nextsIn lines ⌝ }
+{
+    [
+        lines[0].pongnext,
+        lines[1].pongnext,
+        lines[2].pongnext,
+        lines[3].pongnext,
+        lines[4].pongnext,
+        lines[5].pongnext,
+        lines[6].pongnext,
+        lines[7].pongnext,
+    ]
+}
+
+fn rings_in(lines: [Line; 8]) -> [[Pong; 10]; 8]
+    ensures { λ r. ⌜ r ≡ ringsIn lines ⌝ }
+{
+    let x0 = lines[0];
+    let x1 = lines[1];
+    let x2 = lines[2];
+    let x3 = lines[3];
+    let x4 = lines[4];
+    let x5 = lines[5];
+    let x6 = lines[6];
+    let x7 = lines[7];
+    let r0 = x0.pongs;
+    let r1 = x1.pongs;
+    let r2 = x2.pongs;
+    let r3 = x3.pongs;
+    let r4 = x4.pongs;
+    let r5 = x5.pongs;
+    let r6 = x6.pongs;
+    let r7 = x7.pongs;
+    [r0, r1, r2, r3, r4, r5, r6, r7]
 }
 
 fn larger(a: usize, b: usize) -> usize
@@ -119,73 +125,73 @@ fn larger(a: usize, b: usize) -> usize
     if a < b { b } else { a }
 }
 
-// The largest of the eight.
-fn most_of(ranks: [usize; 8]) -> usize
-    ensures { λ r. ⌜ r ≡ mostOf ranks ⌝ }
+// The largest of the eight, or 10 where that is more.
+fn most_of(counts: [usize; 8]) -> usize
+    ensures { λ r. ⌜ r ≡ min 10 (largest counts) ⌝ }
 {
-    let a = larger(ranks[0], ranks[1]);
-    let b = larger(ranks[2], ranks[3]);
-    let c = larger(ranks[4], ranks[5]);
-    let d = larger(ranks[6], ranks[7]);
-    larger(larger(a, b), larger(c, d))
+    let mut most = 0;
+    let mut k = 0;
+    while k < 8 {
+        most = larger(most, counts[k]);
+        k += 1;
+    }
+    if most < 10 { most } else { 10 }
 }
 
-// The line's pong of this rank at the front of the part, if it has a fresh one; how many were put.
-fn put_turn(x: Line, rank: usize, clock: u32, number: [u8; 16], ttl: u8, part: &mut [u8]) -> usize
-    requires { ⌜ 37 ≤ length (now part) ⌝ }
-    ensures count { λ r. ⌜ r ≡ length (freshOf x rank clock) ⌝ }
-    ensures few { λ r. ⌜ r ≤ 1 ⌝ }
-    ensures size { λ r. ⌜ 37 * r ≡ length (storedBytes number ttl (freshOf x rank clock)) ⌝ }
-    ensures bytes { λ _. ⌜ now (part .exit) ≡ over 0 (storedBytes number ttl (freshOf x rank clock)) (now (part .entry)) ⌝ }
+// The place of line k's pong of this rank, and 10 where the walk for a ping from `line` finds none there.
+fn place_for(line: u32, k: u32, count: usize, next: usize, rank: usize) -> usize
+    ensures { λ r. ⌜ r ≡ placeFor line k count next rank ⌝ }
 {
-    let place = place_of(x.pongnext, x.pongcount, rank);
-    if 10 <= place {
-        return 0;
+    if !is_other(line, k) {
+        return 10;
     }
-    let pong = x.pongs[place];
-    if 15000 <= elapsed_ms(clock, pong.clock) {
-        return 0;
+    if 10 < count {
+        return 10;
     }
-    let bytes = pong.bytes;
-    put_pong(number, ttl, one_hop_more(pong.hops), bytes, part);
-    1
+    if 10 <= next {
+        return 10;
+    }
+    if count <= rank {
+        return 10;
+    }
+    place_of(next, rank)
 }
 
-// The stored pongs at the front of the part: rank by rank, and within a rank line by line, until ten have been put; how many bytes.
+// The stored pongs at the front of the part: rank by rank, and within a rank line by line, until ten have been put; how many.
 fn put_stored(
     lines: [Line; 8],
     line: u32,
     clock: u32,
     number: [u8; 16],
-    ttl: u8,
+    pinghops: u8,
     part: &mut [u8],
 ) -> usize
     requires { ⌜ 370 ≤ length (now part) ⌝ }
-    ensures size { λ r. ⌜ r ≡ length (storedBytes number ttl (storedFor lines line clock)) ⌝ }
-    ensures room { λ r. ⌜ r ≤ 370 ⌝ }
-    ensures count { λ r. ⌜ r ≡ 37 * length (storedFor lines line clock) ⌝ }
-    ensures bytes { λ _. ⌜ now (part .exit) ≡ over 0 (storedBytes number ttl (storedFor lines line clock)) (now (part .entry)) ⌝ }
+    ensures { λ r. ⌜ PongsPut (length (storedSent lines line clock)) (storedBytes number pinghops (storedSent lines line clock)) (now (part .entry)) (now (part .exit)) r ⌝ }
+    ensures few { λ r. ⌜ r ≤ 10 ⌝ }
 {
-    let ranks = ranks_in(lines, line);
-    let turns = 8 * most_of(ranks);
+    let counts = counts_in(lines);
+    let nexts = nexts_in(lines);
+    let rings = rings_in(lines);
+    let turns = 8 * most_of(counts);
     let mut sent = 0;
     let mut i = 0;
     while i < turns {
         if 10 <= sent {
-            return 37 * sent;
+            return sent;
         }
         let k = i % 8;
-        let rank = i / 8;
+        let place = place_for(line, k as u32, counts[k], nexts[k], i / 8);
         i += 1;
-        if ranks[k] <= rank {
+        if 10 <= place {
             continue;
         }
-        let x = lines[k];
+        let pong = rings[k][place];
         let at = 37 * sent;
-        let put = put_turn(x, rank, clock, number, ttl, &mut part[at..]);
+        let put = put_fresh(pong, clock, number, pinghops, &mut part[at..]);
         sent += put;
     }
-    37 * sent
+    sent
 }
 
 // The pongs that answer a ping of this number and Hops from `line`, one message after another at the front of `out`; how many bytes. A
@@ -207,11 +213,11 @@ pub fn send_pongs(
     if out.len() < 407 {
         return 0;
     }
-    let ttl = pong_ttl(hops);
-    let first = put_own(own, number, ttl, probe, &mut *out);
+    let first = put_own(own, number, hops, probe, &mut *out);
+    let at = 37 * first;
     if probe {
-        return first;
+        return at;
     }
-    let rest = put_stored(lines, line, clock, number, ttl, &mut out[first..]);
-    first + rest
+    let rest = put_stored(lines, line, clock, number, hops, &mut out[at..]);
+    at + 37 * rest
 }

@@ -148,7 +148,7 @@ module _ (m out : List ℕ) (size : ℕ) (es : size ≡ sizeOf m) (whole : 23 + 
 -- ---- a hit
 
 -- a report that is changed where it is told so: how many bytes are sent, and to which lines; a hit that is delivered
-abbrev sentIn : Report → ℕ → List Bool → Report
+abbrev pub sentIn : Report → ℕ → List Bool → Report
 sentIn q w to =
     record {
       answer = q .answer;

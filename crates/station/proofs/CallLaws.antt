@@ -3,13 +3,14 @@
 -- Assumes nothing.
 use Prim.Native.Nat.{ℕ, _+_, _/_, _%_, _≤_, _<_}
 use native.Mathlib.Omega.{arith}
+use native.Mathlib.Numerals.{add-one}
 use mathlib.Core.Path.{_≡_, refl, sym, ap, ap₂, subst, _∙_}
 use mathlib.Core.Bool.{Bool, true, false, cond, not, _&&_, _||_}
 use mathlib.Core.List.{List, [], _∷_, _++_, map}
 use lib.Dec.{eqb, leb, ltb}
-use lib.ListN.{length, getD, set}
-use lib.Seq.{set-getD}
-use borrow.Author.Tests.{eq-eqb, ne-eqb, eqb-true, eqb-false, ltb-true, ltb-false, not-false}
+use lib.ListN.{length, getD, set, drop, replicate, length-append}
+use lib.Seq.{set-getD, drop-cons}
+use borrow.Author.Tests.{le-leb, eq-eqb, ne-eqb, eqb-true, eqb-false, ltb-true, ltb-false, not-false}
 use Rattle.laws.specs.Parts.{over}
 use Rattle.laws.specs.Tests.{firstOf, any, all, every}
 use Rattle.laws.proofs.Refusals.{or-fst, or-snd, no-refusal, NoRefusal}
@@ -25,6 +26,7 @@ use Rattle.wire.specs.Header.{
   routeUpdate,
   queryType,
   hitType,
+  message,
 }
 use Rattle.protocol.specs.declared.Line.{Line}
 use Rattle.protocol.specs.declared.Lookup.{Lookup}
@@ -53,10 +55,14 @@ use Rattle.protocol.specs.Lines.{lineIn, livesIn, nowhere, emptyLine, withPong}
 use Rattle.protocol.specs.State.{Station, Change, stationOf, lookedUp, lineAt, withLine}
 use Rattle.protocol.specs.Order.{linesInOrder, inOrder}
 use Rattle.protocol.specs.Outcomes.{Terms, Result, Outcome, Step, quiet, sends, writtenFor, pickResult, refusedOr, stored, unused, usedOf}
-use Rattle.protocol.specs.Queries.{usualLimit, hasText, queryRules, queryTaken, queryStep, ownLines, ownBytes}
+use Rattle.protocol.specs.Queries.{usualLimit, hasText, queryRules, queryTaken, queryStep, ownTo, ownLines, ownBytes}
 use Rattle.protocol.specs.Hits.{hitStep, hitRules, hitTaken}
 use Rattle.protocol.specs.Pings.{pingStep, pingRules, pingTaken, pongStep, pongRules, arrivedPong}
 use Rattle.protocol.specs.Calls.{
+  freshRoom,
+  freshAnswer,
+  freshMemory,
+  fresh,
   openingRules,
   opening,
   closingRules,
@@ -82,9 +88,12 @@ use Rattle.protocol.specs.Calls.{
 }
 use Rattle.protocol.proofs.Outcomes.{eachLine-at}
 use Rattle.station.specs.declared.actions.Action.{Action}
-use Rattle.station.specs.Actions.{actionOf, quietAction, Does, Whole, Fit, acting}
+use Rattle.forwarding.specs.Messages.{sendable, countIf, writtenIf, ownInto}
+use Rattle.forwarding.specs.Passing.{heldOf}
+use Rattle.station.specs.declared.lines.View.{View}
+use Rattle.station.specs.Actions.{actionOf, viewOf, quietReport, quietAction, Does, Whole, Fit, acting}
 use Rattle.station.specs.Calls.{Met, MessageMet, OwnMet, Changed, ownSent, Sends}
-use Rattle.station.proofs.ActionLaws.{step-refused}
+use Rattle.station.proofs.ActionLaws.{sentIn, step-refused}
 
 -- ---- what a message does by its type
 
@@ -189,6 +198,10 @@ module _ (room : ℕ) (lines : List Line) (l : ℕ) (k : Lookup) (m : List ℕ) 
 
 -- ---- the first refusal of a call, given what is read off the lines
 
+-- a test of every element, from element i on
+pub all-from : {A : Type 0} (f : A → Bool) (l : List A) (i : ℕ) (d : A) → i < length l → all f (drop i l) ≡ (f (getD l i d) && all f (drop (i + 1) l))
+all-from f l i d h = ap (all f) (drop-cons l i d h) ∙ ap (λ n. f (getD l i d) && all f (drop n l)) (sym (add-one i))
+
 -- a test of every element is another where the two agree
 all-same : {A : Type 0} (f g : A → Bool) → ((x : A) → f x ≡ g x) → (xs : List A) → all f xs ≡ all g xs
 all-same f g h [] = refl
@@ -232,6 +245,29 @@ module _ (room : ℕ) (lines : List Line) (q : Memory) where
         ∙ rw (eo, el, es)
         (ap (λ x. firstOf ((not (inOrder state), 1) ∷ (unfitAreas room out route, 2) ∷ (x, 3) ∷ extentRules (length m) (sizeOf m)))
         (same-test (λ x. not (x .live))))
+
+-- given what is read off the lines
+module _ (lines : List Line) (room l : ℕ) {v : View} (ev : v ≡ viewOf lines room l) where
+  pub live-in-view : v .line .live ≡ lineIn lines l .live
+  live-in-view = ap (λ (v : View). v .line .live) ev
+
+  pub line-in-view : (b : Bool) (x : Line) {y : Line} → y ≡ cond b x (v .line) → y ≡ cond b x (lineIn lines l)
+  line-in-view b x e = e ∙ ap (λ (v : View). cond b x (v .line)) ev
+
+pub survey-order : (room : ℕ) (lines : List Line) (q : Memory) (l : ℕ) {v : View} {b : Bool} → v ≡ viewOf lines room l
+    → b ≡ (memoryInOrder capacity (λ k. getD (v .live) k false) q && v .order) → b ≡ inOrder (state room lines q)
+survey-order room lines q l {v} ev e =
+    order-is room lines q (e ∙ ap (λ (v : View). memoryInOrder capacity (λ k. getD (v .live) k false) q && v .order) ev)
+
+-- the number of a message by its header
+module _ (m : List ℕ) {h : Header} (eh : h ≡ headerIn m) (q : Memory) where
+  pub known-is : {k : Lookup} → k ≡ lookupOf (find (queriesIn capacity q) (numberFrom (h .lo) (h .hi)))
+      → k ≡ lookupOf (find (queriesIn capacity q) (numberIn m))
+  known-is e = e ∙ ap (λ (h : Header). lookupOf (find (queriesIn capacity q) (numberFrom (h .lo) (h .hi)))) eh
+
+  pub ring-after : (taken : Bool) (who : ℕ) {q′ : Memory} → q′ ≡ rememberIf taken capacity q (numberFrom (h .lo) (h .hi)) who
+      → q′ ≡ rememberIf taken capacity q (numberIn m) who
+  ring-after taken who e = e ∙ ap (λ (h : Header). rememberIf taken capacity q (numberFrom (h .lo) (h .hi)) who) eh
 
 -- ---- an arriving message
 
@@ -449,3 +485,55 @@ module _ (room : ℕ) (lines : List Line) (q : Memory) (number text route out : 
             (stationOf room lines (rememberIf b capacity q (numberIn number) here)) out out′ route
         by true e w = record { report = w .report; state = refl; output = w .output; area = refl }
         by false e w = record { report = w .report; state = refl; output = w .output; area = refl }
+
+-- what is told and written of an own query
+module _ (limit n room : ℕ) (lines : List Line) (l : ℕ) (v : View) (ev : v ≡ viewOf lines room l) (number text route out : List ℕ) where
+  abbrev told : Report → List ℕ → Type 0
+  told r out′ = Sends (ownSent limit n room lines number text route) r out out′
+
+  pub own-refused : {r : Report} → (n ≡ 0 → ⊥) → r ≡ quietReport n → told r out
+  unfolding ownSent
+  own-refused z er = rw (ne-eqb n 0 z) (record { report = er; output = refl })
+
+  module _ (z : n ≡ 0) {q : Report} (eq : q ≡ quietReport n) {to : List Bool}
+      (et : to ≡ ownTo limit (λ k. getD (v .live) k false) (λ k. heldOf (v .tables) room route k) text) where
+    to-is : to ≡ ownLines limit room lines text route
+    to-is = et ∙ ap (λ (v : View). ownTo limit (λ k. getD (v .live) k false) (λ k. heldOf (v .tables) room route k) text) ev
+
+    pub own-unsent : any (λ b. b) to ≡ false → told (sentIn q (q .written) to) out
+    unfolding ownSent
+    own-unsent e =
+        let f : any (λ b. b) (ownLines limit room lines text route) ≡ false = sym (ap (any (λ b. b)) to-is) ∙ e in
+        rw (eq-eqb n 0 z, f) (record { report = ap (λ (q : Report). sentIn q (q .written) to) eq ∙ rw (to-is, z); output = refl })
+
+    pub own-sent : any (λ b. b) to ≡ true → {w : ℕ} {out′ : List ℕ} → w ≡ length (ownBytes limit number text) → out′ ≡ over 0 (ownBytes limit number text) out
+        → told (sentIn q w to) out′
+    unfolding ownSent
+    own-sent e {w} ew eo =
+        let f : any (λ b. b) (ownLines limit room lines text route) ≡ true = sym (ap (any (λ b. b)) to-is) ∙ e in
+        rw (eq-eqb n 0 z, f) (record { report = ap (λ (q : Report). sentIn q w to) eq ∙ rw (to-is, z, ew); output = eo })
+
+-- ---- a fresh state
+
+pub fresh-done : (n : ℕ) {room answer : ℕ} {x : Line} {q : Memory} → room ≡ freshRoom n → answer ≡ freshAnswer n → x ≡ emptyLine false → q ≡ freshMemory
+    → Changed (fresh n) answer (stationOf room (replicate 8 x) q)
+unfolding fresh
+fresh-done n er ea ex eq =
+    record { answered = ea; state = rw (er, ex, eq) }
+
+-- an own query that fits, written
+module _ (limit : ℕ) (number text out : List ℕ) (sixteen : length number ≡ 16) (short : length text ≤ 4093) (room : 4119 ≤ length out) where
+  can-send : sendable text out ≡ true
+  can-send =
+      let r : 26 + length text ≤ length out = omega arith in
+      rw (le-leb (length text) 4093 short, le-leb (26 + length text) (length out) r)
+
+  own-long : length (ownBytes limit number text) ≡ 26 + length text
+  unfolding message
+  own-long = simp (length-append) (omega arith)
+
+  pub own-counted : {w : ℕ} → w ≡ countIf (sendable text out) (26 + length text) → w ≡ length (ownBytes limit number text)
+  own-counted e = e ∙ ap (λ b. countIf b (26 + length text)) can-send ∙ sym own-long
+
+  pub own-written : {o : List ℕ} → o ≡ ownInto number limit text out → o ≡ over 0 (ownBytes limit number text) out
+  own-written e = e ∙ ap (λ b. writtenIf b (ownBytes limit number text) out) can-send

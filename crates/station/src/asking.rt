@@ -10,7 +10,7 @@ ghost use Rattle.station.specs.Actions.{viewOf};
 ghost use Rattle.station.specs.Calls.{OwnMet, Sends, ownSent};
 use crate::actions::quiet;
 use crate::lines::View;
-use crate::lines::view;
+use crate::lines::read_lines;
 use crate::order::survey;
 use forwarding::lines::any_line;
 use forwarding::lines::passing;
@@ -78,7 +78,7 @@ pub fn ask(
     let h = read_header(&number);
     let n = *count;
     let p = *next;
-    let v = view(lines, room, 0);
+    let v = read_lines(lines, room, 0);
     let live = v.live;
     let s = survey(lo, hi, asker, n, p, v.order, live, h.lo, h.hi);
     let zero = any_zero(text);

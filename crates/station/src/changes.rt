@@ -9,7 +9,7 @@ ghost use Rattle.protocol.specs.Lines.{emptyLine};
 ghost use Rattle.protocol.specs.State.{stationOf};
 ghost use Rattle.protocol.specs.Calls.{fresh, freshRoom, freshAnswer, opening, closing};
 ghost use Rattle.station.specs.Calls.{Changed};
-use crate::lines::view;
+use crate::lines::read_lines;
 use crate::order::survey;
 use memory::leave::leave;
 use protocol::GONE;
@@ -129,7 +129,7 @@ pub fn open_line<'a>(
       let after = stationOf room (set lines (line % 8) (r .line)) memory in
       ⌜ Changed (opening before line) (r .answer) after ⌝ }
 {
-    let v = view(lines, room, line % 8);
+    let v = read_lines(lines, room, line % 8);
     let live = v.live;
     let s = survey(lo, hi, asker, count, next, v.order, live, 0, 0);
     let x = v.line;
@@ -148,10 +148,10 @@ fn leaver(answer: u8, line: u32) -> u8
     (line % 8) as u8
 }
 
-// A line is closed. The record that comes back belongs at line % 8.
+// A line is closed. The record that comes back belongs at line % 8; the numbers are lent as the askers are, and stay.
 pub fn close_line(
-    lo: &[u64; 512],
-    hi: &[u64; 512],
+    lo: &mut [u64; 512],
+    hi: &mut [u64; 512],
     asker: &mut [u8; 512],
     count: usize,
     next: usize,
@@ -162,10 +162,10 @@ pub fn close_line(
     ensures { λ r.
       let before = stationOf room lines (memoryOf (now (lo .entry)) (now (hi .entry)) (now (asker .entry)) count next) in
       let after = stationOf room (set lines (line % 8) (r .line))
-        (memoryOf (now (lo .entry)) (now (hi .entry)) (now (asker .exit)) count next) in
+        (memoryOf (now (lo .exit)) (now (hi .exit)) (now (asker .exit)) count next) in
       ⌜ Changed (closing before line) (r .answer) after ⌝ }
 {
-    let v = view(lines, room, line % 8);
+    let v = read_lines(lines, room, line % 8);
     let live = v.live;
     let s = survey(lo, hi, asker, count, next, v.order, live, 0, 0);
     let x = v.line;

@@ -8,7 +8,7 @@ ghost use Rattle.protocol.specs.State.{stationOf};
 ghost use Rattle.protocol.specs.Outcomes.{termsOf, unused};
 ghost use Rattle.station.specs.Calls.{MessageMet};
 use crate::act::act;
-use crate::lines::view;
+use crate::lines::read_lines;
 use crate::order::survey;
 use memory::remember::remember;
 use protocol::Line;
@@ -66,7 +66,7 @@ pub fn message(
     let n = *count;
     let p = *next;
     let l = line % 8;
-    let v = view(lines, room, l);
+    let v = read_lines(lines, room, l);
     let live = v.live;
     let s = survey(lo, hi, asker, n, p, v.order, live, h.lo, h.hi);
     let j = l as usize;

@@ -1,11 +1,11 @@
 // Whether a state is in order, and what it remembers of a number.
 ghost use mathlib.Core.Path.{_≡_};
-ghost use mathlib.Core.Bool.{_&&_};
+ghost use mathlib.Core.Bool.{false, _&&_};
 ghost use lib.ListN.{getD};
 ghost use Rattle.protocol.specs.Memory.{memoryOf, numberFrom, capacity, memoryInOrder, queriesIn, find, lookupOf};
 ghost use Rattle.protocol.specs.State.{stationOf};
 ghost use Rattle.protocol.specs.Order.{inOrder};
-use crate::lines::view;
+use crate::lines::read_lines;
 use memory::order::Survey;
 use protocol::Line;
 
@@ -53,7 +53,7 @@ pub fn in_order<'a>(
       let s = stationOf room lines (memoryOf (now (lo .entry)) (now (hi .entry)) (now (asker .entry)) count next) in
       ⌜ r ≡ inOrder s ⌝ }
 {
-    let v = view(lines, room, 0);
+    let v = read_lines(lines, room, 0);
     let live = v.live;
     let ones = 18446744073709551615;
     let s = survey(lo, hi, asker, count, next, v.order, live, ones, ones);

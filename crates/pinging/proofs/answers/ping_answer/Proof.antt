@@ -1,36 +1,54 @@
 -- Each return has what its tests showed.
 use mathlib.Core.Path.{sym, _∙_}
-use borrow.Author.Needs.{needs}
 use borrow.Author.Tests.{eq-eqb, ne-eqb, lt-ltb, le-ltb, not-true, not-false}
-use Rattle.pinging.specs.Numbers.{pingNumber}
+use borrow.Author.Needs.{needs}
 use Rattle.pinging.proofs.answers.ping_answer.Statement.{statement}
 use Rattle.pinging.proofs.answers.ping_answer.Tie as tie
 
 returns : tie.Need-returns
-unfolding pingNumber
 returns c = simp (eq-eqb _ _ (c .if1 .taken))
 
 is-probe-requires : tie.Need-is-probe-requires
 is-probe-requires c κs = search needs
 
 returns-2 : tie.Need-returns-2
-unfolding pingNumber
-returns-2 c = simp (ne-eqb _ _ (c .before .before .if1 .left), sym (c .before .is-probe .ensures) ∙ c .if2 .taken)
+returns-2 c =
+    let asked = c .before in
+    simp (ne-eqb _ _ (asked .before .if1 .left), sym (asked .is-probe .ensures) ∙ c .if2 .taken)
 
 returns-3 : tie.Need-returns-3
-unfolding pingNumber
-returns-3 c = simp (ne-eqb _ _ (c .before .before .before .if1 .left), sym (c .before .before .is-probe .ensures) ∙ c .before .if2 .left, not-true (c .before .before .before .before .args .pinged) (c .if3 .taken))
+returns-3 c =
+    let asked = c .before .before in
+    simp (
+      ne-eqb _ _ (asked .before .if1 .left),
+      sym (asked .is-probe .ensures) ∙ c .before .if2 .left,
+      not-true (asked .before .before .before .args .pinged) (c .if3 .taken),
+    )
 
 elapsed-ms-requires : tie.Need-elapsed-ms-requires
 elapsed-ms-requires c κs = search needs
 
 returns-4 : tie.Need-returns-4
-unfolding pingNumber
-returns-4 c = simp (ne-eqb _ _ (c .before .before .before .before .before .if1 .left), sym (c .before .before .before .before .is-probe .ensures) ∙ c .before .before .before .if2 .left, not-false (c .before .before .before .before .before .before .args .pinged) (c .before .before .if3 .left), ← (c .before .elapsed-ms .ensures), lt-ltb _ _ (c .if4 .taken))
+returns-4 c =
+    let asked = c .before .before .before .before in
+    simp (
+      ne-eqb _ _ (asked .before .if1 .left),
+      sym (asked .is-probe .ensures) ∙ c .before .before .before .if2 .left,
+      not-false (asked .before .before .before .args .pinged) (c .before .before .if3 .left),
+      ← (c .before .elapsed-ms .ensures),
+      lt-ltb _ _ (c .if4 .taken),
+    )
 
 returns-5 : tie.Need-returns-5
-unfolding pingNumber
-returns-5 c = simp (ne-eqb _ _ (c .before .before .before .before .before .if1 .left), sym (c .before .before .before .before .is-probe .ensures) ∙ c .before .before .before .if2 .left, not-false (c .before .before .before .before .before .before .args .pinged) (c .before .before .if3 .left), ← (c .before .elapsed-ms .ensures), le-ltb _ _ (c .if4 .left))
+returns-5 c =
+    let asked = c .before .before .before .before in
+    simp (
+      ne-eqb _ _ (asked .before .if1 .left),
+      sym (asked .is-probe .ensures) ∙ c .before .before .before .if2 .left,
+      not-false (asked .before .before .before .args .pinged) (c .before .before .if3 .left),
+      ← (c .before .elapsed-ms .ensures),
+      le-ltb _ _ (c .if4 .left),
+    )
 
 pub ping-answer-spec : {M : Type 1} → statement M
 ping-answer-spec =

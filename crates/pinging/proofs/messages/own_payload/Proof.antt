@@ -1,7 +1,7 @@
--- Each part is what its leaf says.
-use mathlib.Core.Path.{_∙_}
-use borrow.Author.Needs.{needs}
+-- Byte by byte.
+use native.Mathlib.Omega.{arith}
 use Rattle.pinging.proofs.SendLaws.{own-parts}
+use borrow.Author.Needs.{needs}
 use Rattle.pinging.proofs.messages.own_payload.Statement.{statement}
 use Rattle.pinging.proofs.messages.own_payload.Tie as tie
 
@@ -14,14 +14,53 @@ little-bytes4-requires c κs = search needs
 little-bytes4-requires-2 : tie.Need-little-bytes4-requires-2
 little-bytes4-requires-2 c κs = search needs
 
-joined-requires : tie.Need-joined-requires
-joined-requires c κs = search needs
+array-read-t13 : tie.Need-array-read-t13
+array-read-t13 c = search needs
+
+array-read-t16 : tie.Need-array-read-t16
+array-read-t16 c = search needs
+
+array-read-t19 : tie.Need-array-read-t19
+array-read-t19 c = search needs
+
+array-read-t22 : tie.Need-array-read-t22
+array-read-t22 c = search needs
+
+array-read-t25 : tie.Need-array-read-t25
+array-read-t25 c = search needs
+
+array-read-t28 : tie.Need-array-read-t28
+array-read-t28 c = search needs
+
+array-read-t31 : tie.Need-array-read-t31
+array-read-t31 c = search needs
+
+array-read-t34 : tie.Need-array-read-t34
+array-read-t34 c = search needs
+
+array-read-t37 : tie.Need-array-read-t37
+array-read-t37 c = search needs
+
+array-read-t40 : tie.Need-array-read-t40
+array-read-t40 c = search needs
+
+array-read-t43 : tie.Need-array-read-t43
+array-read-t43 c = search needs
+
+array-read-t46 : tie.Need-array-read-t46
+array-read-t46 c = search needs
+
+array-read-t49 : tie.Need-array-read-t49
+array-read-t49 c = search needs
+
+array-read-t52 : tie.Need-array-read-t52
+array-read-t52 c = search needs
 
 returns : tie.Need-returns
 returns c =
-    let own = c .before .before .before .before .before .args .own in
-    c .joined .ensures
-    ∙ own-parts own _ _ _ (c .before .before .before .before .little-bytes2 .ensures) (c .before .before .little-bytes4 .ensures) (c .before .little-bytes42 .ensures)
+    let x = c .before .before .before .args in
+    own-parts (x .port) (x .files) (x .kilobytes) (x .t2) _ _ _ (omega arith) (c .before .before .little-bytes2 .ensures)
+    (c .before .little-bytes4 .ensures) (c .little-bytes42 .ensures)
 
 pub own-payload-spec : {M : Type 1} → statement M
 own-payload-spec =
@@ -30,5 +69,18 @@ own-payload-spec =
     little-bytes2-requires
     little-bytes4-requires
     little-bytes4-requires-2
-    joined-requires
+    array-read-t13
+    array-read-t16
+    array-read-t19
+    array-read-t22
+    array-read-t25
+    array-read-t28
+    array-read-t31
+    array-read-t34
+    array-read-t37
+    array-read-t40
+    array-read-t43
+    array-read-t46
+    array-read-t49
+    array-read-t52
     returns)

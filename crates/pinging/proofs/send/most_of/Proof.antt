@@ -1,82 +1,69 @@
--- The larger of each two.
+-- The largest so far, with those that are left, is the largest of all.
+use Prim.Native.Nat.{_≤_, _-_, max}
+use mathlib.Core.Path.{_≡_}
+use native.Mathlib.Omega.{arith}
+use lib.ListN.{length, drop}
+use Rattle.pinging.specs.Ring.{largest}
+use Rattle.pinging.proofs.WalkLaws.{largest-on, largest-end}
 use borrow.Author.Needs.{needs}
-use Rattle.pinging.proofs.WalkLaws.{most-is}
 use Rattle.pinging.proofs.send.most_of.Statement.{statement}
 use Rattle.pinging.proofs.send.most_of.Tie as tie
 
-array-read-larger : tie.Need-array-read-larger
+abbrev Inv-loop : tie.InvT-loop
+Inv-loop counts most₀ k₀ most k =
+    (k ≤ 8) × (max most (largest (drop k counts)) ≡ largest counts)
+
+abbrev μ-loop : tie.MeasureT-loop
+μ-loop counts most₀ k₀ most k = 8 - k
+
+loop-holds : tie.Need-loop-holds Inv-loop μ-loop
+loop-holds c = (omega arith, omega arith)
+
+mul-larger : tie.Need-mul-larger Inv-loop μ-loop
+mul-larger c = search needs
+
+array-read-larger : tie.Need-array-read-larger Inv-loop μ-loop
 array-read-larger c = search needs
 
-array-read-larger-2 : tie.Need-array-read-larger-2
-array-read-larger-2 c = search needs
-
-larger-requires : tie.Need-larger-requires
+larger-requires : tie.Need-larger-requires Inv-loop μ-loop
 larger-requires c κs = search needs
 
-array-read-larger-3 : tie.Need-array-read-larger-3
-array-read-larger-3 c = search needs
+add-k : tie.Need-add-k Inv-loop μ-loop
+add-k c = search needs
 
-array-read-larger-4 : tie.Need-array-read-larger-4
-array-read-larger-4 c = search needs
+loop-less : tie.Need-loop-less Inv-loop μ-loop
+loop-less c = search needs
 
-larger-requires-2 : tie.Need-larger-requires-2
-larger-requires-2 c κs = search needs
+loop-again : tie.Need-loop-again Inv-loop μ-loop
+loop-again c =
+    let at = c .before .before in
+    let e = largest-on (at .before .args .t1) (at .loop .k) (omega arith) in
+    (omega arith, omega arith)
 
-array-read-larger-5 : tie.Need-array-read-larger-5
-array-read-larger-5 c = search needs
-
-array-read-larger-6 : tie.Need-array-read-larger-6
-array-read-larger-6 c = search needs
-
-larger-requires-3 : tie.Need-larger-requires-3
-larger-requires-3 c κs = search needs
-
-array-read-larger-7 : tie.Need-array-read-larger-7
-array-read-larger-7 c = search needs
-
-array-read-larger-8 : tie.Need-array-read-larger-8
-array-read-larger-8 c = search needs
-
-larger-requires-4 : tie.Need-larger-requires-4
-larger-requires-4 c κs = search needs
-
-larger-requires-5 : tie.Need-larger-requires-5
-larger-requires-5 c κs = search needs
-
-larger-requires-6 : tie.Need-larger-requires-6
-larger-requires-6 c κs = search needs
-
-larger-requires-7 : tie.Need-larger-requires-7
-larger-requires-7 c κs = search needs
-
-returns : tie.Need-returns
+returns : tie.Need-returns Inv-loop μ-loop
 returns c =
-    most-is (c .before .before .before .before .before .before .before .args .t1)
-    (c .before .before .before .before .before .before .larger .ensures)
-    (c .before .before .before .before .before .larger2 .ensures)
-    (c .before .before .before .before .larger3 .ensures)
-    (c .before .before .before .larger4 .ensures)
-    (c .before .before .larger5 .ensures)
-    (c .before .larger6 .ensures)
-    (c .larger7 .ensures)
+    let at = c .before .before in
+    let e = largest-end (at .before .args .t1) (at .loop .k) (omega arith) in
+    omega arith
+
+returns-2 : tie.Need-returns-2 Inv-loop μ-loop
+returns-2 c =
+    let at = c .before .before in
+    let e = largest-end (at .before .args .t1) (at .loop .k) (omega arith) in
+    omega arith
 
 pub most-of-spec : {M : Type 1} → statement M
 most-of-spec =
     tie.close
     (tie.spec
+    Inv-loop
+    μ-loop
+    loop-holds
+    mul-larger
     array-read-larger
-    array-read-larger-2
     larger-requires
-    array-read-larger-3
-    array-read-larger-4
-    larger-requires-2
-    array-read-larger-5
-    array-read-larger-6
-    larger-requires-3
-    array-read-larger-7
-    array-read-larger-8
-    larger-requires-4
-    larger-requires-5
-    larger-requires-6
-    larger-requires-7
-    returns)
+    add-k
+    loop-less
+    loop-again
+    returns
+    returns-2)
