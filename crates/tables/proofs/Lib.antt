@@ -1,3 +1,4 @@
+-- Laws of updates and of withholding, of one table and of histories, and cases by computation.
 pub mod TestLaws
 pub mod PatchFacts
 pub mod NumberLaws

@@ -1,3 +1,4 @@
+-- The writer's tests in their order, and what each that is passed leaves: the messages fit their places, their run and the output.
 use Prim.Native.Nat.{_+_, _-_, _*_, _/_, _≤_}
 use mathlib.Core.Path.{_≡_, refl, sym, ap, _∙_}
 use mathlib.Core.Bool.{true}

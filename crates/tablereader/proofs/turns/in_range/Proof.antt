@@ -1,3 +1,4 @@
+-- The PATCH is in turn, so its numbers have entries to be added to; each is tried there.
 use mathlib.Core.Path.{_∙_}
 use native.Mathlib.Omega.{arith}
 use borrow.Author.Needs.{needs}

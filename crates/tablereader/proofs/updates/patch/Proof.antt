@@ -1,3 +1,4 @@
+-- A PATCH that is refused leaves the part; one that passes every test is added to the entries behind those of its run.
 use mathlib.Core.Path.{sym, _∙_}
 use native.Mathlib.Omega.{arith}
 use borrow.Author.Needs.{needs}

@@ -1,3 +1,4 @@
+-- A RESET that is refused leaves the part; one that passes fills as many entries as it names.
 use mathlib.Core.Path.{sym, _∙_}
 use native.Mathlib.Omega.{arith}
 use lib.ListN.{length}

@@ -1,3 +1,4 @@
+-- Message after message: each carries what is left of the data, or as much as a message may, and stands behind the one before.
 use Prim.Native.Nat.{_+_, _-_, _≤_, _<_, min}
 use mathlib.Core.Path.{_≡_, ap, sym, _∙_}
 use native.Mathlib.Omega.{arith}
