@@ -29,9 +29,9 @@ pub extern "C" fn lunozhar_fresh_lent(
     route_len: usize,
 ) -> Beginning
     ensures { λ r.
-      let after = stationOf (r .room) (r .lines)
+        let after = stationOf (r .room) (r .lines)
         (memoryOf (now (lo .exit)) (now (hi .exit)) (now (asker .exit)) (now (count .exit)) (now (next .exit))) in
-      ⌜ Changed (fresh «route_len») (r .answer) after ⌝ }
+        ⌜ Changed (fresh «route_len») (r .answer) after ⌝ }
 {
     station::changes::fresh_over(lo, hi, asker, count, next, route_len)
 }
@@ -49,10 +49,10 @@ pub extern "C" fn lunozhar_open_lent<'a>(
     line: u32,
 ) -> LineChange
     ensures { λ r.
-      let memory = memoryOf (now (lo .entry)) (now (hi .entry)) (now (asker .entry)) count next in
-      let before = stationOf room (lines .at) memory in
-      let after = stationOf room (set (lines .at) (line % 8) (r .line)) memory in
-      ⌜ Changed (opening before line) (r .answer) after ⌝ }
+        let memory = memoryOf (now (lo .entry)) (now (hi .entry)) (now (asker .entry)) count next in
+        let before = stationOf room (lines .at) memory in
+        let after = stationOf room (set (lines .at) (line % 8) (r .line)) memory in
+        ⌜ Changed (opening before line) (r .answer) after ⌝ }
 {
     let at = lines.at;
     station::changes::open_line(lo, hi, asker, count, next, room, at, line)
@@ -71,10 +71,10 @@ pub extern "C" fn lunozhar_close_lent(
     line: u32,
 ) -> LineChange
     ensures { λ r.
-      let before = stationOf room (lines .at) (memoryOf (now (lo .entry)) (now (hi .entry)) (now (asker .entry)) count next) in
-      let after = stationOf room (set (lines .at) (line % 8) (r .line))
+        let before = stationOf room (lines .at) (memoryOf (now (lo .entry)) (now (hi .entry)) (now (asker .entry)) count next) in
+        let after = stationOf room (set (lines .at) (line % 8) (r .line))
         (memoryOf (now (lo .entry)) (now (hi .entry)) (now (asker .exit)) count next) in
-      ⌜ Changed (closing before line) (r .answer) after ⌝ }
+        ⌜ Changed (closing before line) (r .answer) after ⌝ }
 {
     let at = lines.at;
     station::changes::close_line(lo, hi, asker, count, next, room, at, line)
@@ -98,12 +98,12 @@ pub extern "C" fn lunozhar_message_lent(
     route: &mut [u8],
 ) -> Arrival
     ensures { λ r.
-      let before = stationOf room (lines .at)
+        let before = stationOf room (lines .at)
         (memoryOf (now (lo .entry)) (now (hi .entry)) (now (asker .entry)) (now (count .entry)) (now (next .entry))) in
-      let after = stationOf room (set (lines .at) (line % 8) (r .line))
+        let after = stationOf room (set (lines .at) (line % 8) (r .line))
         (memoryOf (now (lo .exit)) (now (hi .exit)) (now (asker .exit)) (now (count .exit)) (now (next .exit))) in
-      let terms = termsOf clock own (length (now (out .entry))) in
-      ⌜ MessageMet before line (now (message .entry)) terms (now (route .entry)) (r .report) after
+        let terms = termsOf clock own (length (now (out .entry))) in
+        ⌜ MessageMet before line (now (message .entry)) terms (now (route .entry)) (r .report) after
         (now (out .entry)) (now (out .exit)) (now (route .exit)) ⌝ }
 {
     let at = lines.at;
@@ -140,15 +140,27 @@ pub extern "C" fn lunozhar_ask_lent(
     route: &[u8],
 ) -> Report
     ensures { λ r.
-      let before = stationOf room (lines .at)
+        let before = stationOf room (lines .at)
         (memoryOf (now (lo .entry)) (now (hi .entry)) (now (asker .entry)) (now (count .entry)) (now (next .entry))) in
-      let after = stationOf room (lines .at)
+        let after = stationOf room (lines .at)
         (memoryOf (now (lo .exit)) (now (hi .exit)) (now (asker .exit)) (now (count .exit)) (now (next .exit))) in
-      ⌜ OwnMet before (number .bytes) (now (text .entry)) (now (route .entry)) r after (now (out .entry)) (now (out .exit)) ⌝ }
+        ⌜ OwnMet before (number .bytes) (now (text .entry)) (now (route .entry)) r after (now (out .entry)) (now (out .exit)) ⌝ }
 {
     let at = lines.at;
     let bytes = number.bytes;
-    station::asking::ask(lo, hi, asker, count, next, room, at, bytes, text, out, route)
+    station::asking::ask(
+        lo,
+        hi,
+        asker,
+        count,
+        next,
+        room,
+        at,
+        bytes,
+        text,
+        out,
+        route,
+    )
 }
 
 // Whether a station is in order.
@@ -163,8 +175,8 @@ pub extern "C" fn lunozhar_in_order_lent<'a>(
     lines: Lines,
 ) -> bool
     ensures { λ r.
-      let s = stationOf room (lines .at) (memoryOf (now (lo .entry)) (now (hi .entry)) (now (asker .entry)) count next) in
-      ⌜ r ≡ inOrder s ⌝ }
+        let s = stationOf room (lines .at) (memoryOf (now (lo .entry)) (now (hi .entry)) (now (asker .entry)) count next) in
+        ⌜ r ≡ inOrder s ⌝ }
 {
     let at = lines.at;
     station::order::in_order(lo, hi, asker, count, next, room, at)

@@ -42,13 +42,13 @@ pub(crate) fn act(
     requires { ⌜ (l < 8) × (v ≡ viewOf lines room l) ⌝ }
     requires { ⌜ (early ≡ 0 → Fit room h (now m) (length (now out)) (length (now route))) ⌝ }
     ensures does { λ r.
-      let terms = termsOf clock own (length (now (out .entry))) in
-      let step = acting early room lines l known (now (m .entry)) terms (now (route .entry)) in
-      ⌜ Does step r (now (out .entry)) (now (out .exit)) ⌝ }
+        let terms = termsOf clock own (length (now (out .entry))) in
+        let step = acting early room lines l known (now (m .entry)) terms (now (route .entry)) in
+        ⌜ Does step r (now (out .entry)) (now (out .exit)) ⌝ }
     ensures area { λ _.
-      let terms = termsOf clock own (length (now (out .entry))) in
-      let step = acting early room lines l known (now (m .entry)) terms (now (route .entry)) in
-      ⌜ now (route .exit) ≡ step .route ⌝ }
+        let terms = termsOf clock own (length (now (out .entry))) in
+        let step = acting early room lines l known (now (m .entry)) terms (now (route .entry)) in
+        ⌜ now (route .exit) ≡ step .route ⌝ }
 {
     let x = v.line;
     if early != 0 {

@@ -36,7 +36,7 @@ fn send_own(
 ) -> Report
     requires { ⌜ (answer ≡ 0 → (length (now text) ≤ 4093) × (4119 ≤ length (now out))) ⌝ }
     ensures { λ r.
-      ⌜ ((lines : List Line) (l : ℕ) → v ≡ viewOf lines room l
+        ⌜ ((lines : List Line) (l : ℕ) → v ≡ viewOf lines room l
         → Sends (ownSent limit answer room lines number (now (text .entry)) (now (route .entry))) r (now (out .entry)) (now (out .exit))) ⌝ }
 {
     let mut report = quiet(answer);
@@ -69,11 +69,11 @@ pub fn ask(
     route: &[u8],
 ) -> Report
     ensures { λ r.
-      let before = stationOf room lines
+        let before = stationOf room lines
         (memoryOf (now (lo .entry)) (now (hi .entry)) (now (asker .entry)) (now (count .entry)) (now (next .entry))) in
-      let after = stationOf room lines
+        let after = stationOf room lines
         (memoryOf (now (lo .exit)) (now (hi .exit)) (now (asker .exit)) (now (count .exit)) (now (next .exit))) in
-      ⌜ OwnMet before number (now (text .entry)) (now (route .entry)) r after (now (out .entry)) (now (out .exit)) ⌝ }
+        ⌜ OwnMet before number (now (text .entry)) (now (route .entry)) r after (now (out .entry)) (now (out .exit)) ⌝ }
 {
     let h = read_header(&number);
     let n = *count;
@@ -83,7 +83,15 @@ pub fn ask(
     let s = survey(lo, hi, asker, n, p, v.order, live, h.lo, h.hi);
     let zero = any_zero(text);
     let known = s.known;
-    let answer = refusals::own(s.order, room, out.len(), route.len(), text.len(), zero, known);
+    let answer = refusals::own(
+        s.order,
+        room,
+        out.len(),
+        route.len(),
+        text.len(),
+        zero,
+        known,
+    );
     let report = send_own(LIMIT, answer, room, v, number, text, out, route);
     remember(lo, hi, asker, count, next, answer == 0, h.lo, h.hi, HERE);
     report

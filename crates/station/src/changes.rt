@@ -86,9 +86,9 @@ pub fn fresh_over(
     length: usize,
 ) -> Beginning
     ensures { λ r.
-      let after = stationOf (r .room) (r .lines)
+        let after = stationOf (r .room) (r .lines)
         (memoryOf (now (lo .exit)) (now (hi .exit)) (now (asker .exit)) (now (count .exit)) (now (next .exit))) in
-      ⌜ Changed (fresh length) (r .answer) after ⌝ }
+        ⌜ Changed (fresh length) (r .answer) after ⌝ }
 {
     memory::remember::fresh(lo, hi, asker, count, next);
     let room = room_of(length);
@@ -124,10 +124,10 @@ pub fn open_line<'a>(
     line: u32,
 ) -> LineChange
     ensures { λ r.
-      let memory = memoryOf (now (lo .entry)) (now (hi .entry)) (now (asker .entry)) count next in
-      let before = stationOf room lines memory in
-      let after = stationOf room (set lines (line % 8) (r .line)) memory in
-      ⌜ Changed (opening before line) (r .answer) after ⌝ }
+        let memory = memoryOf (now (lo .entry)) (now (hi .entry)) (now (asker .entry)) count next in
+        let before = stationOf room lines memory in
+        let after = stationOf room (set lines (line % 8) (r .line)) memory in
+        ⌜ Changed (opening before line) (r .answer) after ⌝ }
 {
     let v = read_lines(lines, room, line % 8);
     let live = v.live;
@@ -160,10 +160,10 @@ pub fn close_line(
     line: u32,
 ) -> LineChange
     ensures { λ r.
-      let before = stationOf room lines (memoryOf (now (lo .entry)) (now (hi .entry)) (now (asker .entry)) count next) in
-      let after = stationOf room (set lines (line % 8) (r .line))
+        let before = stationOf room lines (memoryOf (now (lo .entry)) (now (hi .entry)) (now (asker .entry)) count next) in
+        let after = stationOf room (set lines (line % 8) (r .line))
         (memoryOf (now (lo .exit)) (now (hi .exit)) (now (asker .exit)) count next) in
-      ⌜ Changed (closing before line) (r .answer) after ⌝ }
+        ⌜ Changed (closing before line) (r .answer) after ⌝ }
 {
     let v = read_lines(lines, room, line % 8);
     let live = v.live;

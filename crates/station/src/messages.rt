@@ -54,12 +54,12 @@ pub fn message(
     route: &mut [u8],
 ) -> Arrival
     ensures { λ r.
-      let before = stationOf room lines
+        let before = stationOf room lines
         (memoryOf (now (lo .entry)) (now (hi .entry)) (now (asker .entry)) (now (count .entry)) (now (next .entry))) in
-      let after = stationOf room (set lines (line % 8) (r .line))
+        let after = stationOf room (set lines (line % 8) (r .line))
         (memoryOf (now (lo .exit)) (now (hi .exit)) (now (asker .exit)) (now (count .exit)) (now (next .exit))) in
-      let terms = termsOf clock own (length (now (out .entry))) in
-      ⌜ MessageMet before line (now (m .entry)) terms (now (route .entry)) (r .report) after
+        let terms = termsOf clock own (length (now (out .entry))) in
+        ⌜ MessageMet before line (now (m .entry)) terms (now (route .entry)) (r .report) after
         (now (out .entry)) (now (out .exit)) (now (route .exit)) ⌝ }
 {
     let h = read_header(m);
@@ -81,10 +81,26 @@ pub fn message(
         h.size,
     );
     let known = s.known;
-    let a = act(early, known, room, lines, v, l, h, clock, own, m, out, route);
+    let a = act(
+        early,
+        known,
+        room,
+        lines,
+        v,
+        l,
+        h,
+        clock,
+        own,
+        m,
+        out,
+        route,
+    );
     remember(lo, hi, asker, count, next, a.remember, h.lo, h.hi, l as u8);
     let after = a.line;
     let mut report = a.report;
     report.used = used_of(report.answer, h.size);
-    Arrival { line: after, report }
+    Arrival {
+        line: after,
+        report,
+    }
 }

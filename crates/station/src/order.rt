@@ -22,11 +22,11 @@ pub(crate) fn survey<'a>(
     high: u64,
 ) -> Survey
     ensures order { λ r.
-      let memory = memoryOf (now (lo .entry)) (now (hi .entry)) (now (asker .entry)) count next in
-      ⌜ r .order ≡ (memoryInOrder capacity (λ k. getD live k false) memory && good) ⌝ }
+        let memory = memoryOf (now (lo .entry)) (now (hi .entry)) (now (asker .entry)) count next in
+        ⌜ r .order ≡ (memoryInOrder capacity (λ k. getD live k false) memory && good) ⌝ }
     ensures known { λ r.
-      let memory = memoryOf (now (lo .entry)) (now (hi .entry)) (now (asker .entry)) count next in
-      ⌜ r .known ≡ lookupOf (find (queriesIn capacity memory) (numberFrom low high)) ⌝ }
+        let memory = memoryOf (now (lo .entry)) (now (hi .entry)) (now (asker .entry)) count next in
+        ⌜ r .known ≡ lookupOf (find (queriesIn capacity memory) (numberFrom low high)) ⌝ }
 {
     let s = memory::order::survey(lo, hi, asker, count, next, live, low, high);
     if good {
@@ -50,8 +50,8 @@ pub fn in_order<'a>(
     lines: [Line; 8],
 ) -> bool
     ensures { λ r.
-      let s = stationOf room lines (memoryOf (now (lo .entry)) (now (hi .entry)) (now (asker .entry)) count next) in
-      ⌜ r ≡ inOrder s ⌝ }
+        let s = stationOf room lines (memoryOf (now (lo .entry)) (now (hi .entry)) (now (asker .entry)) count next) in
+        ⌜ r ≡ inOrder s ⌝ }
 {
     let v = read_lines(lines, room, 0);
     let live = v.live;

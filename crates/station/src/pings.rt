@@ -61,8 +61,8 @@ pub(crate) fn ping_step(
     requires { ⌜ Whole h (now m) ⌝ }
     requires { ⌜ (l < 8) × (x ≡ lineIn lines l) × (4119 ≤ length (now out)) ⌝ }
     ensures { λ r.
-      let terms = termsOf clock own (length (now (out .entry))) in
-      ⌜ ((area : List ℕ) → Does (pingStep lines l terms (now (m .entry)) area) r (now (out .entry)) (now (out .exit))) ⌝ }
+        let terms = termsOf clock own (length (now (out .entry))) in
+        ⌜ ((area : List ℕ) → Does (pingStep lines l terms (now (m .entry)) area) r (now (out .entry)) (now (out .exit))) ⌝ }
 {
     let answer = ping_answer(x.pinged, x.pingtime, clock, h);
     if answer != 0 {

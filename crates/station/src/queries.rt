@@ -41,7 +41,7 @@ pub(crate) fn query_step(
 ) -> Action
     requires { ⌜ Sendable h queryType (now m) (length (now out)) ⌝ }
     ensures { λ r.
-      ⌜ ((lines : List Line) → v ≡ viewOf lines room l
+        ⌜ ((lines : List Line) → v ≡ viewOf lines room l
         → Does (queryStep limit room lines l known (now (m .entry)) (now (route .entry))) r (now (out .entry)) (now (out .exit))) ⌝ }
 {
     let line = v.line;
