@@ -1,7 +1,7 @@
 -- What a message that was let in comes to, by its type: it is refused by its type's rules, which leaves what stands,
 -- or is taken. One law for all that is shown of every type.
 -- Assumes nothing.
-use Prim.Native.Nat.{ℕ, _*_}
+use Prim.Native.Nat.{ℕ}
 use native.Mathlib.Omega.{arith}
 use mathlib.Core.Path.{_≡_, refl, sym, subst}
 use mathlib.Core.Bool.{Bool, true, false, not}
@@ -9,7 +9,6 @@ use mathlib.Core.List.{List}
 use lib.Dec.{eqb, leb}
 use lib.ListN.{length}
 use Rattle.laws.specs.Tests.{firstOf, all}
-use Rattle.laws.specs.Parts.{over}
 use Rattle.laws.proofs.Refusals.{no-refusal, NoRefusal}
 use Rattle.wire.specs.Header.{headerIn, kindOf, ttlOf, hopsOf, payloadOf}
 use Rattle.wire.specs.Header.{routeUpdate, queryType, hitType, pingType, pongType}
@@ -19,7 +18,7 @@ use Rattle.protocol.specs.declared.Line.{Line}
 use Rattle.protocol.specs.declared.Lookup.{Lookup}
 use Rattle.protocol.specs.Memory.{capacity, numberIn, remember}
 use Rattle.protocol.specs.State.{Station, lineAt, withLine, withMemory, heldAt, lookedUp}
-use Rattle.protocol.specs.Lines.{withTable, withPong}
+use Rattle.protocol.specs.Lines.{withPong}
 use Rattle.protocol.specs.Outcomes.{Terms, Outcome, Step, quiet, leaving, pickResult, refusedOr, stored, unused}
 use Rattle.protocol.specs.Queries.{hasText, queryRules, queryTaken, queryStep}
 use Rattle.protocol.specs.Hits.{hitRules, hitTaken, hitStep}
@@ -65,12 +64,8 @@ updateNumber s l m route = updateAnswer (s .room) (heldAt s l route) (ttlOf m) (
 abbrev pub heldAfter : Station → ℕ → List ℕ → List ℕ → Held
 heldAfter s l m route = updated (s .room) (heldAt s l route) (ttlOf m) (hopsOf m) (payloadOf m)
 
-abbrev pub updatedBy : Station → ℕ → List ℕ → ℕ → Held → Outcome
-updatedBy s l route n h =
-    quiet n (withLine s l (withTable (lineAt s l) (h .table))) (over (l * s .room) (h .entries) route)
-
 abbrev pub updateDone : Station → ℕ → List ℕ → List ℕ → Outcome
-updateDone s l m route = updatedBy s l route (updateNumber s l m route) (heldAfter s l m route)
+updateDone s l m route = stored s l (numberIn m) (updateStep (s .room) l (lineAt s l) m route)
 
 -- a message that is no update, refused by its type's rules
 pub record TypeRefuses (m : List ℕ) (n : ℕ) : Type 0 where
@@ -138,7 +133,7 @@ module _ (P : Outcome → Type 0) (s : Station) (l : ℕ) (m route : List ℕ) w
         → (eqb (kindOf m) queryType ≡ true → NoRefusal (queryIn limit s m) → P (queryDone limit s l m route))
         → (eqb (kindOf m) hitType ≡ true → NoRefusal (hitIn s m) → P (hitDone s l m route))
         → P (arrived limit s l m t route)
-    unfolding byType updateStep
+    unfolding byType
     of-types limit t ping pong update query hit =
         by pingType _ _ (λ k. of-ping t k (ping k))
         (λ _. by pongType _ _ (λ k. of-pong (t .clock) k (pong k))

@@ -25,7 +25,7 @@ use Rattle.protocol.specs.Outcomes.{Terms, Outcome, quiet, stored, unuse
 use Rattle.protocol.specs.Queries.{usualLimit, textIn, hasText, queryBefore, passes, goesOn, queryLines, queryOn}
 use Rattle.protocol.specs.Queries.{ownPayload, ownBytes, ownLines}
 use Rattle.protocol.specs.Hits.{hitStep}
-use Rattle.protocol.specs.Calls.{ownBefore, ownAnswer, ownTaken, asking, messageOutcome, ownOutcome}
+use Rattle.protocol.specs.Calls.{updateStep, ownBefore, ownAnswer, ownTaken, asking, messageOutcome, ownOutcome}
 use Rattle.protocol.specs.Runs.{Call, Open, Close, Message, Ask, World, lent, outcomeOf, step, start}
 use Rattle.protocol.specs.Periods.{lifeLeft}
 use Rattle.protocol.specs.Kept.{Sized}
@@ -105,6 +105,7 @@ module _ (s : Station) (l : ℕ) (m : List ℕ) (t : Terms) (route : List ℕ) w
 
   -- pongs, updates and unnamed types
   message-silent : (kindOf m ≡ 0x00 → ⊥) → (kindOf m ≡ 0x80 → ⊥) → (kindOf m ≡ 0x81 → ⊥) → Silent outcome
+  unfolding updateStep
   message-silent np nq nh =
       of-message Silent s l m route usualLimit t (λ n _. quiet-silent n s route)
       (λ _. of-types Silent s l m route (λ n _. quiet-silent n s route) usualLimit t

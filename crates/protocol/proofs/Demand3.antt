@@ -29,7 +29,8 @@ use Rattle.protocol.specs.Order.{inOrder}
 use Rattle.protocol.specs.Outcomes.{Terms, Outcome, quiet, unused}
 use Rattle.protocol.specs.Queries.{usualLimit, lifeOf, textIn, passes, goesOn}
 use Rattle.protocol.specs.Pings.{isProbe, timeKept}
-use Rattle.protocol.specs.Calls.{opening, closedState, closing, arrived, arriving, ownAnswer, ownTaken, asking}
+use Rattle.protocol.specs.Calls.{opening, closedState, closing, updateStep, arrived, arriving, ownAnswer}
+use Rattle.protocol.specs.Calls.{ownTaken, asking}
 use Rattle.protocol.specs.Runs.{Area, Same, Other, Call, Open, Close, Message, Ask, World, unsent, lent, keptArea}
 use Rattle.protocol.specs.Runs.{outcomeOf, areaAfter, step, run, start, FairArea, FairCall, Fair}
 use Rattle.protocol.specs.Expected.{Expected, wiped, brings, asks, brought, isUpdateOf, expectedAnswer, hears}
@@ -155,6 +156,7 @@ module _ (limit L room : ℕ) (seven : L ≤ 7) (e : Expected) (us : List Update
 
     other-update : l ≤ 7 → length area / 8 ≡ s .room → (L ≡ l → ⊥) → eqb (kindOf m) routeUpdate ≡ true
         → AfterMessage (updateDone s l m area)
+    unfolding updateStep
     other-update l≤7 areas ne k =
         let long : length (heldAt s l area .entries) ≤ s .room = simp length-take (omega arith) in
         let within = updated-within (s .room) (heldAt s l area) (ttlOf m) (hopsOf m) (payloadOf m) long in
@@ -187,9 +189,11 @@ module _ (limit L room : ℕ) (seven : L ≤ 7) (e : Expected) (us : List Update
         subst (λ (r : ℕ). Sound r then′) (sym (q .sameRoom)) (subst (λ (h : Held). Sound room h) heard sound-heard)
 
     line-then : lineAt (o .state) L ≡ line
+    unfolding updateStep
     line-then = line-set s L line below
 
     held-then : heldAt (o .state) L (o .route) ≡ then′
+    unfolding updateStep
     held-then =
         let n : ℕ = then′ .table .length in
         let from : ℕ = L * s .room in
@@ -202,6 +206,7 @@ module _ (limit L room : ℕ) (seven : L ≤ 7) (e : Expected) (us : List Update
         ∙ (λ i. record { table = then′ .table; entries = g i })
 
     own-update : After (Message L m t Same) o
+    unfolding updateStep
     own-update =
         let u : isUpdateOf L L m ≡ true = ap₂ (λ a b. a && b) (eq-eqb L L refl) k in
         let v : lineAt (o .state) L .live ≡ lineAt s L .live = ap (λ (x : Line). x .live) line-then in

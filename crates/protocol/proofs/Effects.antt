@@ -22,7 +22,7 @@ use Rattle.protocol.specs.Outcomes.{Terms, Outcome, quiet}
 use Rattle.protocol.specs.Queries.{usualLimit}
 use Rattle.protocol.specs.Pings.{isProbe, timeKept}
 use Rattle.protocol.specs.Calls.{opening, closedState, closing}
-use Rattle.protocol.specs.Calls.{arrived, arriving, ownAnswer, ownTaken, asking}
+use Rattle.protocol.specs.Calls.{updateStep, arrived, arriving, ownAnswer, ownTaken, asking}
 use Rattle.protocol.specs.Runs.{Area, Call, Open, Close, Message, Ask, World, lent, outcomeOf}
 use Rattle.protocol.specs.Kept.{Sized, asked, leftBy}
 use Rattle.protocol.specs.Demand2.{took, broughtNumber, broughtBy, opened, closed}
@@ -129,6 +129,7 @@ module _ (s : Station) (z : Sized s) (o : inOrder s ≡ true) (l : ℕ) (m : Lis
       }
 
   types-effect : (limit : ℕ) → Effect s c (arrived limit s l m t route)
+  unfolding updateStep
   types-effect limit =
       of-types (Effect s c) s l m route (λ n r. refused-effect s c n route (r .some)) limit t
       (λ k _. passes-line pingType k refl (pingDone s l t m route) kept refl

@@ -29,11 +29,11 @@ use Rattle.protocol.specs.Outcomes.{Terms, Outcome, quiet}
 use Rattle.protocol.specs.Queries.{usualLimit}
 use Rattle.protocol.specs.Pings.{isProbe, timeKept, arrivedPong}
 use Rattle.protocol.specs.Calls.{freshRoom, freshLines, freshMemory, fresh, opening}
-use Rattle.protocol.specs.Calls.{closedState, closing, arriving, ownAnswer, ownTaken, asking}
+use Rattle.protocol.specs.Calls.{closedState, closing, updateStep, arriving, ownAnswer, ownTaken, asking}
 use Rattle.protocol.specs.Runs.{Call, Open, Close, Message, Ask, lent, outcomeOf, step}
 use Rattle.protocol.specs.Kept.{sizedLine, Sized, Kept, FreshInOrder, OrderKept, OrderKeptByLists, asked, leftBy}
 use Rattle.protocol.proofs.Outcomes.{of-refused, openingIn, closingIn, is-closed, LetIn, asked-in}
-use Rattle.protocol.proofs.ByType.{pongIn, queryIn, heldAfter, of-types, of-message}
+use Rattle.protocol.proofs.ByType.{pongIn, queryIn, heldAfter, updateDone, of-types, of-message}
 use Rattle.protocol.proofs.InOrder.{StateFacts, LineFacts, state-facts, state-order, line-order, facts-at}
 use Rattle.protocol.proofs.Memory.{remembered-newest, remembered-left, stored-newest}
 use Rattle.protocol.proofs.Memory.{seen-any, noTwice-take, noTwice-new, noTwice-left}
@@ -141,12 +141,12 @@ empty-facts room false = record { empty = refl; count = refl; next = refl; hops 
 
 -- a line is closed: its queries are gone
 module _ (s : Station) (z : Sized s) (o : inOrder s ≡ true) (l : ℕ) where
-  fits-closed : (a : ℕ) → fitsIn s a ≡ true → fitsIn (closedState s l) (left l a) ≡ true
-  fits-closed a e = go (eqb a l) refl
+  fits-left : (x : Line) (a : ℕ) → fitsIn s a ≡ true → fitsIn (withLine s l x) (left l a) ≡ true
+  fits-left x a e = go (eqb a l) refl
     where
-      go : (b : Bool) → eqb a l ≡ b → fitsIn (closedState s l) (left l a) ≡ true
+      go : (b : Bool) → eqb a l ≡ b → fitsIn (withLine s l x) (left l a) ≡ true
       go true y = rw y
-      go false y = rw (y, getD-set-other (s .lines) l a (emptyLine false) nowhere (eqb-false a l y)) e
+      go false y = rw (y, getD-set-other (s .lines) l a x nowhere (eqb-false a l y)) e
 
   kept-closed : Kept s (closedState s l)
   kept-closed =
@@ -161,7 +161,7 @@ module _ (s : Station) (z : Sized s) (o : inOrder s ≡ true) (l : ℕ) where
           askers = ap (all (askerIn (closedState s l))) e
               ∙ all-map (leftBy l) (askerIn (closedState s l)) (remembered s)
               ∙ all-weaken (askerIn s) (λ q. askerIn (closedState s l) (leftBy l q)) (remembered s)
-              (λ q. fits-closed (q .asker)) (h .askers);
+              (λ q. fits-left _ (q .asker)) (h .askers);
           lines = all-set (lineInOrder (s .room)) (s .lines) l x (h .lines)
               (line-order (s .room) x (empty-facts (s .room) false));
         });
@@ -190,8 +190,8 @@ module _ (s : Station) (z : Sized s) (o : inOrder s ≡ true) (l : ℕ) (m route
   was-sized : sizedLine x ≡ true
   was-sized = all-getD sizedLine (s .lines) l nowhere (z .pongs) here-below
 
-  kept-update : Kept s (withLine s l (withTable x (heldAfter s l m route .table)))
-  unfolding storedPongs
+  kept-update : Kept s (updateDone s l m route .state)
+  unfolding updateStep storedPongs
   kept-update =
       kept-line s z o l (d .line) (withTable x (heldAfter s l m route .table)) (λ v. v)
       (record {

@@ -9,6 +9,7 @@ use lib.Dec.{eqb, leb, ltb}
 use lib.ListN.{length, getD-replicate, List·getD-eq-default}
 use borrow.Author.Tests.{leb-true, lt-leb, lt-ltb, le-ltb, ltb-true, ltb-false}
 use Rattle.laws.specs.Tests.{firstOf}
+use Rattle.laws.specs.Parts.{over}
 use Rattle.laws.specs.Ring.{keptPlaces}
 use Rattle.laws.proofs.Refusals.{and-snd, and-intro}
 use Rattle.laws.proofs.Overlay.{over-same-front}
@@ -17,17 +18,17 @@ use Rattle.tables.specs.Tables.{Held}
 use Rattle.tables.specs.Updates.{brokenBy}
 use Rattle.protocol.specs.Memory.{queriesIn}
 use Rattle.protocol.specs.State.{Station, lineAt, withLine, heldAt}
-use Rattle.protocol.specs.Lines.{lineCount, emptyLine, nowhere, storedPongs}
+use Rattle.protocol.specs.Lines.{lineCount, emptyLine, nowhere, withTable, storedPongs}
 use Rattle.protocol.specs.Outcomes.{Terms, Outcome, quiet, refusedOr, unused}
 use Rattle.protocol.specs.Queries.{usualLimit}
 use Rattle.protocol.specs.Calls.{freshLines, fresh, opening, closedState, closing}
-use Rattle.protocol.specs.Calls.{early, arriving, ownAnswer, ownTaken, asking}
+use Rattle.protocol.specs.Calls.{early, updateStep, arriving, ownAnswer, ownTaken, asking}
 use Rattle.protocol.specs.Kept.{OutOfOrder, marksBroken, brokenAt, afterRefusal, RefusedQuietly, RefusalsLeave}
 use Rattle.protocol.specs.Kept.{RefusalFrame}
 use Rattle.protocol.specs.Frames.{Bare}
 use Rattle.protocol.proofs.Updates.{by-update, update-range}
 use Rattle.protocol.proofs.Outcomes.{of-refused, openingIn, closingIn}
-use Rattle.protocol.proofs.ByType.{updateNumber, updatedBy, updateDone, of-types, of-message}
+use Rattle.protocol.proofs.ByType.{updateNumber, updateDone, of-types, of-message}
 use Rattle.protocol.proofs.Kept.{fresh-in-order}
 use Rattle.protocol.proofs.Opened.{quiet-silent, bare-at}
 
@@ -68,9 +69,12 @@ module _ (s : Station) (l : ℕ) (m route : List ℕ) where
       left-by n false (ap (λ c. update && (c && leb n 16)) (lt-leb 14 n (omega arith)) ∙ and-false update)
 
   update-leaves : eqb (kindOf m) routeUpdate ≡ true → Leaves (updateDone s l m route)
-  unfolding brokenBy
+  unfolding updateStep brokenBy
   update-leaves k ne =
-      by-update (λ n (g : Held). (n ≡ 0 → ⊥) → updatedBy s l route n g ≡ quiet n (brokenAt s l) route)
+      by-update
+      (λ n (g : Held). (n ≡ 0 → ⊥)
+      → quiet n (withLine s l (withTable (lineAt s l) (g .table))) (over (l * s .room) (g .entries) route)
+      ≡ quiet n (brokenAt s l) route)
       (s .room) (heldAt s l route) (ttlOf m) (hopsOf m) (payloadOf m)
       (λ _ h. absurd (h refl))
       (λ _ h. absurd (h refl))

@@ -107,14 +107,15 @@ module _ (s : Station) (z : Sized s) (o : inOrder s ≡ true) (l : ℕ) (m : Lis
   outcome = messageOutcome s l m t route
 
   pub as-update : outcome ≡ updateDone s l m route
-  unfolding byType updateStep
+  unfolding byType
   as-update = by-type s l m t route o usualLimit a ∙ rw k
 
   pub update-only : TableOnly l s (outcome .state)
+  unfolding updateStep
   update-only = rw as-update (table-only s z l (a .line) (after .table))
 
   pub update-broken : (outcome .answer ≡ 0 → ⊥) → MarkedBroken l s (outcome .state)
-  unfolding brokenBy
+  unfolding updateStep brokenBy
   update-broken =
       rw as-update
       (by-update (λ n (h : Held). (n ≡ 0 → ⊥) → MarkedBroken l s (withLine s l (withTable (lineAt s l) (h .table))))
@@ -151,6 +152,7 @@ module _ (s : Station) (z : Sized s) (o : inOrder s ≡ true) (l : ℕ) (m : Lis
 
   pub update-part : outcome .answer ≡ 0
       → PartOnly (s .room) l (lineAt (outcome .state) l .table .length) route (outcome .route)
+  unfolding updateStep
   update-part e =
       let f = after-full (ap (λ (r : Outcome). r .answer) (sym as-update) ∙ e) in
       let n : lineAt (updateDone s l m route .state) l .table .length ≡ length (after .entries)
@@ -183,6 +185,7 @@ module _ (s : Station) (l : ℕ) (m : List ℕ) (t : Terms) (route : List ℕ) w
 
   -- and no ping is searched for
   pub ping-search : kindOf m ≡ 0x00 → NotSearched told
+  unfolding updateStep
   ping-search k =
       of-message NotSearched s l m route usualLimit t (λ _ _. (refl, refl, refl))
       (λ _. of-types NotSearched s l m route (λ _ _. (refl, refl, refl)) usualLimit t
