@@ -4,7 +4,7 @@
 use Prim.Native.Nat.{ℕ, zero, suc, _≤_, _<_}
 use native.Mathlib.Omega.{arith}
 use mathlib.Core.Path.{_≡_, refl, sym, ap, ap₂, _∙_}
-use mathlib.Core.Bool.{Bool, true, false, cond, _&&_, _||_}
+use mathlib.Core.Bool.{Bool, true, false, cond, _||_, or-false, or-true}
 use mathlib.Core.Logic.{_⊎_, inl, inr, ⊎-elim}
 use mathlib.Core.List.{List, [], _∷_, map}
 use lib.Dec.{eqb, leb, ltb}
@@ -39,23 +39,9 @@ known Here = true
 known (From l n) = true
 known Gone = true
 
-abbrev isFrom : Origin → Bool
-isFrom Unknown = false
-isFrom Here = false
-isFrom (From l n) = true
-isFrom Gone = false
-
-abbrev lineOf : Origin → ℕ
-lineOf Unknown = 0
-lineOf Here = 0
-lineOf (From l n) = l
-lineOf Gone = 0
-
-abbrev openingOf : Origin → ℕ
-openingOf Unknown = 0
-openingOf Here = 0
-openingOf (From l n) = n
-openingOf Gone = 0
+-- two that are not the same
+differ : {A : Type 0} → _≡_ {A = ℕ} 0 1 → A
+differ z = absurd (omega arith)
 
 pub unknown-of : (o : Origin) → known o ≡ false → o ≡ Unknown
 unknown-of Unknown e = refl
@@ -72,9 +58,9 @@ known-if Gone e = refl
 -- a query that came by a line: neither here nor gone, and the line has not closed
 pub from-line : (a b : Bool) (k n l e : ℕ) → pickOrigin a Here (pickOrigin b Gone (From k n)) ≡ From l e
     → (a ≡ false) × (b ≡ false) × (k ≡ l) × (n ≡ e)
-from-line true b k n l e q = absurd (clash refl (sym (ap isFrom q)))
-from-line false true k n l e q = absurd (clash refl (sym (ap isFrom q)))
-from-line false false k n l e q = (refl, refl, ap lineOf q, ap openingOf q)
+from-line true b k n l e q = differ (cc)
+from-line false true k n l e q = differ (cc)
+from-line false false k n l e q = (refl, refl, (cc), (cc))
 
 known-of : (a b : Bool) (k n : ℕ) → known (pickOrigin a Here (pickOrigin b Gone (From k n))) ≡ true
 known-of true b k n = refl
@@ -135,10 +121,8 @@ asker-left l who n h false false false = shut-or-not (eqb who l) who n
 
 or-turn : (a b c : Bool) → ((a || b) || c) ≡ ((a || c) || b)
 or-turn true b c = refl
-or-turn false true true = refl
-or-turn false true false = refl
-or-turn false false true = refl
-or-turn false false false = refl
+or-turn false true c = sym (or-true c)
+or-turn false false c = sym (or-false c)
 
 module _ (l : ℕ) (h : l ≤ 7) where
   not-here : eqb here l ≡ false
@@ -214,8 +198,8 @@ pub record Invariant (base : List Query) (w : World) : Type 0 where
   pub since : AllSince base w
 
 pub no-from : (n : ℕ) (x : Number) (l e : ℕ) → lookUp (take n []) x ≡ From l e → ⊥
-no-from zero x l e q = clash refl (sym (ap isFrom q))
-no-from (suc n) x l e q = clash refl (sym (ap isFrom q))
+no-from zero x l e q = differ (cc)
+no-from (suc n) x l e q = differ (cc)
 
 -- the newest of a list, or another
 pick-from : (b : Bool) (p q : Origin) (l e : ℕ) → pickOrigin b p q ≡ From l e → (p ≡ From l e) ⊎ (q ≡ From l e)
@@ -225,12 +209,9 @@ pick-from false p q l e h = inr h
 -- an asker that fits and is a line
 fits-line : (s : Station) (a : ℕ) → fitsIn s a ≡ true → eqb a here ≡ false → eqb a gone ≡ false
     → (ltb a lineCount ≡ true) × (lineAt s a .live ≡ true)
-fits-line s a f h g = go (ltb a lineCount) (lineAt s a .live) (rw (h, g) at f)
-  where
-    go : (b c : Bool) → ((b && c) || false) ≡ true → (b ≡ true) × (c ≡ true)
-    go true true e = (refl, refl)
-    go true false e = absurd (clash e refl)
-    go false c e = absurd (clash e refl)
+fits-line s a f h g =
+    let e = rw (h, g, or-false) at f in
+    (and-fst (ltb a lineCount) (lineAt s a .live) e, and-snd (ltb a lineCount) (lineAt s a .live) e)
 
 -- a query that has just been taken, or that was remembered at the start
 module _ (shut : ℕ → Bool) (w : World) (x : Number) (who n l e : ℕ) (f : fitsIn (w .state) who ≡ true)
