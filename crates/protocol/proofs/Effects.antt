@@ -31,7 +31,8 @@ use Rattle.protocol.proofs.Outcomes.{is-open, is-closed, LetIn, asked-i
 use Rattle.protocol.proofs.ByType.{pingDone, pongDone, updateDone, queryDone, hitDone, queryIn}
 use Rattle.protocol.proofs.ByType.{of-types, of-message}
 use Rattle.protocol.proofs.Memory.{remembered-left}
-use Rattle.protocol.proofs.Kept.{fitsIn, open-still, remembered-one}
+use Rattle.protocol.proofs.InOrder.{fitsIn}
+use Rattle.protocol.proofs.Kept.{open-still, remembered-one}
 
 -- What a call does to the memory: it takes a query, closes a line, or neither
 pub record Takes (s : Station) (c : Call) (o : Outcome) : Type 0 where

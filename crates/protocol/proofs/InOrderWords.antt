@@ -32,8 +32,7 @@ use Rattle.protocol.specs.Kept.{Sized}
 use Rattle.protocol.specs.InOrderWords.{queryPlace, pongPlace, RestWords, RunWords, LimitWords, TableWords}
 use Rattle.protocol.specs.InOrderWords.{ClosedWords, LineWords, AskerWords, OneNumber}
 use Rattle.protocol.specs.InOrderWords.{InOrderWords, InOrderExactly}
-use Rattle.protocol.proofs.InOrder.{state-facts, state-order, line-facts, line-order}
-use Rattle.protocol.proofs.Kept.{fitsIn}
+use Rattle.protocol.proofs.InOrder.{fitsIn, asker-iff, state-facts, state-order, line-facts, line-order}
 
 -- ---- tests over a list, element by element
 
@@ -279,12 +278,6 @@ module _ (d : Query) where
   apart-all (q ∷ qs) h =
       rw (none-of (like q) d qs (λ j l. h 0 (suc j) (omega arith) (omega arith)))
       (apart-all qs (λ i j l m. h (suc i) (suc j) (omega arith) (omega arith)))
-
-asker-iff : (s : Station) (a : ℕ) → (fitsIn s a ≡ true) ↔ AskerWords s a
-asker-iff s a =
-    let below : (ltb a 8 ≡ true) ↔ (a ≤ 7) = ((λ e. omega (arith, ltb-true a 8 e)), (λ h. lt-ltb a 8 (omega arith))) in
-    or-iff (ltb a 8 && lineAt s a .live) (eqb a 8 || eqb a 9) (and-iff (ltb a 8) (lineAt s a .live) below Iff·rfl)
-    (or-iff (eqb a 8) (eqb a 9) (eqb-iff a 8) (eqb-iff a 9))
 
 module _ (s : Station) (hp : s .memory .next < 512) (hn : s .memory .count ≤ 512) where
   abbrev q : Memory

@@ -1,7 +1,7 @@
 -- The remembered queries are the last 512 taken, read off the log; a line that brought one and has not closed since is
 -- in the same opening.
 -- Assumes nothing.
-use Prim.Native.Nat.{ℕ, zero, suc, _≤_, _<_}
+use Prim.Native.Nat.{ℕ, zero, suc, _≤_}
 use native.Mathlib.Omega.{arith}
 use mathlib.Core.Path.{_≡_, refl, sym, ap, ap₂, _∙_}
 use mathlib.Core.Bool.{Bool, true, false, cond, _||_, or-false, or-true}
@@ -10,7 +10,7 @@ use mathlib.Core.List.{List, [], _∷_, map}
 use lib.Dec.{eqb, leb, ltb}
 use lib.ListN.{length, take, length-map}
 use lib.Seq.{take-all, take-take}
-use borrow.Author.Tests.{leb-true, ltb-true, eqb-true, ne-eqb}
+use borrow.Author.Tests.{leb-true, eqb-true, eqb-false, ne-eqb}
 use Rattle.laws.specs.Tests.{all}
 use Rattle.laws.specs.Ring.{placesBefore, ringFits, keptPlaces}
 use Rattle.laws.proofs.Refusals.{clash, and-fst, and-snd, or-fst, or-snd, of-choice}
@@ -19,7 +19,6 @@ use Rattle.laws.proofs.Ranks.{places-length}
 use Rattle.protocol.specs.State.{Station, remembered, lineAt}
 use Rattle.protocol.specs.Memory.{capacity, here, gone, Memory, Number, sameNumber, Query, queryAt, queriesIn}
 use Rattle.protocol.specs.Memory.{Found, Absent, At, later, pickFound, find, isFound, askerOf, noTwice, left}
-use Rattle.protocol.specs.Lines.{lineCount}
 use Rattle.protocol.specs.Order.{inOrder}
 use Rattle.protocol.specs.Outcomes.{Outcome}
 use Rattle.protocol.specs.Calls.{opening}
@@ -28,8 +27,8 @@ use Rattle.protocol.specs.Kept.{Sized, Kept, asked, leftBy}
 use Rattle.protocol.specs.Demand2.{took, broughtNumber, broughtBy, closed, openings, Past, past}
 use Rattle.protocol.specs.Demand2.{allTaken, lastTaken, Origin, Unknown, Here, From, Gone, pickOrigin, originOf}
 use Rattle.protocol.specs.Demand2.{lookUp, origin, askerNow, standing, MemoryHistory}
-use Rattle.protocol.proofs.InOrder.{state-facts}
-use Rattle.protocol.proofs.Kept.{fitsIn, order-kept-by-lists}
+use Rattle.protocol.proofs.InOrder.{fitsIn, asker-iff, state-facts}
+use Rattle.protocol.proofs.Kept.{order-kept-by-lists}
 use Rattle.protocol.proofs.Effects.{Takes, Closes, Passes, Effect, call-effect}
 
 -- Origins
@@ -208,10 +207,11 @@ pick-from false p q l e h = inr h
 
 -- an asker that fits and is a line
 fits-line : (s : Station) (a : ℕ) → fitsIn s a ≡ true → eqb a here ≡ false → eqb a gone ≡ false
-    → (ltb a lineCount ≡ true) × (lineAt s a .live ≡ true)
+    → (a ≤ 7) × (lineAt s a .live ≡ true)
 fits-line s a f h g =
-    let e = rw (h, g, or-false) at f in
-    (and-fst (ltb a lineCount) (lineAt s a .live) e, and-snd (ltb a lineCount) (lineAt s a .live) e)
+    let n = eqb-false a here h in
+    let m = eqb-false a gone g in
+    ⊎-elim (λ v. v) (⊎-elim (λ e. absurd (n e)) (λ e. absurd (m e))) (asker-iff s a .0 f)
 
 -- a query that has just been taken, or that was remembered at the start
 module _ (shut : ℕ → Bool) (w : World) (x : Number) (who n l e : ℕ) (f : fitsIn (w .state) who ≡ true)
@@ -220,7 +220,7 @@ module _ (shut : ℕ → Bool) (w : World) (x : Number) (who n l e : ℕ) (f : f
   since-taken q =
       let h = from-line (eqb who here) (eqb who gone || shut who) who n l e q in
       let v = fits-line (w .state) who f (h .0) (or-fst (eqb who gone) (shut who) (h .1)) in
-      let b : who < lineCount = ltb-true who lineCount (v .0) in
+      let b : who ≤ 7 = v .0 in
       let r : who ≡ l = h .2 in
       record {
         unshut = ap shut (sym r) ∙ or-snd (eqb who gone) (shut who) (h .1);
