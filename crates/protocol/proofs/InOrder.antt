@@ -2,7 +2,7 @@
 -- Assumes nothing.
 use Prim.Native.Nat.{ℕ, _<_}
 use mathlib.Core.Path.{_≡_}
-use mathlib.Core.Bool.{Bool, true, false, not, _&&_}
+use mathlib.Core.Bool.{Bool, true, false}
 use mathlib.Core.List.{List, [], _∷_}
 use lib.Dec.{eqb, leb, ltb}
 use lib.ListN.{length}
@@ -13,7 +13,7 @@ use Rattle.tables.specs.Tables.{none, tableInOrder}
 use Rattle.protocol.specs.declared.Line.{Line}
 use Rattle.protocol.specs.State.{Station, remembered, lineAt}
 use Rattle.protocol.specs.Memory.{capacity, noTwice, askerFits, memoryInOrder}
-use Rattle.protocol.specs.Lines.{nowhere, pongCapacity, storedPongs}
+use Rattle.protocol.specs.Lines.{nowhere, pongCapacity}
 use Rattle.protocol.specs.Order.{emptyWhenClosed, lowHops, lineInOrder, linesInOrder, inOrder}
 
 abbrev live : Station → ℕ → Bool
@@ -81,12 +81,14 @@ line-order room x h = every-of (lineTests room x) (h .empty, (h .count, (h .next
 
 -- one line of a state in order
 pub facts-at : (s : Station) (l : ℕ) → inOrder s ≡ true → l < length (s .lines) → LineFacts (s .room) (lineAt s l)
-facts-at s l e h = line-facts (s .room) (lineAt s l) (all-getD (lineInOrder (s .room)) (s .lines) l nowhere (state-facts s e .lines) h)
+facts-at s l e h =
+    line-facts (s .room) (lineAt s l)
+    (all-getD (lineInOrder (s .room)) (s .lines) l nowhere (state-facts s e .lines) h)
 
 -- a closed line has no table
-pub closed-mark : (s : Station) (l : ℕ) → inOrder s ≡ true → l < length (s .lines) → lineAt s l .live ≡ false → lineAt s l .table .mark ≡ none
+pub closed-mark : (s : Station) (l : ℕ) → inOrder s ≡ true → l < length (s .lines) → lineAt s l .live ≡ false
+    → lineAt s l .table .mark ≡ none
 closed-mark s l e h c =
     let x : Line = lineAt s l in
     eqb-true (x .table .mark) none
-    (and-fst (eqb (x .table .mark) none) (eqb (x .pongcount) 0 && not (x .pinged))
-    (or-rest (x .live) (eqb (x .table .mark) none && (eqb (x .pongcount) 0 && not (x .pinged))) (facts-at s l e h .empty) c))
+    (and-fst (eqb (x .table .mark) none) _ (or-rest (x .live) _ (facts-at s l e h .empty) c))
