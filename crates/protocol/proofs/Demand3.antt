@@ -31,7 +31,8 @@ use Rattle.protocol.specs.Queries.{usualLimit, lifeOf, textIn, passes, g
 use Rattle.protocol.specs.Pings.{isProbe, timeKept}
 use Rattle.protocol.specs.Calls.{opening, closedState, closing, updateStep, arrived, arriving, ownAnswer}
 use Rattle.protocol.specs.Calls.{ownTaken, asking}
-use Rattle.protocol.specs.Runs.{Area, Same, Other, Call, Open, Close, Message, Ask, World, unsent, lent, keptArea}
+use Rattle.protocol.specs.Runs.{Area, Same, Other, Call, Open, Close, Message, Ask, World, unsent, lent}
+use Rattle.protocol.specs.Runs.{keptArea}
 use Rattle.protocol.specs.Runs.{outcomeOf, areaAfter, step, run, start, FairArea, FairCall, Fair}
 use Rattle.protocol.specs.Expected.{Expected, wiped, brings, asks, brought, isUpdateOf, expectedAnswer, hears}
 use Rattle.protocol.specs.Expected.{feed, expected}

@@ -17,7 +17,8 @@ use Rattle.protocol.specs.Kept.{asked, leftBy}
 use Rattle.protocol.specs.Demand2.{broughtNumber, broughtBy, Origin, Unknown, Here, From, Gone, origin, askerNow}
 use Rattle.protocol.specs.Demand2.{GoneForever}
 use Rattle.protocol.proofs.Effects.{call-effect}
-use Rattle.protocol.proofs.Origins.{unknown-of, same-number, SameLookUp, Invariant, begins, goes-on, holds-after}
+use Rattle.protocol.proofs.Origins.{unknown-of, same-number, SameLookUp, Invariant, begins, goes-on}
+use Rattle.protocol.proofs.Origins.{holds-after}
 use Rattle.protocol.proofs.Origins.{looked-up}
 
 -- In the remembered queries: gone is still gone after a closing, and after one more query gone or not there

@@ -3,7 +3,7 @@
 use Prim.Native.Nat.{ℕ, _≤_, _<_}
 use native.Mathlib.Omega.{arith}
 use mathlib.Core.Path.{_≡_}
-use mathlib.Core.Bool.{Bool, true, false, not, _&&_, _||_}
+use mathlib.Core.Bool.{Bool, true, false, _&&_, _||_}
 use mathlib.Core.Logic.{_↔_, Iff·rfl}
 use mathlib.Core.List.{List, [], _∷_}
 use lib.Dec.{eqb, leb, ltb}
@@ -101,6 +101,5 @@ pub closed-mark : (s : Station) (l : ℕ) → inOrder s ≡ true → l < length 
     → lineAt s l .table .mark ≡ none
 closed-mark s l e h c =
     let x : Line = lineAt s l in
-    let rest : Bool = eqb (x .pongcount) 0 && not (x .pinged) in
-    let bare = or-rest (x .live) (eqb (x .table .mark) none && rest) (facts-at s l e h .empty) c in
-    eqb-true (x .table .mark) none (and-fst (eqb (x .table .mark) none) rest bare)
+    eqb-true (x .table .mark) none
+    (and-fst (eqb (x .table .mark) none) _ (or-rest (x .live) _ (facts-at s l e h .empty) c))
