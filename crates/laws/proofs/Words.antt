@@ -62,6 +62,9 @@ less-iff a b = (ltb-true a b, lt-ltb a b)
 pub not-less-iff : (a b : ℕ) → (ltb a b ≡ false) ↔ (b ≤ a)
 not-less-iff a b = (ltb-false a b, le-ltb a b)
 
+pub least-iff : (a b : ℕ) → (not (ltb a b) ≡ true) ↔ (b ≤ a)
+least-iff a b = ((λ e. ltb-false a b (not-true (ltb a b) e)), (λ h. ap not (le-ltb a b h)))
+
 pub most-iff : (a b : ℕ) → (leb a b ≡ true) ↔ (a ≤ b)
 most-iff a b = (leb-true a b, le-leb a b)
 
