@@ -15,8 +15,8 @@ use Rattle.laws.specs.Ring.{placesBefore, keptPlaces}
 use Rattle.laws.proofs.Words.{and-iff, or-iff, no-iff, eqb-iff, most-iff, refuted, decided}
 use Rattle.laws.proofs.Refusals.{clash, and-fst, and-snd, and-intro, or-fst, or-snd, or-right}
 use Rattle.laws.proofs.Refusals.{or-rest, all-getD}
-use Rattle.laws.proofs.Ranks.{places-length, place-low, place-high}
-use Rattle.laws.proofs.Rings.{map-getD}
+use Rattle.laws.proofs.Ranks.{place-low, place-high}
+use Rattle.laws.proofs.Rings.{map-getD, places-length}
 use Rattle.tables.specs.declared.Table.{Table}
 use Rattle.tables.specs.Tables.{broken, running, ready, goodLength, insideRun, betweenRuns, withinLimits}
 use Rattle.tables.specs.Tables.{tableInOrder}
