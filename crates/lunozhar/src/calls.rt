@@ -1,134 +1,173 @@
-// The calls over a station, and over a tally, that the caller lends.
+// The calls over a station whose ring of remembered queries the caller lends, and over a tally. The caller stores the line's record that comes back.
 ghost use mathlib.Core.Path.{_≡_};
-ghost use lib.ListN.{length};
-ghost use Rattle.laws.specs.Parts.{over};
+ghost use Prim.Native.Nat.{_%_};
+ghost use lib.ListN.{length, set};
+ghost use Rattle.protocol.specs.Memory.{memoryOf};
+ghost use Rattle.protocol.specs.State.{stationOf};
 ghost use Rattle.protocol.specs.Order.{inOrder};
-ghost use Rattle.protocol.specs.Calls.{fresh, opening, closing, messageOutcome, messageResult, ownOutcome, ownResult};
+ghost use Rattle.protocol.specs.Outcomes.{termsOf};
+ghost use Rattle.protocol.specs.Calls.{fresh, opening, closing};
+ghost use Rattle.station.specs.Calls.{MessageMet, OwnMet, Changed};
 ghost use Rattle.tally.specs.Counts.{counted};
-ghost use Rattle.lunozhar.specs.Told.{told};
+use crate::Lines;
 use crate::Number;
-use crate::Told;
-use protocol::Changed;
 use protocol::Own;
-use protocol::Station;
+use protocol::Report;
+use station::changes::Beginning;
+use station::changes::LineChange;
+use station::messages::Arrival;
 use tally::Tally;
-
-// The fresh state, whatever the old one is: `fresh` in the shape of the other two changes.
-fn renewed(_old: Station, route_len: usize) -> Changed
-    ensures { λ r. ⌜ r ≡ fresh «route_len» ⌝ }
-{
-    station::changes::fresh_over(route_len)
-}
 
 // A fresh state over a route area of so many bytes.
 #[no_mangle]
-pub extern "C" fn lunozhar_fresh(station: &mut Station, route_len: usize) -> u8
-    ensures { λ r. ⌜ (r ≡ fresh «route_len» .answer) × (now (station .exit) ≡ fresh «route_len» .state) ⌝ }
+pub extern "C" fn lunozhar_fresh_lent(
+    lo: &mut [u64; 512],
+    hi: &mut [u64; 512],
+    asker: &mut [u8; 512],
+    count: &mut usize,
+    next: &mut usize,
+    route_len: usize,
+) -> Beginning
+    ensures { λ r.
+      let after = stationOf (r .room) (r .lines)
+        (memoryOf (now (lo .exit)) (now (hi .exit)) (now (asker .exit)) (now (count .exit)) (now (next .exit))) in
+      ⌜ Changed (fresh «route_len») (r .answer) after ⌝ }
 {
-    let old = *station;
-    let new = renewed(old, route_len);
-    *station = new.state;
-    new.answer
+    station::changes::fresh_over(lo, hi, asker, count, next, route_len)
 }
 
 // A line is opened.
 #[no_mangle]
-pub extern "C" fn lunozhar_open(station: &mut Station, line: u32) -> u8
-    ensures { λ r. ⌜ (r ≡ opening (now (station .entry)) line .answer) × (now (station .exit) ≡ opening (now (station .entry)) line .state) ⌝ }
+pub extern "C" fn lunozhar_open_lent<'a>(
+    lo: &'a [u64; 512],
+    hi: &'a [u64; 512],
+    asker: &'a [u8; 512],
+    count: usize,
+    next: usize,
+    room: usize,
+    lines: Lines,
+    line: u32,
+) -> LineChange
+    ensures { λ r.
+      let memory = memoryOf (now (lo .entry)) (now (hi .entry)) (now (asker .entry)) count next in
+      let before = stationOf room (lines .at) memory in
+      let after = stationOf room (set (lines .at) (line % 8) (r .line)) memory in
+      ⌜ Changed (opening before line) (r .answer) after ⌝ }
 {
-    let old = *station;
-    let new = station::changes::open_line(old, line);
-    *station = new.state;
-    new.answer
+    let at = lines.at;
+    station::changes::open_line(lo, hi, asker, count, next, room, at, line)
 }
 
 // A line is closed.
 #[no_mangle]
-pub extern "C" fn lunozhar_close(station: &mut Station, line: u32) -> u8
-    ensures { λ r. ⌜ (r ≡ closing (now (station .entry)) line .answer) × (now (station .exit) ≡ closing (now (station .entry)) line .state) ⌝ }
+pub extern "C" fn lunozhar_close_lent(
+    lo: &[u64; 512],
+    hi: &[u64; 512],
+    asker: &mut [u8; 512],
+    count: usize,
+    next: usize,
+    room: usize,
+    lines: Lines,
+    line: u32,
+) -> LineChange
+    ensures { λ r.
+      let before = stationOf room (lines .at) (memoryOf (now (lo .entry)) (now (hi .entry)) (now (asker .entry)) count next) in
+      let after = stationOf room (set (lines .at) (line % 8) (r .line))
+        (memoryOf (now (lo .entry)) (now (hi .entry)) (now (asker .exit)) count next) in
+      ⌜ Changed (closing before line) (r .answer) after ⌝ }
 {
-    let old = *station;
-    let new = station::changes::close_line(old, line);
-    *station = new.state;
-    new.answer
+    let at = lines.at;
+    station::changes::close_line(lo, hi, asker, count, next, room, at, line)
 }
 
 // An arriving message.
 #[no_mangle]
-pub extern "C" fn lunozhar_message(
-    station: &mut Station,
+pub extern "C" fn lunozhar_message_lent(
+    lo: &mut [u64; 512],
+    hi: &mut [u64; 512],
+    asker: &mut [u8; 512],
+    count: &mut usize,
+    next: &mut usize,
+    room: usize,
+    lines: Lines,
     line: u32,
     clock: u32,
     own: Own,
     message: &[u8],
     out: &mut [u8],
     route: &mut [u8],
-) -> Told
-    ensures result { λ r. ⌜ r ≡ told (messageResult (now (station .entry)) line clock own (now (message .entry)) (length (now (out .entry))) (now (route .entry))) ⌝ }
-    ensures state { λ _. ⌜ now (station .exit) ≡ messageOutcome (now (station .entry)) line clock own (now (message .entry)) (length (now (out .entry))) (now (route .entry)) .state ⌝ }
-    ensures output { λ _. ⌜ now (out .exit) ≡ over 0 (messageOutcome (now (station .entry)) line clock own (now (message .entry)) (length (now (out .entry))) (now (route .entry)) .sent) (now (out .entry)) ⌝ }
-    ensures area { λ _. ⌜ now (route .exit) ≡ messageOutcome (now (station .entry)) line clock own (now (message .entry)) (length (now (out .entry))) (now (route .entry)) .route ⌝ }
+) -> Arrival
+    ensures { λ r.
+      let before = stationOf room (lines .at)
+        (memoryOf (now (lo .entry)) (now (hi .entry)) (now (asker .entry)) (now (count .entry)) (now (next .entry))) in
+      let after = stationOf room (set (lines .at) (line % 8) (r .line))
+        (memoryOf (now (lo .exit)) (now (hi .exit)) (now (asker .exit)) (now (count .exit)) (now (next .exit))) in
+      let terms = termsOf clock own (length (now (out .entry))) in
+      ⌜ MessageMet before line (now (message .entry)) terms (now (route .entry)) (r .report) after
+        (now (out .entry)) (now (out .exit)) (now (route .exit)) ⌝ }
 {
-    let old = *station;
-    let new = station::calls::message(old, line, clock, own, message, out, route);
-    *station = new.state;
-    Told {
-        answer: new.answer,
-        used: new.used,
-        written: new.written,
-        to: new.to,
-        search: new.search,
-        delivered: new.delivered,
-        textat: new.textat,
-        textlen: new.textlen,
-    }
+    let at = lines.at;
+    station::messages::message(
+        lo,
+        hi,
+        asker,
+        count,
+        next,
+        room,
+        at,
+        line,
+        clock,
+        own,
+        message,
+        out,
+        route,
+    )
 }
 
 // A query of this station's own.
 #[no_mangle]
-pub extern "C" fn lunozhar_ask(
-    station: &mut Station,
+pub extern "C" fn lunozhar_ask_lent(
+    lo: &mut [u64; 512],
+    hi: &mut [u64; 512],
+    asker: &mut [u8; 512],
+    count: &mut usize,
+    next: &mut usize,
+    room: usize,
+    lines: Lines,
     number: Number,
     text: &[u8],
     out: &mut [u8],
     route: &[u8],
-) -> Told
-    ensures result { λ r. ⌜ r ≡ told (ownResult (now (station .entry)) (number .bytes) (now (text .entry)) (length (now (out .entry))) (now (route .entry))) ⌝ }
-    ensures state { λ _. ⌜ now (station .exit) ≡ ownOutcome (now (station .entry)) (number .bytes) (now (text .entry)) (length (now (out .entry))) (now (route .entry)) .state ⌝ }
-    ensures output { λ _. ⌜ now (out .exit) ≡ over 0 (ownOutcome (now (station .entry)) (number .bytes) (now (text .entry)) (length (now (out .entry))) (now (route .entry)) .sent) (now (out .entry)) ⌝ }
+) -> Report
+    ensures { λ r.
+      let before = stationOf room (lines .at)
+        (memoryOf (now (lo .entry)) (now (hi .entry)) (now (asker .entry)) (now (count .entry)) (now (next .entry))) in
+      let after = stationOf room (lines .at)
+        (memoryOf (now (lo .exit)) (now (hi .exit)) (now (asker .exit)) (now (count .exit)) (now (next .exit))) in
+      ⌜ OwnMet before (number .bytes) (now (text .entry)) (now (route .entry)) r after (now (out .entry)) (now (out .exit)) ⌝ }
 {
-    let old = *station;
-    let new = station::asking::ask(old, number.bytes, text, out, route);
-    *station = new.state;
-    Told {
-        answer: new.answer,
-        used: new.used,
-        written: new.written,
-        to: new.to,
-        search: new.search,
-        delivered: new.delivered,
-        textat: new.textat,
-        textlen: new.textlen,
-    }
+    let at = lines.at;
+    let bytes = number.bytes;
+    station::asking::ask(lo, hi, asker, count, next, room, at, bytes, text, out, route)
 }
 
-// Whether a state is in order.
-fn is_in_order(s: Station) -> bool
-    ensures { λ r. ⌜ r ≡ inOrder s ⌝ }
-{
-    let next = s.next;
-    let count = s.count;
-    let room = s.room;
-    let lines = s.lines;
-    station::order::in_order(&s.lo, &s.hi, &s.asker, next, count, room, lines)
-}
-
-// Whether the station that is lent is in order.
+// Whether a station is in order.
 #[no_mangle]
-pub extern "C" fn lunozhar_in_order(station: &Station) -> bool
-    ensures { λ r. ⌜ r ≡ inOrder (now (station .entry)) ⌝ }
+pub extern "C" fn lunozhar_in_order_lent<'a>(
+    lo: &'a [u64; 512],
+    hi: &'a [u64; 512],
+    asker: &'a [u8; 512],
+    count: usize,
+    next: usize,
+    room: usize,
+    lines: Lines,
+) -> bool
+    ensures { λ r.
+      let s = stationOf room (lines .at) (memoryOf (now (lo .entry)) (now (hi .entry)) (now (asker .entry)) count next) in
+      ⌜ r ≡ inOrder s ⌝ }
 {
-    is_in_order(*station)
+    let at = lines.at;
+    station::order::in_order(lo, hi, asker, count, next, room, at)
 }
 
 // The tally that is lent is brought up by one answer.

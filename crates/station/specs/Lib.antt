@@ -1,3 +1,3 @@
 -- How the calls are put together.
-pub mod Acting
-pub mod Steps
+pub mod Actions
+pub mod Calls

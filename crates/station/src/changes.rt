@@ -1,19 +1,35 @@
 // A fresh state, and lines opened and closed.
 ghost use mathlib.Core.Path.{_≡_};
 ghost use mathlib.Core.Bool.{cond};
-ghost use Prim.Native.Nat.{_/_, _%_};
-ghost use mathlib.Core.List.{map};
-ghost use lib.Dec.{eqb, ltb};
-ghost use lib.ListN.{length};
+ghost use Prim.Native.Nat.{_%_};
+ghost use lib.Dec.{eqb};
+ghost use lib.ListN.{set};
+ghost use Rattle.protocol.specs.Memory.{memoryOf, gone};
 ghost use Rattle.protocol.specs.Lines.{emptyLine};
-ghost use Rattle.protocol.specs.Memory.{left};
-ghost use Rattle.protocol.specs.Calls.{fresh, opening, closing, changed};
+ghost use Rattle.protocol.specs.State.{stationOf};
+ghost use Rattle.protocol.specs.Calls.{fresh, freshRoom, freshAnswer, opening, closing};
+ghost use Rattle.station.specs.Calls.{Changed};
 use crate::order::in_order;
-use protocol::Changed;
+use memory::leave::leave;
+use protocol::GONE;
 use protocol::Line;
 use protocol::Pong;
-use protocol::Station;
 use tables::Table;
+
+// The answer to an opening or closing, and the record of its line after it.
+#[repr(C)]
+pub struct LineChange {
+    pub answer: u8,
+    pub line: Line,
+}
+
+// The answer to a fresh state, and its room and lines.
+#[repr(C)]
+pub struct Beginning {
+    pub answer: u8,
+    pub room: usize,
+    pub lines: [Line; 8],
+}
 
 // A line with no table, no pongs and no accepted ping.
 fn empty_line(live: bool) -> Line
@@ -48,48 +64,44 @@ fn empty_line(live: bool) -> Line
 
 // The room for each neighbour's table in a route area of n bytes.
 fn room_of(n: usize) -> usize
-    ensures { λ r. ⌜ r ≡ cond (ltb n 32) 0 (n / 8) ⌝ }
+    ensures { λ r. ⌜ r ≡ freshRoom n ⌝ }
 {
     if n < 32 { 0 } else { n / 8 }
 }
 
 fn area_answer(n: usize) -> u8
-    ensures { λ r. ⌜ r ≡ cond (ltb n 32) 2 0 ⌝ }
+    ensures { λ r. ⌜ r ≡ freshAnswer n ⌝ }
 {
     if n < 32 { 2 } else { 0 }
 }
 
 // A fresh state over a route area of so many bytes.
-pub fn fresh_over(length: usize) -> Changed
-    ensures { λ r. ⌜ r ≡ fresh length ⌝ }
+pub fn fresh_over(
+    lo: &mut [u64; 512],
+    hi: &mut [u64; 512],
+    asker: &mut [u8; 512],
+    count: &mut usize,
+    next: &mut usize,
+    length: usize,
+) -> Beginning
+    ensures { λ r.
+      let after = stationOf (r .room) (r .lines)
+        (memoryOf (now (lo .exit)) (now (hi .exit)) (now (asker .exit)) (now (count .exit)) (now (next .exit))) in
+      ⌜ Changed (fresh length) (r .answer) after ⌝ }
 {
+    memory::remember::fresh(lo, hi, asker, count, next);
     let room = room_of(length);
     let answer = area_answer(length);
     let line = empty_line(false);
     let lines = [line; 8];
-    let lo = [0u64; 512];
-    let hi = [0u64; 512];
-    let asker = [0u8; 512];
-    let state = Station {
+    Beginning {
+        answer,
         room,
         lines,
-        lo,
-        hi,
-        asker,
-        count: 0,
-        next: 0,
-    };
-    Changed { state, answer }
+    }
 }
 
-// A fresh state over a route area, of which only the length is read.
-pub fn fresh(route: &[u8]) -> Changed
-    ensures { λ r. ⌜ r ≡ fresh (length (now (route .entry))) ⌝ }
-{
-    fresh_over(route.len())
-}
-
-// The line's record after a change that is answered so: an empty line, or as it was where the change is refused.
+// The line's record after an opening or closing that is answered so.
 fn line_after(answer: u8, live: bool, x: Line) -> Line
     ensures { λ r. ⌜ r ≡ cond (eqb answer 0) (emptyLine live) x ⌝ }
 {
@@ -99,54 +111,63 @@ fn line_after(answer: u8, live: bool, x: Line) -> Line
     empty_line(live)
 }
 
-// A line is opened.
-pub fn open_line(mut s: Station, line: u32) -> Changed
-    ensures { λ r. ⌜ r ≡ changed (opening s line) ⌝ }
+// A line is opened. The record that comes back belongs at line % 8.
+pub fn open_line<'a>(
+    lo: &'a [u64; 512],
+    hi: &'a [u64; 512],
+    asker: &'a [u8; 512],
+    count: usize,
+    next: usize,
+    room: usize,
+    lines: [Line; 8],
+    line: u32,
+) -> LineChange
+    ensures { λ r.
+      let memory = memoryOf (now (lo .entry)) (now (hi .entry)) (now (asker .entry)) count next in
+      let before = stationOf room lines memory in
+      let after = stationOf room (set lines (line % 8) (r .line)) memory in
+      ⌜ Changed (opening before line) (r .answer) after ⌝ }
 {
-    let next = s.next;
-    let count = s.count;
-    let room = s.room;
-    let lines = s.lines;
+    let order = in_order(lo, hi, asker, count, next, room, lines);
     let j = (line % 8) as usize;
-    let x = s.lines[j];
-    let order = in_order(&s.lo, &s.hi, &s.asker, next, count, room, lines);
+    let x = lines[j];
     let answer = refusals::opening(order, line, x.live);
     let y = line_after(answer, true, x);
-    s.lines[j] = y;
-    Changed { state: s, answer }
+    LineChange { answer, line: y }
 }
 
-// The line whose queries are marked gone; 9, which is gone already, where the closing is refused.
+// The line whose queries are marked gone; gone itself, which marks nothing, where the closing is refused.
 fn leaver(answer: u8, line: u32) -> u8
-    ensures { λ r. ⌜ r ≡ cond (eqb answer 0) (line % 8) 9 ⌝ }
+    ensures { λ r. ⌜ r ≡ cond (eqb answer 0) (line % 8) gone ⌝ }
 {
     if answer != 0 {
-        return 9;
+        return GONE;
     }
     (line % 8) as u8
 }
 
-fn leave_all(asker: &mut [u8; 512], line: u8)
-    ensures { λ _. ⌜ now (asker .exit) ≡ map (left line) (now (asker .entry)) ⌝ }
+// A line is closed. The record that comes back belongs at line % 8.
+pub fn close_line(
+    lo: &[u64; 512],
+    hi: &[u64; 512],
+    asker: &mut [u8; 512],
+    count: usize,
+    next: usize,
+    room: usize,
+    lines: [Line; 8],
+    line: u32,
+) -> LineChange
+    ensures { λ r.
+      let before = stationOf room lines (memoryOf (now (lo .entry)) (now (hi .entry)) (now (asker .entry)) count next) in
+      let after = stationOf room (set lines (line % 8) (r .line))
+        (memoryOf (now (lo .entry)) (now (hi .entry)) (now (asker .exit)) count next) in
+      ⌜ Changed (closing before line) (r .answer) after ⌝ }
 {
-    memory::leave::leave(asker, line);
-}
-
-// A line is closed.
-pub fn close_line(mut s: Station, line: u32) -> Changed
-    ensures { λ r. ⌜ r ≡ changed (closing s line) ⌝ }
-{
-    let next = s.next;
-    let count = s.count;
-    let room = s.room;
-    let lines = s.lines;
+    let order = in_order(lo, hi, asker, count, next, room, lines);
     let j = (line % 8) as usize;
-    let x = s.lines[j];
-    let order = in_order(&s.lo, &s.hi, &s.asker, next, count, room, lines);
+    let x = lines[j];
     let answer = refusals::closing(order, line, x.live);
     let y = line_after(answer, false, x);
-    s.lines[j] = y;
-    let who = leaver(answer, line);
-    leave_all(&mut s.asker, who);
-    Changed { state: s, answer }
+    leave(asker, leaver(answer, line));
+    LineChange { answer, line: y }
 }

@@ -1,14 +1,13 @@
 // Floor 5: the station's calls. The rules are the definitions of crate protocol; the work is done by the crates below, each on the slices and numbers it
-// needs. Only the calls hold a state.
+// needs. The ring of remembered queries is lent to the calls, room and lines go by value.
 mod act;
-pub mod acted;
+mod actions;
 pub mod asking;
-pub mod calls;
 pub mod changes;
+mod hits;
 mod lines;
-mod numbers;
+pub mod messages;
 pub mod order;
 mod pings;
 mod queries;
-mod ring;
-mod steps;
+mod updates;

@@ -1,6 +1,6 @@
 // What is read off the eight lines.
 ghost use mathlib.Core.Path.{_≡_};
-ghost use Rattle.station.specs.Steps.{livesIn, tablesIn};
+ghost use Rattle.protocol.specs.Lines.{livesIn, tablesIn};
 use protocol::Line;
 use tables::Table;
 

@@ -1,19 +1,15 @@
-// Whether a state is in order.
+// Whether a state is in order, and what it remembers of a number.
 ghost use mathlib.Core.Path.{_≡_};
-ghost use Rattle.laws.specs.Tests.{all};
-ghost use Rattle.protocol.specs.Memory.{find, numberIn, remembered};
-ghost use Rattle.protocol.specs.Order.{lineInOrder, inOrder};
-ghost use Rattle.memory.specs.Queries.{looked};
-ghost use Rattle.station.specs.Acting.{stationOf};
+ghost use Rattle.protocol.specs.Memory.{memoryOf, numberFrom};
+ghost use Rattle.protocol.specs.State.{stationOf, lookedUp};
+ghost use Rattle.protocol.specs.Order.{linesInOrder, inOrder};
 use crate::lines::lives;
-use crate::numbers::high_half;
-use crate::numbers::low_half;
-use memory::order::Surveyed;
+use memory::order::Survey;
 use pinging::order::line_in_order;
 use protocol::Line;
 
 fn lines_in_order(lines: [Line; 8], room: usize) -> bool
-    ensures { λ r. ⌜ r ≡ all (lineInOrder room) lines ⌝ }
+    ensures { λ r. ⌜ r ≡ linesInOrder room lines ⌝ }
 {
     let mut k = 0;
     while k < 8 {
@@ -25,49 +21,54 @@ fn lines_in_order(lines: [Line; 8], room: usize) -> bool
     true
 }
 
-// Whether the remembered queries and the lines are in order, as a state has them, and the query that has the message's number. The lines
-// are tested first, so that they are copied once.
+// Whether the remembered queries and the lines are in order, and what is known of the number (low, high). The lines are tested first, so that they
+// are copied once.
 pub(crate) fn survey<'a>(
     lo: &'a [u64; 512],
     hi: &'a [u64; 512],
     asker: &'a [u8; 512],
-    next: usize,
     count: usize,
+    next: usize,
     room: usize,
     lines: [Line; 8],
-    m: &[u8],
-) -> Surveyed
-    ensures order { λ r. ⌜ r .order ≡ inOrder (stationOf room lines (now (lo .entry)) (now (hi .entry)) (now (asker .entry)) count next) ⌝ }
-    ensures known { λ r. ⌜ r .known ≡ looked (find (remembered (stationOf room lines (now (lo .entry)) (now (hi .entry)) (now (asker .entry)) count next)) (numberIn (now (m .entry)))) ⌝ }
+    low: u64,
+    high: u64,
+) -> Survey
+    ensures order { λ r.
+      let s = stationOf room lines (memoryOf (now (lo .entry)) (now (hi .entry)) (now (asker .entry)) count next) in
+      ⌜ r .order ≡ inOrder s ⌝ }
+    ensures known { λ r.
+      let s = stationOf room lines (memoryOf (now (lo .entry)) (now (hi .entry)) (now (asker .entry)) count next) in
+      ⌜ r .known ≡ lookedUp s (numberFrom low high) ⌝ }
 {
     let good = lines_in_order(lines, room);
     let live = lives(lines);
-    let low = low_half(m);
-    let high = high_half(m);
-    let s = memory::order::survey(lo, hi, asker, next, count, live, low, high);
+    let s = memory::order::survey(lo, hi, asker, count, next, live, low, high);
     if good {
         return s;
     }
     let known = s.known;
-    Surveyed {
+    Survey {
         order: false,
         known,
     }
 }
 
-// The same without a message. It is asked with a number of ones, which is looked up only where a word of the filter is all ones.
+// Whether a state is in order. It is asked with a number of ones, which is looked up only where a word of the filter is all ones.
 pub fn in_order<'a>(
     lo: &'a [u64; 512],
     hi: &'a [u64; 512],
     asker: &'a [u8; 512],
-    next: usize,
     count: usize,
+    next: usize,
     room: usize,
     lines: [Line; 8],
 ) -> bool
-    ensures { λ r. ⌜ r ≡ inOrder (stationOf room lines (now (lo .entry)) (now (hi .entry)) (now (asker .entry)) count next) ⌝ }
+    ensures { λ r.
+      let s = stationOf room lines (memoryOf (now (lo .entry)) (now (hi .entry)) (now (asker .entry)) count next) in
+      ⌜ r ≡ inOrder s ⌝ }
 {
-    let number = [255; 16];
-    let s = survey(lo, hi, asker, next, count, room, lines, &number);
+    let ones = 18446744073709551615;
+    let s = survey(lo, hi, asker, count, next, room, lines, ones, ones);
     s.order
 }

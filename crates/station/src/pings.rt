@@ -1,22 +1,26 @@
 // An arriving ping, answered with pongs, and an arriving pong, stored on its line.
 ghost use mathlib.Core.Path.{_≡_};
-ghost use Prim.Native.Nat.{_+_, _≤_, _<_};
+ghost use mathlib.Core.List.{List};
+ghost use Prim.Native.Nat.{ℕ, _≤_, _<_};
 ghost use lib.ListN.{length};
-ghost use Rattle.laws.specs.Parts.{over};
-ghost use Rattle.wire.specs.Header.{sizeOf, ttlOf, hopsOf, payloadOf};
-ghost use Rattle.pinging.specs.Numbers.{probing, pongNumber};
-ghost use Rattle.station.specs.Steps.{timeKept, backTo, pingActed, pingSent, pingBy, pongsBack, pongActed};
-use crate::acted::Acted;
-use crate::acted::only_to;
-use crate::acted::quietly;
+ghost use Rattle.wire.specs.Header.{headerIn};
+ghost use Rattle.protocol.specs.Outcomes.{termsOf};
+ghost use Rattle.protocol.specs.Pings.{timeKept, backTo, pingStep, pongStep};
+ghost use Rattle.station.specs.Actions.{Whole, actionOf, Does};
+use crate::actions::Action;
+use crate::actions::only_to;
+use crate::actions::quiet;
+use crate::actions::quietly;
 use pinging::answers::is_probe;
 use pinging::answers::ping_answer;
 use pinging::answers::pong_answer;
 use pinging::number::number_of;
 use pinging::send::send_pongs;
+use pinging::store::first_bytes;
 use pinging::store::store_pong;
 use protocol::Line;
 use protocol::Own;
+use wire::Header;
 
 // The line after an accepted ping: a probe's time is not kept.
 fn time_kept(x: Line, probe: bool, clock: u32) -> Line
@@ -42,55 +46,54 @@ fn back_to(written: usize, l: u32) -> [bool; 8]
     only_to(l as u8)
 }
 
-// A ping, with the eight lines whose stored pongs may answer it.
+// A ping by line l, with the eight lines whose stored pongs may answer it.
 pub(crate) fn ping_step(
     lines: [Line; 8],
     l: u32,
-    x: Line,
+    h: Header,
     clock: u32,
     own: Own,
     m: &[u8],
     out: &mut [u8],
-) -> Acted
-    requires { ⌜ (23 ≤ length (now m)) × (l < 8) ⌝ }
-    ensures acted { λ r. ⌜ r ≡ pingActed x (pingBy x clock (now (m .entry))) l (probing (ttlOf (now (m .entry))) (hopsOf (now (m .entry)))) clock (pongsBack (length (now (out .entry))) lines l clock own (now (m .entry))) ⌝ }
-    ensures output { λ _. ⌜ now (out .exit) ≡ over 0 (pingSent (pingBy x clock (now (m .entry))) (pongsBack (length (now (out .entry))) lines l clock own (now (m .entry)))) (now (out .entry)) ⌝ }
+) -> Action
+    requires { ⌜ Whole h (now m) ⌝ }
+    requires { ⌜ (l < 8) × (4119 ≤ length (now out)) ⌝ }
+    ensures { λ r.
+      let terms = termsOf clock own (length (now (out .entry))) in
+      ⌜ ((area : List ℕ) → Does (pingStep lines l terms (now (m .entry)) area) r (now (out .entry)) (now (out .exit))) ⌝ }
 {
-    let ttl = m[17];
-    let hops = m[18];
-    let answer = ping_answer(x.pinged, x.pingtime, clock, ttl, hops);
+    let j = l as usize;
+    let x = lines[j];
+    let answer = ping_answer(x.pinged, x.pingtime, clock, h);
     if answer != 0 {
         return quietly(answer, x);
     }
-    let probe = is_probe(ttl, hops);
+    let probe = is_probe(h);
     let number = number_of(m);
-    let written = send_pongs(lines, l, clock, own, number, hops, probe, out);
+    let written = send_pongs(lines, l, clock, own, number, h.hops, probe, out);
     let to = back_to(written, l);
     let line = time_kept(x, probe, clock);
-    Acted {
-        answer: 0,
+    let mut report = quiet(0);
+    report.written = written;
+    report.to = to;
+    Action {
+        report,
         line,
         remember: false,
-        written,
-        to,
-        search: false,
-        delivered: false,
-        textat: 0,
-        textlen: 0,
     }
 }
 
-// A pong of which the payload is handed on.
-pub(crate) fn pong_step(x: Line, clock: u32, size: u32, m: &[u8]) -> Acted
-    requires { ⌜ (size ≡ sizeOf (now m)) × (23 + size ≤ length (now m)) ⌝ }
-    ensures { λ r. ⌜ r ≡ pongActed x (pongNumber size (ttlOf (now (m .entry))) (hopsOf (now (m .entry)))) (hopsOf (now (m .entry))) clock (payloadOf (now (m .entry))) ⌝ }
+// A pong by a line with this record.
+pub(crate) fn pong_step(x: Line, h: Header, clock: u32, m: &[u8]) -> Action
+    requires { ⌜ Whole h (now m) ⌝ }
+    ensures { λ r. ⌜ ((area : List ℕ) → r ≡ actionOf (pongStep x clock (now (m .entry)) area)) ⌝ }
 {
-    let hops = m[18];
-    let answer = pong_answer(size, m[17], hops);
+    let answer = pong_answer(h);
     if answer != 0 {
         return quietly(answer, x);
     }
-    let n = 23 + size as usize;
-    let y = store_pong(x, &m[23..n], hops, clock);
+    let n = 23 + h.size as usize;
+    let bytes = first_bytes(&m[23..n]);
+    let y = store_pong(x, bytes, h.hops, clock);
     quietly(0, y)
 }

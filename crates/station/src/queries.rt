@@ -1,99 +1,76 @@
 // An arriving query: answered, and passed on to the lines that it goes to.
 ghost use mathlib.Core.Path.{_≡_};
-ghost use mathlib.Core.Bool.{cond};
-ghost use Prim.Native.Nat.{_+_, _-_, _≤_, _<_, min};
+ghost use mathlib.Core.List.{List};
+ghost use Prim.Native.Nat.{ℕ, _-_, _<_, min};
 ghost use lib.ListN.{length};
-ghost use Rattle.laws.specs.Parts.{over};
-ghost use Rattle.wire.specs.Header.{kindOf, sizeOf};
-ghost use Rattle.forwarding.specs.Messages.{passable, passedOn, countIf, writtenIf};
-ghost use Rattle.station.specs.Steps.{goingTo, queryBy, queryLines, queryActed, querySent};
-use crate::acted::Acted;
-use crate::acted::quietly;
+ghost use Rattle.wire.specs.Header.{queryType};
+ghost use Rattle.protocol.specs.Queries.{queryStep};
+ghost use Rattle.station.specs.Actions.{Sendable, Does};
+use crate::actions::Action;
+use crate::actions::quiet;
+use crate::actions::quietly;
 use crate::lines::lives;
 use crate::lines::tables_of;
 use forwarding::lines::any_line;
-use forwarding::lines::passing;
-use forwarding::messages::pass_on;
+use forwarding::lines::going;
+use forwarding::messages::pass_if;
 use forwarding::texts::text_length;
 use protocol::Line;
+use protocol::Lookup;
+use wire::Header;
 
-// The usual life of a query.
-const LIMIT: u8 = 7;
-
-// The life of a query (RULES 7.2): TTL or 7 - Hops, whichever is less.
-fn life_of(ttl: u8, hops: u8) -> u8
-    requires { ⌜ hops < 7 ⌝ }
-    ensures { λ r. ⌜ r ≡ min ttl (7 - hops) ⌝ }
+// The life of a query (RULES 7.2): TTL or limit - Hops, whichever is less.
+fn life_of(limit: u8, ttl: u8, hops: u8) -> u8
+    requires { ⌜ hops < limit ⌝ }
+    ensures { λ r. ⌜ r ≡ min ttl (limit - hops) ⌝ }
 {
-    let left = LIMIT - hops;
+    let left = limit - hops;
     if ttl <= left { ttl } else { left }
 }
 
-// The lines that a query with this life and text goes on to: open ones, but for its own, that do not withhold it.
-fn going(room: usize, lines: [Line; 8], l: usize, life: u8, text: &[u8], route: &[u8]) -> [bool; 8]
-    requires { ⌜ l < 8 ⌝ }
-    ensures { λ r. ⌜ r ≡ goingTo lines room l life (now (text .entry)) (now (route .entry)) ⌝ }
-{
-    if life < 2 {
-        return [false; 8];
-    }
-    let mut live = lives(lines);
-    live[l] = false;
-    let tables = tables_of(lines);
-    passing(live, tables, room, route, text, life - 1)
-}
-
-// The first n bytes of the message are passed on where they go to some line; how many bytes were written.
-fn pass_if(some: bool, m: &[u8], n: usize, ttl: u8, hops: u8, out: &mut [u8]) -> usize
-    ensures count { λ r. ⌜ r ≡ cond some (countIf (passable (now (m .entry)) n (now (out .entry))) n) 0 ⌝ }
-    ensures bytes { λ _. ⌜ now (out .exit) ≡ cond some (writtenIf (passable (now (m .entry)) n (now (out .entry))) (passedOn (now (m .entry)) n ttl hops) (now (out .entry))) (now (out .entry)) ⌝ }
-{
-    if !some {
-        return 0;
-    }
-    pass_on(m, n, ttl, hops, out)
-}
-
-// A query, given whether its number is remembered.
+// A query by line l; `known` is what the look-up of its number found.
 pub(crate) fn query_step(
+    limit: u8,
     room: usize,
     lines: [Line; 8],
-    l: usize,
-    x: Line,
-    seen: bool,
-    size: u32,
+    l: u32,
+    h: Header,
+    known: Lookup,
     m: &[u8],
     out: &mut [u8],
     route: &[u8],
-) -> Acted
-    requires { ⌜ (size ≡ sizeOf (now m)) × (23 + size ≤ length (now m)) × (23 + size ≤ length (now out)) × (kindOf (now m) ≡ 0x80) × (l < 8) ⌝ }
-    ensures acted { λ r. ⌜ r ≡ queryActed x (queryBy seen (now (m .entry))) (queryLines room lines l (now (m .entry)) (now (route .entry))) (now (m .entry)) ⌝ }
-    ensures output { λ _. ⌜ now (out .exit) ≡ over 0 (querySent (queryBy seen (now (m .entry))) (queryLines room lines l (now (m .entry)) (now (route .entry))) (now (m .entry))) (now (out .entry)) ⌝ }
+) -> Action
+    requires { ⌜ Sendable h queryType (now m) (length (now out)) ⌝ }
+    requires { ⌜ l < 8 ⌝ }
+    ensures { λ r.
+      let step = queryStep limit room lines l known (now (m .entry)) (now (route .entry)) in
+      ⌜ Does step r (now (out .entry)) (now (out .exit)) ⌝ }
 {
-    let ttl = m[17];
-    let hops = m[18];
-    let n = 23 + size as usize;
+    let j = l as usize;
+    let line = lines[j];
+    let n = 23 + h.size as usize;
     let payload = &m[23..n];
-    let found = text_length(payload);
-    let answer = refusals::query(LIMIT, found.ended, ttl, hops, seen);
+    let text = text_length(payload);
+    let answer = refusals::query(limit, h, text.ended, known);
     if answer != 0 {
-        return quietly(answer, x);
+        return quietly(answer, line);
     }
-    let textlen = found.length;
+    let textlen = text.length;
     let end = 2 + textlen;
-    let life = life_of(ttl, hops);
-    let to = going(room, lines, l, life, &payload[2..end], route);
+    let life = life_of(limit, h.ttl, h.hops);
+    let live = lives(lines);
+    let tables = tables_of(lines);
+    let to = going(live, tables, room, route, l, life, &payload[2..end]);
     let some = any_line(to);
-    let written = pass_if(some, m, n, life - 1, hops + 1, out);
-    Acted {
-        answer: 0,
-        line: x,
+    let mut report = quiet(0);
+    report.written = pass_if(some, m, n, life - 1, h.hops + 1, out);
+    report.to = to;
+    report.search = true;
+    report.textat = 25;
+    report.textlen = textlen;
+    Action {
+        report,
+        line,
         remember: true,
-        written,
-        to,
-        search: true,
-        delivered: false,
-        textat: 25,
-        textlen,
     }
 }
