@@ -15,6 +15,7 @@
 #include <stdbool.h>
 #include <stddef.h>
 #include <stdint.h>
+#include <string.h>
 
 #ifdef __cplusplus
 extern "C" {
@@ -107,6 +108,11 @@ typedef struct lunozhar_line {
     lunozhar_table table;
 } lunozhar_line;
 
+/* The eight lines of a station, as they are handed to a call. */
+typedef struct lunozhar_lines {
+    lunozhar_line at[LUNOZHAR_LINES];
+} lunozhar_lines;
+
 /* A station's state. Only the functions below are to write it. It has no pointer, so that it may be copied and moved. */
 typedef struct lunozhar_station {
     size_t room; /* entries that there is room for in each neighbour's table: the route area's length / 8 */
@@ -143,6 +149,24 @@ typedef struct lunozhar_told {
     size_t textat;
     size_t textlen;
 } lunozhar_told;
+
+/* What the functions below hand back of a message, of a line opened or closed, and of a station made: the record of the line after the call, or
+ * all that is new of the station. */
+typedef struct lunozhar_arrival {
+    lunozhar_line line;
+    lunozhar_told told;
+} lunozhar_arrival;
+
+typedef struct lunozhar_line_change {
+    uint8_t answer;
+    lunozhar_line line;
+} lunozhar_line_change;
+
+typedef struct lunozhar_beginning {
+    uint8_t answer;
+    size_t room;
+    lunozhar_line lines[LUNOZHAR_LINES];
+} lunozhar_beginning;
 
 /* How many messages had each answer. Start with all zero. A full count stays. */
 typedef struct lunozhar_tally {
@@ -191,36 +215,89 @@ typedef struct lunozhar_hosts {
     lunozhar_pairs pairs;
 } lunozhar_hosts;
 
+/* The calls on a station, as the library has them: lo, hi and asker are its three arrays of LUNOZHAR_MEMORY places, lent with count and next where
+ * a call writes them. The record that comes back belongs at line % LUNOZHAR_LINES, whatever the answer is. The functions below do all that: call
+ * those. */
+lunozhar_beginning lunozhar_fresh_lent(uint64_t *lo, uint64_t *hi, uint8_t *asker, size_t *count, size_t *next, size_t route_len);
+lunozhar_line_change lunozhar_open_lent(const uint64_t *lo, const uint64_t *hi, const uint8_t *asker, size_t count, size_t next, size_t room,
+                                        lunozhar_lines lines, uint32_t line);
+lunozhar_line_change lunozhar_close_lent(const uint64_t *lo, const uint64_t *hi, uint8_t *asker, size_t count, size_t next, size_t room,
+                                         lunozhar_lines lines, uint32_t line);
+lunozhar_arrival lunozhar_message_lent(uint64_t *lo, uint64_t *hi, uint8_t *asker, size_t *count, size_t *next, size_t room,
+                                       lunozhar_lines lines, uint32_t line, uint32_t clock, lunozhar_own own,
+                                       const uint8_t *message, size_t message_len, uint8_t *out, size_t out_len,
+                                       uint8_t *route, size_t route_len);
+lunozhar_told lunozhar_ask_lent(uint64_t *lo, uint64_t *hi, uint8_t *asker, size_t *count, size_t *next, size_t room,
+                                lunozhar_lines lines, lunozhar_number number, const uint8_t *text, size_t text_len,
+                                uint8_t *out, size_t out_len, const uint8_t *route, size_t route_len);
+bool lunozhar_in_order_lent(const uint64_t *lo, const uint64_t *hi, const uint8_t *asker, size_t count, size_t next, size_t room,
+                            lunozhar_lines lines);
+
+/* A station's lines, to be handed on with one copy: what is read as lunozhar_lines is an array of its only member's type (C11 6.5 p7, C++11 3.10
+ * p10). */
+static inline const lunozhar_lines *lunozhar_lines_of(const lunozhar_station *station) {
+    const void *lines = station->lines;
+    return (const lunozhar_lines *)lines;
+}
+
 /* Makes the station: every line closed, nothing remembered, room for tables as a route area of route_len bytes gives it. The area itself is
  * lent to lunozhar_message and lunozhar_ask, always the same one; its bytes may be anything. What the station held before does not count, but it
  * holds something: memory that is new is set to zero first, as a static station is.
  * Answers 0, or 2 for route_len below LUNOZHAR_ROUTE: the station is made all the same, with room 0. */
-uint8_t lunozhar_fresh(lunozhar_station *station, size_t route_len);
+static inline uint8_t lunozhar_fresh(lunozhar_station *station, size_t route_len) {
+    const lunozhar_beginning made =
+        lunozhar_fresh_lent(station->lo, station->hi, station->asker, &station->count, &station->next, route_len);
+    station->room = made.room;
+    memcpy(station->lines, made.lines, sizeof station->lines);
+    return made.answer;
+}
 
 /* Opens a line, 0 to 7: no table, no pongs, no ping. Answers 0, 1, or 3 for a line over 7 or open already. */
-uint8_t lunozhar_open(lunozhar_station *station, uint32_t line);
+static inline uint8_t lunozhar_open(lunozhar_station *station, uint32_t line) {
+    const lunozhar_line_change change = lunozhar_open_lent(station->lo, station->hi, station->asker, station->count, station->next,
+                                                           station->room, *lunozhar_lines_of(station), line);
+    station->lines[line % LUNOZHAR_LINES] = change.line;
+    return change.answer;
+}
 
 /* Closes a line: its table and pongs are dropped, and no hit for a query that came by it is passed on any more, even if the line is opened
  * again. Answers 0, 1, or 3 for a line over 7 or not open. */
-uint8_t lunozhar_close(lunozhar_station *station, uint32_t line);
+static inline uint8_t lunozhar_close(lunozhar_station *station, uint32_t line) {
+    const lunozhar_line_change change = lunozhar_close_lent(station->lo, station->hi, station->asker, station->count, station->next,
+                                                            station->room, *lunozhar_lines_of(station), line);
+    station->lines[line % LUNOZHAR_LINES] = change.line;
+    return change.answer;
+}
 
 /* Takes the message at the front of the bytes, which arrived by a line at a clock in milliseconds (it may go round). Bytes past the message
  * are not read. Answers 0 to 16, and says what is to be sent, searched or delivered. Writes the bytes to be sent to the front of the output
  * area (out_len at least LUNOZHAR_OUTPUT), and an accepted update's entries to the line's part of the route area (route_len at least
  * LUNOZHAR_ROUTE, route_len / 8 the station's room). A refusal writes to no area and changes no state, but that 14, 15 and 16 mark the
  * line's table as broken. */
-lunozhar_told lunozhar_message(lunozhar_station *station, uint32_t line, uint32_t clock, lunozhar_own own,
-                               const uint8_t *message, size_t message_len, uint8_t *out, size_t out_len,
-                               uint8_t *route, size_t route_len);
+static inline lunozhar_told lunozhar_message(lunozhar_station *station, uint32_t line, uint32_t clock, lunozhar_own own,
+                                             const uint8_t *message, size_t message_len, uint8_t *out, size_t out_len,
+                                             uint8_t *route, size_t route_len) {
+    const lunozhar_arrival arrival = lunozhar_message_lent(station->lo, station->hi, station->asker, &station->count, &station->next,
+                                                           station->room, *lunozhar_lines_of(station), line, clock, own, message,
+                                                           message_len, out, out_len, route, route_len);
+    station->lines[line % LUNOZHAR_LINES] = arrival.line;
+    return arrival.told;
+}
 
 /* Asks a query of this station's own, with a number that no query had yet. The message goes to each open line whose table does not withhold
  * it, and is written to the front of the output area (lengths as for lunozhar_message). The route area is only read.
  * Answers 0, 1, 2, 5 for a text over 4,093 bytes, 6 for a zero byte in it, or 9 for a number that is remembered. */
-lunozhar_told lunozhar_ask(lunozhar_station *station, lunozhar_number number, const uint8_t *text, size_t text_len,
-                           uint8_t *out, size_t out_len, const uint8_t *route, size_t route_len);
+static inline lunozhar_told lunozhar_ask(lunozhar_station *station, lunozhar_number number, const uint8_t *text, size_t text_len,
+                                         uint8_t *out, size_t out_len, const uint8_t *route, size_t route_len) {
+    return lunozhar_ask_lent(station->lo, station->hi, station->asker, &station->count, &station->next, station->room,
+                             *lunozhar_lines_of(station), number, text, text_len, out, out_len, route, route_len);
+}
 
 /* Whether the state is in order, as every call tests first (answer 1). A state that only these functions wrote is. */
-bool lunozhar_in_order(const lunozhar_station *station);
+static inline bool lunozhar_in_order(const lunozhar_station *station) {
+    return lunozhar_in_order_lent(station->lo, station->hi, station->asker, station->count, station->next, station->room,
+                                  *lunozhar_lines_of(station));
+}
 
 /* Counts one more message with this answer. A number over 18 counts nothing. */
 void lunozhar_count(lunozhar_tally *tally, uint8_t answer);
@@ -287,6 +364,9 @@ LUNOZHAR_AT(lunozhar_line, pongnext, 16);
 LUNOZHAR_AT(lunozhar_line, pongs, 24);
 LUNOZHAR_AT(lunozhar_line, table, 224);
 
+LUNOZHAR_SIZE(lunozhar_lines, 1920);
+LUNOZHAR_AT(lunozhar_lines, at, 0);
+
 LUNOZHAR_SIZE(lunozhar_station, 10648);
 LUNOZHAR_AT(lunozhar_station, room, 0);
 LUNOZHAR_AT(lunozhar_station, lines, 8);
@@ -315,6 +395,19 @@ LUNOZHAR_AT(lunozhar_told, search, 32);
 LUNOZHAR_AT(lunozhar_told, delivered, 33);
 LUNOZHAR_AT(lunozhar_told, textat, 40);
 LUNOZHAR_AT(lunozhar_told, textlen, 48);
+
+LUNOZHAR_SIZE(lunozhar_arrival, 296);
+LUNOZHAR_AT(lunozhar_arrival, line, 0);
+LUNOZHAR_AT(lunozhar_arrival, told, 240);
+
+LUNOZHAR_SIZE(lunozhar_line_change, 248);
+LUNOZHAR_AT(lunozhar_line_change, answer, 0);
+LUNOZHAR_AT(lunozhar_line_change, line, 8);
+
+LUNOZHAR_SIZE(lunozhar_beginning, 1936);
+LUNOZHAR_AT(lunozhar_beginning, answer, 0);
+LUNOZHAR_AT(lunozhar_beginning, room, 8);
+LUNOZHAR_AT(lunozhar_beginning, lines, 16);
 
 LUNOZHAR_SIZE(lunozhar_tally, 76);
 LUNOZHAR_AT(lunozhar_tally, counts, 0);
