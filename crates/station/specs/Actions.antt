@@ -10,16 +10,22 @@ use Rattle.wire.specs.Header.{headerSize, largestPayload, largestMessage, heade
 use Rattle.protocol.specs.declared.Line.{Line}
 use Rattle.protocol.specs.declared.Lookup.{Lookup}
 use Rattle.protocol.specs.declared.Report.{Report}
-use Rattle.protocol.specs.Lines.{lineIn}
+use Rattle.protocol.specs.Lines.{lineIn, livesIn, tablesIn}
 use Rattle.protocol.specs.State.{Change}
+use Rattle.protocol.specs.Order.{linesInOrder}
 use Rattle.protocol.specs.Outcomes.{Terms, Step, nobody, refusedOr, reportOf}
 use Rattle.protocol.specs.Queries.{usualLimit}
 use Rattle.protocol.specs.Calls.{byType}
 use Rattle.station.specs.declared.actions.Action.{Action}
+use Rattle.station.specs.declared.lines.View.{View}
 
 -- a step as the code hands it on; how many bytes are used is told last
 abbrev pub actionOf : Step → Action
 actionOf r = record { report = reportOf r 0; line = r .state .line; remember = r .state .taken }
+
+-- what is read off the lines
+abbrev pub viewOf : List Line → ℕ → ℕ → View
+viewOf lines room l = record { order = linesInOrder room lines; line = lineIn lines l; live = livesIn lines; tables = tablesIn lines }
 
 -- answered n, and nothing is used, sent, searched or delivered
 abbrev pub quietReport : ℕ → Report

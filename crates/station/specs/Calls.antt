@@ -40,8 +40,7 @@ ownSent limit n room lines number text route =
     (sends (ownLines limit room lines text route) (writtenFor (ownLines limit room lines text route) (ownBytes limit number text))
     (quiet 0 (eqb n 0) route))
 
-abbrev pub ownReported : ℕ → ℕ → ℕ → List Line → List ℕ → List ℕ → List ℕ → Report
-ownReported limit n room lines number text route = reportOf (ownSent limit n room lines number text route) 0
-
-abbrev pub ownWritten : ℕ → ℕ → ℕ → List Line → List ℕ → List ℕ → List ℕ → List ℕ
-ownWritten limit n room lines number text route = ownSent limit n room lines number text route .sent
+-- it is met by what is told, and by the output area
+pub record Sends (o : Result Bool) (r : Report) (out out′ : List ℕ) : Type 0 where
+  pub report : r ≡ reportOf o 0
+  pub output : out′ ≡ over 0 (o .sent) out

@@ -1,14 +1,16 @@
 // An own query: its refusals, the lines it goes to, and the state after it.
 ghost use mathlib.Core.Path.{_≡_};
-ghost use Prim.Native.Nat.{_≤_};
+ghost use mathlib.Core.List.{List};
+ghost use Prim.Native.Nat.{ℕ, _≤_};
 ghost use lib.ListN.{length};
-ghost use Rattle.laws.specs.Parts.{over};
+ghost use Rattle.protocol.specs.declared.Line.{Line};
 ghost use Rattle.protocol.specs.Memory.{memoryOf};
 ghost use Rattle.protocol.specs.State.{stationOf};
-ghost use Rattle.station.specs.Calls.{OwnMet, ownReported, ownWritten};
+ghost use Rattle.station.specs.Actions.{viewOf};
+ghost use Rattle.station.specs.Calls.{OwnMet, Sends, ownSent};
 use crate::actions::quiet;
-use crate::lines::lives;
-use crate::lines::tables_of;
+use crate::lines::View;
+use crate::lines::view;
 use crate::order::survey;
 use forwarding::lines::any_line;
 use forwarding::lines::passing;
@@ -26,24 +28,23 @@ fn send_own(
     limit: u8,
     answer: u8,
     room: usize,
-    lines: [Line; 8],
+    v: View,
     number: [u8; 16],
     text: &[u8],
     out: &mut [u8],
     route: &[u8],
 ) -> Report
     requires { ⌜ (answer ≡ 0 → (length (now text) ≤ 4093) × (4119 ≤ length (now out))) ⌝ }
-    ensures report { λ r. ⌜ r ≡ ownReported limit answer room lines number (now (text .entry)) (now (route .entry)) ⌝ }
-    ensures output { λ _.
-      let sent = ownWritten limit answer room lines number (now (text .entry)) (now (route .entry)) in
-      ⌜ now (out .exit) ≡ over 0 sent (now (out .entry)) ⌝ }
+    ensures { λ r.
+      ⌜ ((lines : List Line) (l : ℕ) → v ≡ viewOf lines room l
+        → Sends (ownSent limit answer room lines number (now (text .entry)) (now (route .entry))) r (now (out .entry)) (now (out .exit))) ⌝ }
 {
     let mut report = quiet(answer);
     if answer != 0 {
         return report;
     }
-    let live = lives(lines);
-    let tables = tables_of(lines);
+    let live = v.live;
+    let tables = v.tables;
     let to = passing(live, tables, room, route, text, limit);
     report.to = to;
     if !any_line(to) {
@@ -77,11 +78,13 @@ pub fn ask(
     let h = read_header(&number);
     let n = *count;
     let p = *next;
-    let s = survey(lo, hi, asker, n, p, room, lines, h.lo, h.hi);
+    let v = view(lines, room, 0);
+    let live = v.live;
+    let s = survey(lo, hi, asker, n, p, v.order, live, h.lo, h.hi);
     let zero = any_zero(text);
     let known = s.known;
     let answer = refusals::own(s.order, room, out.len(), route.len(), text.len(), zero, known);
-    let report = send_own(LIMIT, answer, room, lines, number, text, out, route);
+    let report = send_own(LIMIT, answer, room, v, number, text, out, route);
     remember(lo, hi, asker, count, next, answer == 0, h.lo, h.hi, HERE);
     report
 }

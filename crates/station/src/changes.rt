@@ -9,7 +9,8 @@ ghost use Rattle.protocol.specs.Lines.{emptyLine};
 ghost use Rattle.protocol.specs.State.{stationOf};
 ghost use Rattle.protocol.specs.Calls.{fresh, freshRoom, freshAnswer, opening, closing};
 ghost use Rattle.station.specs.Calls.{Changed};
-use crate::order::in_order;
+use crate::lines::view;
+use crate::order::survey;
 use memory::leave::leave;
 use protocol::GONE;
 use protocol::Line;
@@ -128,10 +129,11 @@ pub fn open_line<'a>(
       let after = stationOf room (set lines (line % 8) (r .line)) memory in
       ⌜ Changed (opening before line) (r .answer) after ⌝ }
 {
-    let order = in_order(lo, hi, asker, count, next, room, lines);
-    let j = (line % 8) as usize;
-    let x = lines[j];
-    let answer = refusals::opening(order, line, x.live);
+    let v = view(lines, room, line % 8);
+    let live = v.live;
+    let s = survey(lo, hi, asker, count, next, v.order, live, 0, 0);
+    let x = v.line;
+    let answer = refusals::opening(s.order, line, x.live);
     let y = line_after(answer, true, x);
     LineChange { answer, line: y }
 }
@@ -163,10 +165,11 @@ pub fn close_line(
         (memoryOf (now (lo .entry)) (now (hi .entry)) (now (asker .exit)) count next) in
       ⌜ Changed (closing before line) (r .answer) after ⌝ }
 {
-    let order = in_order(lo, hi, asker, count, next, room, lines);
-    let j = (line % 8) as usize;
-    let x = lines[j];
-    let answer = refusals::closing(order, line, x.live);
+    let v = view(lines, room, line % 8);
+    let live = v.live;
+    let s = survey(lo, hi, asker, count, next, v.order, live, 0, 0);
+    let x = v.line;
+    let answer = refusals::closing(s.order, line, x.live);
     let y = line_after(answer, false, x);
     leave(asker, leaver(answer, line));
     LineChange { answer, line: y }

@@ -1,11 +1,36 @@
-// What is read off the eight lines.
+// What is read off the eight lines, all at once, so that they are copied once.
 ghost use mathlib.Core.Path.{_≡_};
+ghost use Prim.Native.Nat.{_<_};
 ghost use Rattle.protocol.specs.Lines.{livesIn, tablesIn};
+ghost use Rattle.protocol.specs.Order.{linesInOrder};
+ghost use Rattle.station.specs.Actions.{viewOf};
+use pinging::order::line_in_order;
 use protocol::Line;
 use tables::Table;
 
-// For each line whether it is open.
-pub(crate) fn lives(lines: [Line; 8]) -> [bool; 8]
+// Whether all lines are in order, the record of one, and for each whether it is open, and its table.
+#[repr(C)]
+pub struct View {
+    pub order: bool,
+    pub line: Line,
+    pub live: [bool; 8],
+    pub tables: [Table; 8],
+}
+
+fn lines_in_order(lines: [Line; 8], room: usize) -> bool
+    ensures { λ r. ⌜ r ≡ linesInOrder room lines ⌝ }
+{
+    let mut k = 0;
+    while k < 8 {
+        if !line_in_order(lines[k], room) {
+            return false;
+        }
+        k += 1;
+    }
+    true
+}
+
+fn lives(lines: [Line; 8]) -> [bool; 8]
     ensures { λ r. ⌜ r ≡ livesIn lines ⌝ }
 {
     [
@@ -20,23 +45,34 @@ pub(crate) fn lives(lines: [Line; 8]) -> [bool; 8]
     ]
 }
 
-fn table_of(x: Line) -> Table
-    ensures { λ r. ⌜ r ≡ x .table ⌝ }
-{
-    x.table
-}
-
-// The tables of the lines.
-pub(crate) fn tables_of(lines: [Line; 8]) -> [Table; 8]
+fn tables_of(lines: [Line; 8]) -> [Table; 8]
     ensures { λ r. ⌜ r ≡ tablesIn lines ⌝ }
 {
-    let a = table_of(lines[0]);
-    let b = table_of(lines[1]);
-    let c = table_of(lines[2]);
-    let d = table_of(lines[3]);
-    let e = table_of(lines[4]);
-    let f = table_of(lines[5]);
-    let g = table_of(lines[6]);
-    let h = table_of(lines[7]);
+    let a = lines[0].table;
+    let b = lines[1].table;
+    let c = lines[2].table;
+    let d = lines[3].table;
+    let e = lines[4].table;
+    let f = lines[5].table;
+    let g = lines[6].table;
+    let h = lines[7].table;
     [a, b, c, d, e, f, g, h]
+}
+
+// With the record of line l, for each neighbour's table this room.
+pub(crate) fn view(lines: [Line; 8], room: usize, l: u32) -> View
+    requires { ⌜ l < 8 ⌝ }
+    ensures { λ r. ⌜ r ≡ viewOf lines room l ⌝ }
+{
+    let order = lines_in_order(lines, room);
+    let live = lives(lines);
+    let tables = tables_of(lines);
+    let j = l as usize;
+    let line = lines[j];
+    View {
+        order,
+        line,
+        live,
+        tables,
+    }
 }

@@ -8,6 +8,7 @@ ghost use Rattle.protocol.specs.State.{stationOf};
 ghost use Rattle.protocol.specs.Outcomes.{termsOf, unused};
 ghost use Rattle.station.specs.Calls.{MessageMet};
 use crate::act::act;
+use crate::lines::view;
 use crate::order::survey;
 use memory::remember::remember;
 use protocol::Line;
@@ -64,22 +65,23 @@ pub fn message(
     let h = read_header(m);
     let n = *count;
     let p = *next;
-    let s = survey(lo, hi, asker, n, p, room, lines, h.lo, h.hi);
-    let j = (line % 8) as usize;
-    let x = lines[j];
+    let l = line % 8;
+    let v = view(lines, room, l);
+    let live = v.live;
+    let s = survey(lo, hi, asker, n, p, v.order, live, h.lo, h.hi);
+    let j = l as usize;
     let early = refusals::early(
         s.order,
         room,
         out.len(),
         route.len(),
         line,
-        x.live,
+        live[j],
         m.len(),
         h.size,
     );
     let known = s.known;
-    let l = line % 8;
-    let a = act(early, known, room, lines, l, h, clock, own, m, out, route);
+    let a = act(early, known, room, lines, v, l, h, clock, own, m, out, route);
     remember(lo, hi, asker, count, next, a.remember, h.lo, h.hi, l as u8);
     let after = a.line;
     let mut report = a.report;

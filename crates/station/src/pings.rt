@@ -4,6 +4,7 @@ ghost use mathlib.Core.List.{List};
 ghost use Prim.Native.Nat.{ℕ, _≤_, _<_};
 ghost use lib.ListN.{length};
 ghost use Rattle.wire.specs.Header.{headerIn};
+ghost use Rattle.protocol.specs.Lines.{lineIn};
 ghost use Rattle.protocol.specs.Outcomes.{termsOf};
 ghost use Rattle.protocol.specs.Pings.{timeKept, backTo, pingStep, pongStep};
 ghost use Rattle.station.specs.Actions.{Whole, actionOf, Does};
@@ -46,10 +47,11 @@ fn back_to(written: usize, l: u32) -> [bool; 8]
     only_to(l as u8)
 }
 
-// A ping by line l, with the eight lines whose stored pongs may answer it.
+// A ping by line l, which has the record x, with the eight lines whose stored pongs may answer it.
 pub(crate) fn ping_step(
     lines: [Line; 8],
     l: u32,
+    x: Line,
     h: Header,
     clock: u32,
     own: Own,
@@ -57,13 +59,11 @@ pub(crate) fn ping_step(
     out: &mut [u8],
 ) -> Action
     requires { ⌜ Whole h (now m) ⌝ }
-    requires { ⌜ (l < 8) × (4119 ≤ length (now out)) ⌝ }
+    requires { ⌜ (l < 8) × (x ≡ lineIn lines l) × (4119 ≤ length (now out)) ⌝ }
     ensures { λ r.
       let terms = termsOf clock own (length (now (out .entry))) in
       ⌜ ((area : List ℕ) → Does (pingStep lines l terms (now (m .entry)) area) r (now (out .entry)) (now (out .exit))) ⌝ }
 {
-    let j = l as usize;
-    let x = lines[j];
     let answer = ping_answer(x.pinged, x.pingtime, clock, h);
     if answer != 0 {
         return quietly(answer, x);

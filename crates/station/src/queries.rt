@@ -4,18 +4,17 @@ ghost use mathlib.Core.List.{List};
 ghost use Prim.Native.Nat.{ℕ, _-_, _<_, min};
 ghost use lib.ListN.{length};
 ghost use Rattle.wire.specs.Header.{queryType};
+ghost use Rattle.protocol.specs.declared.Line.{Line};
 ghost use Rattle.protocol.specs.Queries.{queryStep};
-ghost use Rattle.station.specs.Actions.{Sendable, Does};
+ghost use Rattle.station.specs.Actions.{Sendable, Does, viewOf};
 use crate::actions::Action;
 use crate::actions::quiet;
 use crate::actions::quietly;
-use crate::lines::lives;
-use crate::lines::tables_of;
+use crate::lines::View;
 use forwarding::lines::any_line;
 use forwarding::lines::going;
 use forwarding::messages::pass_if;
 use forwarding::texts::text_length;
-use protocol::Line;
 use protocol::Lookup;
 use wire::Header;
 
@@ -28,11 +27,11 @@ fn life_of(limit: u8, ttl: u8, hops: u8) -> u8
     if ttl <= left { ttl } else { left }
 }
 
-// A query by line l; `known` is what the look-up of its number found.
+// A query by line l, given what is read off the lines, whichever they are; `known` is what the look-up of its number found.
 pub(crate) fn query_step(
     limit: u8,
     room: usize,
-    lines: [Line; 8],
+    v: View,
     l: u32,
     h: Header,
     known: Lookup,
@@ -41,13 +40,11 @@ pub(crate) fn query_step(
     route: &[u8],
 ) -> Action
     requires { ⌜ Sendable h queryType (now m) (length (now out)) ⌝ }
-    requires { ⌜ l < 8 ⌝ }
     ensures { λ r.
-      let step = queryStep limit room lines l known (now (m .entry)) (now (route .entry)) in
-      ⌜ Does step r (now (out .entry)) (now (out .exit)) ⌝ }
+      ⌜ ((lines : List Line) → v ≡ viewOf lines room l
+        → Does (queryStep limit room lines l known (now (m .entry)) (now (route .entry))) r (now (out .entry)) (now (out .exit))) ⌝ }
 {
-    let j = l as usize;
-    let line = lines[j];
+    let line = v.line;
     let n = 23 + h.size as usize;
     let payload = &m[23..n];
     let text = text_length(payload);
@@ -58,8 +55,8 @@ pub(crate) fn query_step(
     let textlen = text.length;
     let end = 2 + textlen;
     let life = life_of(limit, h.ttl, h.hops);
-    let live = lives(lines);
-    let tables = tables_of(lines);
+    let live = v.live;
+    let tables = v.tables;
     let to = going(live, tables, room, route, l, life, &payload[2..end]);
     let some = any_line(to);
     let mut report = quiet(0);
