@@ -1,4 +1,6 @@
-//! The library as C sees it: the constants, structs and functions of `include/lunozhar.h`, which says more of each.
+//! The library as C sees it: the constants, structs and functions of `include/lunozhar.h`, which says more of each. The functions that end in
+//! `_lent` are lent the parts of a station; those of the same name without it take a station, and do no more than pass its parts and store what
+//! comes back.
 //!
 //! Most users want [`crate::Station`] and the functions beside it. A slice is a pointer and a length here, and every function is `unsafe` to call:
 //! pointers are not null and point to as much as their length or type says, and what a call is lent to write overlaps nothing else of it.
