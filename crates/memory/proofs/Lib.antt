@@ -4,3 +4,4 @@ pub mod FilterLaws
 pub mod NumberLaws
 pub mod AskerLaws
 pub mod OrderLaws
+mod Vectors
