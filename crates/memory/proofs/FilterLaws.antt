@@ -16,7 +16,8 @@ use Rattle.protocol.specs.Memory.{Query}
 use Rattle.memory.specs.Order.{sameAs, wordOf, marked}
 
 -- three numbers joined, by their lowest bits and the rest
-or-three : (w a b : ℕ) → bitOr (bitOr w a) b ≡ bitOr (bitOr (w / 2) (a / 2)) (b / 2) * 2 + max (max (w % 2) (a % 2)) (b % 2)
+or-three : (w a b : ℕ)
+    → bitOr (bitOr w a) b ≡ bitOr (bitOr (w / 2) (a / 2)) (b / 2) * 2 + max (max (w % 2) (a % 2)) (b % 2)
 or-three w a b =
     let e = or-step w a in
     let h : bitOr w a / 2 ≡ bitOr (w / 2) (a / 2) = omega (arith, e) in
@@ -51,7 +52,8 @@ module _ (filter : List ℕ) (a : ℕ) (size : length filter ≡ 1024) where
       by false p = rw (getD-set-other filter (a % 1024) (b % 1024) (bitOr (wordOf filter a) a) 0 (eqb-false _ _ p)) e
       by true p =
           let s : b % 1024 ≡ a % 1024 = eqb-true _ _ p in
-          let w : bitOr (wordOf filter a) b ≡ wordOf filter a = rw s at (eqb-true (bitOr (wordOf filter b) b) (wordOf filter b) e) in
+          let m = eqb-true (bitOr (wordOf filter b) b) (wordOf filter b) e in
+          let w : bitOr (wordOf filter a) b ≡ wordOf filter a = rw s at m in
           rw (s, word-same) (eq-eqb _ _ (or-swap (wordOf filter a) a b ∙ rw w))
 
 -- a number with a bit that its word lacks was not passed
@@ -68,4 +70,5 @@ module _ (filter : List ℕ) (q : Query) (new : marked filter (q .number .lo) �
 
   pub unmarked-new : (qs : List Query) → all (λ x. marked filter (x .number .lo)) qs ≡ true → any (sameAs q) qs ≡ false
   unmarked-new [] e = refl
-  unmarked-new (x ∷ xs) e = rw (no-same x (both-left _ _ e)) (unmarked-new xs (both-right (marked filter (x .number .lo)) _ e))
+  unmarked-new (x ∷ xs) e =
+      rw (no-same x (both-left _ _ e)) (unmarked-new xs (both-right (marked filter (x .number .lo)) _ e))

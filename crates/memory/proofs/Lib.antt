@@ -1,7 +1,6 @@
--- Laws by which the loops of this crate go, and small rings by evaluation.
+-- Laws by which the loops of this crate go.
 pub mod SearchLaws
 pub mod FilterLaws
 pub mod NumberLaws
 pub mod AskerLaws
 pub mod OrderLaws
-mod Vectors

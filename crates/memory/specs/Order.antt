@@ -27,8 +27,8 @@ pub record Passed (filter : List ℕ) (qs : List Query) : Type 0 where
   pub apart : noTwice qs ≡ true
   pub has : all (λ q. marked filter (q .number .lo)) qs ≡ true
 
--- the filter was brought on from `from` to p: where the queries before the one were passed, those before the other are, whatever their second
--- halves and their askers
+-- the filter was brought on from `from` to p: where the queries before the one were passed, those before the other
+-- are, whatever their second halves and their askers
 abbrev pub BroughtOn : List ℕ → ℕ → ℕ → List ℕ → List ℕ → Type 0
 BroughtOn lo from p old filter =
     (hi asker : List ℕ) (n : ℕ)

@@ -9,8 +9,9 @@ use crate::places::below;
 use crate::places::word_at;
 use crate::search::find;
 
-// A word of the filter joins the first halves passed that agree in their lowest ten bits: a number with a bit that its word lacks was not passed.
-// From place `from` on such numbers are put in. The place of the first other one, or `to`.
+// A word of the filter joins the first halves passed that agree in their lowest ten bits: a number with a bit that
+// its word lacks was not passed. From place `from` on such numbers are put in. The place of the first other one, or
+// `to`.
 fn fill(lo: &[u64], from: usize, to: usize, filter: &mut [u64; 1024]) -> usize
     requires { ⌜ (from ≤ to) × (to ≤ length (now lo)) × (length (now filter) ≡ 1024) ⌝ }
     ensures { λ r. ⌜ Filled (now (lo .entry)) from to r (now (filter .entry)) (now (filter .exit)) ⌝ }
@@ -30,8 +31,8 @@ fn fill(lo: &[u64], from: usize, to: usize, filter: &mut [u64; 1024]) -> usize
     p
 }
 
-// The queries at the places `from` to `to`, behind `passed` older ones. Only a number that the filter does not tell from those passed is looked up
-// among them.
+// The queries at the places `from` to `to`, behind `passed` older ones. Only a number that the filter does not tell
+// from those passed is looked up among them.
 fn no_twice_in<'a>(
     lo: &'a [u64],
     hi: &'a [u64],
@@ -58,7 +59,8 @@ fn no_twice_in<'a>(
     true
 }
 
-// The oldest queries are those at the end of the slices. The filter is handed in empty: bits that no number brought only cost look-ups.
+// The oldest queries are those at the end of the slices. The filter is handed in empty: bits that no number brought
+// only cost look-ups.
 pub(crate) fn no_twice<'a>(
     lo: &'a [u64],
     hi: &'a [u64],

@@ -11,13 +11,16 @@ use Rattle.memory.proofs.numbers.fill.Statement.{statement}
 use Rattle.memory.proofs.numbers.fill.Tie as tie
 
 abbrev Inv-loop : tie.InvT-loop
-Inv-loop lo from to filter₀ p₀ filter p = (from ≤ p) × (p ≤ to) × (length filter ≡ 1024) × BroughtOn lo from p filter₀ filter
+Inv-loop lo from to filter₀ p₀ filter p =
+    (from ≤ p) × (p ≤ to) × (length filter ≡ 1024) × BroughtOn lo from p filter₀ filter
 
 abbrev μ-loop : tie.MeasureT-loop
 μ-loop lo from to filter₀ p₀ filter p = to - p
 
 loop-holds : tie.Need-loop-holds Inv-loop μ-loop
-loop-holds c = (search needs, search needs, c .pre .2, on-none (c .args .lo .now) (c .args .from) (c .args .filter .now))
+loop-holds c =
+    let a = c .args in
+    (search needs, search needs, c .pre .2, on-none (a .lo .now) (a .from) (a .filter .now))
 
 mul-a : tie.Need-mul-a Inv-loop μ-loop
 mul-a c = search needs
@@ -34,7 +37,8 @@ element-copy-out-word c = search needs
 returns : tie.Need-returns Inv-loop μ-loop
 returns c =
     let l = c .before .before .before .before .loop in
-    record { low = l .inv .0; high = l .inv .1; size = l .inv .2; stopped = λ _. eq-eqb _ _ (c .if1 .taken); on = l .inv .3 }
+    let e = eq-eqb _ _ (c .if1 .taken) in
+    record { low = l .inv .0; high = l .inv .1; size = l .inv .2; stopped = λ _. e; on = l .inv .3 }
 
 mul-filter : tie.Need-mul-filter Inv-loop μ-loop
 mul-filter c = search needs
@@ -56,7 +60,8 @@ loop-again c =
       search needs,
       search needs,
       rw length-set (l .inv .2),
-      on-more (a .lo .now) (a .from) (l .p) _ (l .filter) (l .inv .0) (search needs) (l .inv .2) (ne-eqb _ _ (c .if1 .left)) (l .inv .3),
+      on-more (a .lo .now) (a .from) (l .p) _ (l .filter) (l .inv .0) (search needs) (l .inv .2)
+          (ne-eqb _ _ (c .if1 .left)) (l .inv .3),
     )
 
 returns-2 : tie.Need-returns-2 Inv-loop μ-loop

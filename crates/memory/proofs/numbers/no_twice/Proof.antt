@@ -29,8 +29,8 @@ returns c =
     let start = first .before .before .before .before in
     let a = start .args in
     let r = c .before .no-twice-in in
-    end-twice (queryAt (memoryOf (a .lo .now) (a .hi .now) (a .asker .now) 0 0)) (length (a .lo .now)) (a .next) (a .count)
-    (first .below .result) (start .pre .0) (start .pre .1) (first .below .ensures)
+    end-twice (queryAt (memoryOf (a .lo .now) (a .hi .now) (a .asker .now) 0 0)) (length (a .lo .now))
+    (a .next) (a .count) (first .below .result) (start .pre .0) (start .pre .1) (first .below .ensures)
     (rw (not-true (r .result) (c .if1 .taken)) at (r .ensures))
 
 sub-no-twice-in-2 : tie.Need-sub-no-twice-in-2
@@ -43,17 +43,17 @@ no-twice-in-requires-2 c κs =
     let a = start .args in
     let r = c .before .before .no-twice-in in (
       (search needs, search needs, search needs),
-      end-passed (queryAt (memoryOf (a .lo .now) (a .hi .now) (a .asker .now) 0 0)) (length (a .lo .now)) (a .next) (a .count)
-          (first .below .result) (start .pre .0) (start .pre .1) (first .below .ensures) _
+      end-passed (queryAt (memoryOf (a .lo .now) (a .hi .now) (a .asker .now) 0 0)) (length (a .lo .now))
+          (a .next) (a .count) (first .below .result) (start .pre .0) (start .pre .1) (first .below .ensures) _
           (rw (not-false (r .result) (c .before .if1 .left)) at (r .ensures)),
     )
 
 returns-2 : tie.Need-returns-2
 returns-2 c =
-    let first = c .before .before .before .before .before .below in
-    let start = c .before .before .before .before .before .before .before .before .before in
-    let a = start .args in
-    let e : a .count - first .result + (a .next - (a .next - first .result)) ≡ a .count = omega (arith, first .ensures) in
+    let first = c .before .before .before .before .before in
+    let a = first .before .before .before .before .args in
+    let f = first .below .result in
+    let e : a .count - f + (a .next - (a .next - f)) ≡ a .count = omega (arith, first .below .ensures) in
     rw e at (c .no-twice-in2 .ensures)
 
 pub no-twice-spec : {M : Type 1} → statement M

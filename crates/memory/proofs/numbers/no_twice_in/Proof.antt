@@ -51,57 +51,60 @@ find-requires c κs = search needs
 
 returns : tie.Need-returns Inv-loop μ-loop
 returns c =
-    let head = c .before .before .before .before .before in
-    let start = head .before .before .before .before .before .before in
+    let looked = c .before in
+    let head = looked .before .before .before .before in
+    let filled = head .before in
+    let start = filled .before .before .before .before .before in
     let a = start .args in
     let p = head .loop .p in
-    let n = a .passed + (p - a .from) in
-    let c′ = length (a .lo .now) in
-    let ring = memoryOf (a .lo .now) (a .hi .now) (a .asker .now) n p in
+    let ring = memoryOf (a .lo .now) (a .hi .now) (a .asker .now) (a .passed + (p - a .from)) p in
     let told =
-    found-before c′ ring _ (c .before .find .result) (omega (arith, start .pre)) (omega (arith, start .pre)) (c .before .before .word-at .ensures)
-    (c .before .find .ensures) in
-    let d : p + 1 + (a .to - (p + 1)) ≡ a .to = omega arith in
-    let e : n + 1 + (a .to - (p + 1)) ≡ a .passed + (a .to - a .from) = omega arith in
-    rw (d, e) at (twice-met (queryAt ring) c′ p n (a .to - (p + 1)) (omega (arith, start .pre)) (sym told ∙ c .if1 .taken))
+    found-before (length (a .lo .now)) ring _ (looked .find .result) (omega (arith, start .pre))
+    (omega (arith, start .pre)) (looked .before .word-at .ensures) (looked .find .ensures) in
+    twice-met (queryAt ring) (length (a .lo .now)) (a .from) (a .to) (a .passed) p (search needs) (search needs)
+    (start .pre .0 .1) (sym told ∙ c .if1 .taken)
 
 add-fill : tie.Need-add-fill Inv-loop μ-loop
 add-fill c = search needs
 
 fill-requires-2 : tie.Need-fill-requires-2 Inv-loop μ-loop
 fill-requires-2 c κs =
-    let head = c .before .before .before .before .before .before in
-    let start = head .before .before .before .before .before .before in
-    (search needs, start .pre .0 .1, head .loop .inv .3 .size)
+    let looked = c .before .before in
+    let head = looked .before .before .before .before in
+    let filled = head .before in
+    (search needs, filled .before .before .before .before .before .pre .0 .1, head .loop .inv .3 .size)
 
 loop-less : tie.Need-loop-less Inv-loop μ-loop
 loop-less c = omega (arith, c .fill2 .ensures .low)
 
 loop-again : tie.Need-loop-again Inv-loop μ-loop
 loop-again c =
-    let asked = c .before .before in
-    let head = asked .before .before .before .before .before in
-    let start = head .before .before .before .before .before .before in
+    let tested = c .before .before in
+    let looked = tested .before in
+    let head = looked .before .before .before .before in
+    let filled = head .before in
+    let start = filled .before .before .before .before .before in
     let a = start .args in
     let l = head .loop in
     let n = a .passed + (l .p - a .from) in
-    let c′ = length (a .lo .now) in
     let ring = memoryOf (a .lo .now) (a .hi .now) (a .asker .now) n (l .p) in
     let told =
-    found-before c′ ring _ (asked .before .find .result) (omega (arith, start .pre)) (omega (arith, start .pre)) (asked .before .before .word-at .ensures)
-    (asked .before .find .ensures) in
+    found-before (length (a .lo .now)) ring _ (looked .find .result) (omega (arith, start .pre))
+    (omega (arith, start .pre)) (looked .before .word-at .ensures) (looked .find .ensures) in
     let one =
-    passed-with (queryAt ring) c′ (l .p) n (l .filter) (l .filter) (omega (arith, start .pre)) (l .inv .3) (sym told ∙ asked .if1 .left)
-    (l .inv .3 .size) (l .inv .2 (search needs)) (λ _ e. e) in
+    passed-with (queryAt ring) (length (a .lo .now)) (l .p) n (l .filter) (l .filter) (omega (arith, start .pre))
+    (l .inv .3) (sym told ∙ tested .if1 .left) (l .inv .3 .size) (l .inv .2 (search needs)) (λ _ e. e) in
     let f = c .fill2 .ensures in
-    let e : n + 1 + (c .fill2 .result - (l .p + 1)) ≡ a .passed + (c .fill2 .result - a .from) = omega (arith, f .low) in
+    let p = c .fill2 .result in
+    let e : n + 1 + (p - (l .p + 1)) ≡ a .passed + (p - a .from) = omega (arith, f .low) in
     (omega (arith, f .low), f .high, f .stopped, rw e at (f .on (a .hi .now) (a .asker .now) (n + 1) one))
 
 returns-2 : tie.Need-returns-2 Inv-loop μ-loop
 returns-2 c =
-    let l = c .before .loop in
-    let e : l .p ≡ c .before .before .before .before .before .before .before .args .to = omega arith in
-    rw e at (l .inv .3)
+    let head = c .before in
+    let filled = head .before in
+    let e : head .loop .p ≡ filled .before .before .before .before .before .args .to = omega arith in
+    rw e at (head .loop .inv .3)
 
 pub no-twice-in-spec : {M : Type 1} → statement M
 no-twice-in-spec =
