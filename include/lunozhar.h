@@ -228,7 +228,7 @@ lunozhar_beginning lunozhar_fresh_lent(uint64_t *lo, uint64_t *hi, uint8_t *aske
                                        size_t route_len);
 lunozhar_line_change lunozhar_open_lent(const uint64_t *lo, const uint64_t *hi, const uint8_t *asker, size_t count,
                                         size_t next, size_t room, lunozhar_lines lines, uint32_t line);
-lunozhar_line_change lunozhar_close_lent(const uint64_t *lo, const uint64_t *hi, uint8_t *asker, size_t count,
+lunozhar_line_change lunozhar_close_lent(uint64_t *lo, uint64_t *hi, uint8_t *asker, size_t count,
                                          size_t next, size_t room, lunozhar_lines lines, uint32_t line);
 lunozhar_arrival lunozhar_message_lent(uint64_t *lo, uint64_t *hi, uint8_t *asker, size_t *count, size_t *next,
                                        size_t room, lunozhar_lines lines, uint32_t line, uint32_t clock,

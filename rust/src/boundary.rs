@@ -43,7 +43,7 @@ pub unsafe fn lunozhar_open(station: *mut Station, line: u32) -> u8 {
 #[inline]
 pub unsafe fn lunozhar_close(station: *mut Station, line: u32) -> u8 {
     let Station { room, lines, lo, hi, asker, count, next } = &mut *station;
-    let (lo, hi, asker, at) = (lo.as_ptr(), hi.as_ptr(), asker.as_mut_ptr(), *lines);
+    let (lo, hi, asker, at) = (lo.as_mut_ptr(), hi.as_mut_ptr(), asker.as_mut_ptr(), *lines);
     let change = raw::lunozhar_close_lent(lo, hi, asker, *count, *next, *room, Lines { at }, line);
     lines[line as usize % LINES] = change.line;
     change.answer

@@ -327,8 +327,8 @@ extern "C" {
     ) -> LineChange;
     /// [`lunozhar_close`] on the parts of a station.
     pub fn lunozhar_close_lent(
-        lo: *const u64,
-        hi: *const u64,
+        lo: *mut u64,
+        hi: *mut u64,
         asker: *mut u8,
         count: usize,
         next: usize,

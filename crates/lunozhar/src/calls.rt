@@ -61,8 +61,8 @@ pub extern "C" fn lunozhar_open_lent<'a>(
 // A line is closed.
 #[no_mangle]
 pub extern "C" fn lunozhar_close_lent(
-    lo: &[u64; 512],
-    hi: &[u64; 512],
+    lo: &mut [u64; 512],
+    hi: &mut [u64; 512],
     asker: &mut [u8; 512],
     count: usize,
     next: usize,
@@ -73,7 +73,7 @@ pub extern "C" fn lunozhar_close_lent(
     ensures { λ r.
         let before = stationOf room (lines .at) (memoryOf (now (lo .entry)) (now (hi .entry)) (now (asker .entry)) count next) in
         let after = stationOf room (set (lines .at) (line % 8) (r .line))
-        (memoryOf (now (lo .entry)) (now (hi .entry)) (now (asker .exit)) count next) in
+        (memoryOf (now (lo .exit)) (now (hi .exit)) (now (asker .exit)) count next) in
         ⌜ Changed (closing before line) (r .answer) after ⌝ }
 {
     let at = lines.at;
