@@ -13,7 +13,7 @@ use Rattle.protocol.specs.declared.Report.{Report}
 use Rattle.protocol.specs.Memory.{Memory}
 use Rattle.protocol.specs.State.{Station, stationOf, lineAt}
 use Rattle.protocol.specs.Order.{inOrder}
-use Rattle.protocol.specs.Outcomes.{Outcome, Terms, termsOf, nobody, quiet, pickResult}
+use Rattle.protocol.specs.Outcomes.{Outcome, termsOf, nobody, quiet, pickResult}
 use Rattle.protocol.specs.Calls.{opening, closing, openingRules, closingRules, messageOutcome}
 use Rattle.station.specs.Calls.{Changed, MessageMet}
 use Rattle.transcript.specs.declared.events.Answered.{Answered}
@@ -27,50 +27,59 @@ to-nobody true n k s t r q = refl
 to-nobody false n k s t r q = refl
 
 -- the record of a call's line, put in its place
-module _ (room : ℕ) (lines : List Line) (q : Memory) (line : ℕ) {x : Line} {n : ℕ} {r : Answered} where
-  handed : (o : Outcome) → Changed o n (stationOf room (set lines (line % 8) x) q) → o .to ≡ nobody → r ≡ handedOn lines line x n nobody
-      → Answers o r (stationOf room (r .lines) q)
+module _ {room : ℕ} (lines : List Line) {q : Memory} (line : ℕ) (x : Line) {n : ℕ} {r : Answered} where
+  handed : (o : Outcome) → Changed o n (stationOf room (set lines (line % 8) x) q) → o .to ≡ nobody
+      → r ≡ handedOn lines line x n nobody → Answers o r (stationOf room (r .lines) q)
   handed o c f e = rw e (record { answer = c .answered; to = sym f; state = c .state })
 
-  pub opened : (s : Station) → Changed (opening s line) n (stationOf room (set lines (line % 8) x) q) → r ≡ handedOn lines line x n nobody
-      → Answers (opening s line) r (stationOf room (r .lines) q)
+  pub opened : (s : Station) → Changed (opening s line) n (stationOf room (set lines (line % 8) x) q)
+      → r ≡ handedOn lines line x n nobody → Answers (opening s line) r (stationOf room (r .lines) q)
   unfolding opening
-  opened s c e = handed (opening s line) c (to-nobody (eqb (firstOf (openingRules (inOrder s) line (lineAt s line .live))) 0) _ _ _ _ _ _) e
+  opened s c e =
+      let rules = openingRules (inOrder s) line (lineAt s line .live) in
+      handed (opening s line) c (to-nobody (eqb (firstOf rules) 0) _ _ _ _ _ _) e
 
-  pub closed : (s : Station) → Changed (closing s line) n (stationOf room (set lines (line % 8) x) q) → r ≡ handedOn lines line x n nobody
-      → Answers (closing s line) r (stationOf room (r .lines) q)
+  pub closed : (s : Station) → Changed (closing s line) n (stationOf room (set lines (line % 8) x) q)
+      → r ≡ handedOn lines line x n nobody → Answers (closing s line) r (stationOf room (r .lines) q)
   unfolding closing
-  closed s c e = handed (closing s line) c (to-nobody (eqb (firstOf (closingRules (inOrder s) line (lineAt s line .live))) 0) _ _ _ _ _ _) e
+  closed s c e =
+      let rules = closingRules (inOrder s) line (lineAt s line .live) in
+      handed (closing s line) c (to-nobody (eqb (firstOf rules) 0) _ _ _ _ _ _) e
 
 -- ---- a message
 
-module _ (s : Station) (room : ℕ) (lines : List Line) (q : Memory) (line clock : ℕ) {own : Own} (m out route : List ℕ)
-    (e : own ≡ ownPong) (f : length out ≡ outputSize) {x : Line} {report : Report} {out′ route′ : List ℕ} {r : Answered}
-    (met : MessageMet s line m (termsOf clock own (length out)) route report (stationOf room (set lines (line % 8) x) q) out out′ route′) where
-  abbrev terms : Terms
-  terms = termsOf clock ownPong outputSize
-
-  same-outcome : messageOutcome s line m (termsOf clock own (length out)) route ≡ messageOutcome s line m terms route
+module _ (s : Station) {room : ℕ} (lines : List Line) {q : Memory} (line clock : ℕ) {own : Own} (m out route : List ℕ)
+    (e : own ≡ ownPong) (f : length out ≡ outputSize) (x : Line) {report : Report} {out′ route′ : List ℕ}
+    (met : MessageMet s line m (termsOf clock own (length out)) route report
+    (stationOf room (set lines (line % 8) x) q) out out′ route′) where
+  same-outcome : messageOutcome s line m (termsOf clock own (length out)) route
+      ≡ messageOutcome s line m (termsOf clock ownPong outputSize) route
   same-outcome = ap₂ (λ o k. messageOutcome s line m (termsOf clock o k) route) e f
 
-  pub message-answered : r ≡ handedOn lines line x (report .answer) (report .to)
-      → Answers (messageOutcome s line m terms route) r (stationOf room (r .lines) q)
+  pub message-answered : {r : Answered} → r ≡ handedOn lines line x (report .answer) (report .to)
+      → Answers (messageOutcome s line m (termsOf clock ownPong outputSize) route) r (stationOf room (r .lines) q)
   message-answered g =
       rw (g, ← same-outcome)
-      (record { answer = ap (λ (y : Report). y .answer) (met .report); to = ap (λ (y : Report). y .to) (met .report); state = met .state })
+      (record {
+        answer = ap (λ (y : Report). y .answer) (met .report);
+        to = ap (λ (y : Report). y .to) (met .report);
+        state = met .state;
+      })
 
-  pub message-route : route′ ≡ messageOutcome s line m terms route .route
+  pub message-route : route′ ≡ messageOutcome s line m (termsOf clock ownPong outputSize) route .route
   message-route = met .area ∙ ap (λ (o : Outcome). o .route) same-outcome
 
 -- ---- by the event's kind
 
 module _ (s : Station) (route e : List ℕ) (l : ℕ) (f : l ≡ lineOf e) {r : Answered} {after : Station} where
-  pub act-open : kindOf e ≡ 0 → Answers (opening s l) r after → Answers (outcomeBy s route e) r after × (route ≡ routeBy s route e)
+  pub act-open : kindOf e ≡ 0 → Answers (opening s l) r after
+      → Answers (outcomeBy s route e) r after × (route ≡ routeBy s route e)
   unfolding callOf
   act-open k g = (rw (eq-eqb (kindOf e) 0 k) (rw f at g), rw (eq-eqb (kindOf e) 0 k))
 
   module _ (h : kindOf e ≡ 0 → ⊥) where
-    pub act-close : kindOf e ≡ 1 → Answers (closing s l) r after → Answers (outcomeBy s route e) r after × (route ≡ routeBy s route e)
+    pub act-close : kindOf e ≡ 1 → Answers (closing s l) r after
+        → Answers (outcomeBy s route e) r after × (route ≡ routeBy s route e)
     unfolding callOf
     act-close k g = (
       rw (ne-eqb (kindOf e) 0 h, eq-eqb (kindOf e) 1 k) (rw f at g),

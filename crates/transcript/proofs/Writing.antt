@@ -145,11 +145,11 @@ module _ (file : List ℕ) (e : goodFile file ≡ true) where
       }
 
 -- the heading and the rows
-pub session-put : (file : List ℕ) (n : ℕ) (s : Station) (route out mid after : List ℕ) (at next : ℕ) → n ≡ countOf file → s ≡ fresh routeSize .state
-    → route ≡ replicate routeSize 0 → textRoom ≤ length out → Put 0 heading out mid at → Put at (rowsFrom file s route (countFrom 0 n)) mid after next
+pub session-put : (file : List ℕ) {n : ℕ} {s : Station} {route out mid after : List ℕ} {at next : ℕ} → n ≡ countOf file
+    → s ≡ fresh routeSize .state → route ≡ replicate routeSize 0 → textRoom ≤ length out → Put 0 heading out mid at → Put at (rowsFrom file s route (countFrom 0 n)) mid after next
     → Put 0 (heading ++ allRows file) out after next
 unfolding allRows
-session-put file n s route out mid after at next e f g room p q =
+session-put file {at = at} e f g room p q =
     let m : at ≡ 16 = p .moved in
     put-then p (rw (e, f, g) at q) (omega arith)
 

@@ -171,5 +171,18 @@ pub(crate) fn act(
         return close_event(lo, hi, asker, n, p, room, lines, line);
     }
     let clock = wire::little4(&event[2..]);
-    message_event(lo, hi, asker, count, next, room, lines, line, clock, &event[6..], area, route)
+    message_event(
+        lo,
+        hi,
+        asker,
+        count,
+        next,
+        room,
+        lines,
+        line,
+        clock,
+        &event[6..],
+        area,
+        route,
+    )
 }

@@ -45,7 +45,18 @@ fn put_rows(
     while i < n {
         let from = offset(file, i);
         let to = offset(file, i + 1);
-        let done = act(lo, hi, asker, count, next, room, lines, &file[from..to], area, route);
+        let done = act(
+            lo,
+            hi,
+            asker,
+            count,
+            next,
+            room,
+            lines,
+            &file[from..to],
+            area,
+            route,
+        );
         let sent = done.to;
         end = put_row(out, end, i as u16, done.answer, sent);
         lines = done.lines;
