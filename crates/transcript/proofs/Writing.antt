@@ -37,7 +37,8 @@ module _ (file : List ℕ) (i : ℕ) (e : goodEvent file i ≡ true) where
       (and-fst (leb (offsetOf file (i + 1)) (length file)) _ (and-snd (leb (offsetOf file i + 6) (offsetOf file (i + 1))) _ tests))
 
 -- the rows from event i on are still to be written
-pub record Rows (file : List ℕ) (n at : ℕ) (s₀ : Station) (route₀ before : List ℕ) (area route out : List ℕ) (s : Station) (next i : ℕ) : Type 0 where
+pub record Rows (file : List ℕ) (n at : ℕ) (s₀ : Station) (route₀ before : List ℕ) (area route out : List ℕ) (s : Station)
+    (next i : ℕ) : Type 0 where
   pub within : i ≤ n
   pub near : next ≤ at + 30 * i
   pub output : length area ≡ outputSize
@@ -69,7 +70,8 @@ module _ {file : List ℕ} {n at : ℕ} {s₀ : Station} {route₀ before : List
 
   module _ (h : i < n) {a : Answered} {t : Station} {after : List ℕ} (e : Answers (outcomeBy s route (eventAt file i)) a t)
       (f : after ≡ routeBy s route (eventAt file i)) where
-    rows-next : rowsFrom file s route (countFrom i (n - i)) ≡ rowText i (a .answer) (a .to) ++ rowsFrom file t after (countFrom (i + 1) (n - (i + 1)))
+    rows-next : rowsFrom file s route (countFrom i (n - i))
+        ≡ rowText i (a .answer) (a .to) ++ rowsFrom file t after (countFrom (i + 1) (n - (i + 1)))
     unfolding rowsFrom
     rows-next = rw (count-next i n h, e .answer, e .to, e .state, f)
 
@@ -88,7 +90,8 @@ module _ {file : List ℕ} {n at : ℕ} {s₀ : Station} {route₀ before : List
           output = u ∙ r .output;
           kept = k ∙ r .kept;
           good = and-snd (goodEvent file i) _ (both h);
-          rest = left-on (rowText i (a .answer) (a .to)) (rowsFrom file t after (countFrom (i + 1) (n - (i + 1)))) z p (omega arith);
+          rest = left-on (rowText i (a .answer) (a .to)) (rowsFrom file t after (countFrom (i + 1) (n - (i + 1)))) z p
+              (omega arith);
         }
 
   pub rows-end : n ≤ i → Put at (rowsFrom file s₀ route₀ (countFrom 0 n)) before out next
@@ -146,7 +149,8 @@ module _ (file : List ℕ) (e : goodFile file ≡ true) where
 
 -- the heading and the rows
 pub session-put : (file : List ℕ) {n : ℕ} {s : Station} {route out mid after : List ℕ} {at next : ℕ} → n ≡ countOf file
-    → s ≡ fresh routeSize .state → route ≡ replicate routeSize 0 → textRoom ≤ length out → Put 0 heading out mid at → Put at (rowsFrom file s route (countFrom 0 n)) mid after next
+    → s ≡ fresh routeSize .state → route ≡ replicate routeSize 0 → textRoom ≤ length out → Put 0 heading out mid at
+    → Put at (rowsFrom file s route (countFrom 0 n)) mid after next
     → Put 0 (heading ++ allRows file) out after next
 unfolding allRows
 session-put file {at = at} e f g room p q =

@@ -36,7 +36,9 @@ add-offset : tie.Need-add-offset Inv-loop μ-loop
 add-offset c = search needs
 
 offset-requires-2 : tie.Need-offset-requires-2 Inv-loop μ-loop
-offset-requires-2 c κs = omega (arith, c .before .before .before .before .before .before .before .pre .offsets, c .before .loop-test .taken)
+offset-requires-2 c κs =
+    let at-loop-test = c .before in
+    omega (arith, at-loop-test .before .before .before .before .before .before .pre .offsets, at-loop-test .loop-test .taken)
 
 sub-act : tie.Need-sub-act Inv-loop μ-loop
 sub-act c =
