@@ -16,7 +16,8 @@ use Rattle.laws.proofs.Words.{and-iff, or-iff, no-iff, eqb-iff, most-iff, refut
 use Rattle.laws.proofs.Refusals.{clash, and-fst, and-snd, and-intro, or-fst, or-snd, or-right}
 use Rattle.laws.proofs.Refusals.{or-rest, all-getD}
 use Rattle.laws.proofs.Ranks.{place-low, place-high}
-use Rattle.laws.proofs.Rings.{map-getD, places-length}
+use Rattle.laws.proofs.Rings.{map-getD}
+use Rattle.laws.proofs.RingScan.{places-length}
 use Rattle.tables.specs.declared.Table.{Table}
 use Rattle.tables.specs.Tables.{broken, running, ready, goodLength, insideRun, betweenRuns, withinLimits}
 use Rattle.tables.specs.Tables.{tableInOrder}

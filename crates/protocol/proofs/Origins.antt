@@ -14,7 +14,8 @@ use borrow.Author.Tests.{leb-true, eqb-true, eqb-false, ne-eqb}
 use Rattle.laws.specs.Tests.{all}
 use Rattle.laws.specs.Ring.{placesBefore, ringFits, keptPlaces}
 use Rattle.laws.proofs.Refusals.{clash, and-fst, and-snd, or-fst, or-snd, of-choice}
-use Rattle.laws.proofs.Rings.{map-take, places-length}
+use Rattle.laws.proofs.Rings.{map-take}
+use Rattle.laws.proofs.RingScan.{places-length}
 use Rattle.protocol.specs.State.{Station, remembered, lineAt}
 use Rattle.protocol.specs.Memory.{capacity, here, gone, Memory, Number, sameNumber, Query, queryAt, queriesIn}
 use Rattle.protocol.specs.Memory.{Found, Absent, At, later, pickFound, find, isFound, askerOf, noTwice, left}

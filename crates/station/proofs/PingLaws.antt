@@ -6,14 +6,14 @@ use mathlib.Core.Path.{_≡_, refl, sym, ap, ap₂, _∙_}
 use mathlib.Core.Bool.{Bool, true, false, cond}
 use mathlib.Core.List.{List, []}
 use lib.Dec.{eqb, leb}
-use lib.ListN.{length, take, drop}
+use lib.ListN.{length, take, drop, length-drop}
+use lib.Seq.{length-take-le}
 use borrow.Author.Tests.{le-leb, ltb-false}
 use Rattle.laws.specs.Parts.{over}
 use Rattle.laws.specs.Tests.{firstOf}
 use Rattle.laws.proofs.Refusals.{no-refusal}
 use Rattle.wire.specs.declared.Header.{Header}
 use Rattle.wire.specs.Header.{headerIn, sizeOf, hopsOf, payloadOf, numberOf}
-use Rattle.wire.proofs.HeaderLaws.{payload-length}
 use Rattle.protocol.specs.declared.Line.{Line}
 use Rattle.protocol.specs.declared.Own.{Own}
 use Rattle.protocol.specs.declared.Report.{Report}
@@ -93,11 +93,14 @@ module _ (x : Line) (h : Header) (clock : ℕ) (m area : List ℕ) (p : Whole h 
   unfolding pongStep
   pong-refused z ea = step-refused _ x area stored [] pong-number z ea .action
 
+  payload-long : length (payloadOf m) ≡ sizeOf m
+  payload-long = length-take-le (sizeOf m) (drop 23 m) (omega (arith, length-drop 23 m, p .whole))
+
   -- its payload has 14 bytes
   long : a ≡ 0 → 14 ≤ length (payloadOf m)
   long z =
       let r = no-refusal (pongRules h) refl (sym e ∙ z) in
-      omega (arith, ltb-false (h .size) 14 (r .0), ap (λ (h : Header). h .size) (p .header), payload-length m (p .whole))
+      omega (arith, ltb-false (h .size) 14 (r .0), ap (λ (h : Header). h .size) (p .header), payload-long)
 
   pub pong-done : (z : a ≡ 0) {bytes : List ℕ} {y : Line} {act : Action}
       → bytes ≡ pongFilled (take (23 + h .size - 23) (drop 23 m))
