@@ -1,35 +1,7 @@
 // A word that stands for bytes: text in which `_` is a space, `|` CR and LF, `^` a CR, `~` an LF, `>` a tab;
 // hexadecimal between two `\`; `*N*`, the byte before it N times in all; and `%`, the length in four bytes of what
 // follows it. The word `-` is no byte.
-ghost use lib.ListN.{length};
-ghost use Rattle.io.specs.Counts.{Counts};
 use crate::words;
-
-const TEXT: u8 = 0;
-
-const HEX: u8 = 1;
-
-// Inside `\ \`, behind the first digit of a byte.
-const HALF: u8 = 2;
-
-const TIMES: u8 = 3;
-
-// Where reading stands: what the next byte is read as, the number so far, the last byte put, the place for the next,
-// and the place behind the last length.
-struct Reading {
-    mode: u8,
-    number: u32,
-    last: u8,
-    at: usize,
-    body: usize,
-}
-
-fn digit(b: u8) -> u32 {
-    if b < 58 {
-        return (b % 16) as u32;
-    }
-    ((b % 16) as u32) + 9
-}
 
 // The place behind the byte once it is put, if the area has that place.
 pub(crate) fn put(area: &mut [u8], at: usize, b: u8) -> usize {
@@ -40,20 +12,82 @@ pub(crate) fn put(area: &mut [u8], at: usize, b: u8) -> usize {
     at
 }
 
-// A number's two low bytes, the lower first.
-pub(crate) fn put_number(area: &mut [u8], at: usize, n: usize) {
-    let next = put(&mut *area, at, (n % 256) as u8);
-    put(&mut *area, next, (n / 256 % 256) as u8);
-}
-
-fn put_all(area: &mut [u8], at: usize, b: u8, times: u32) -> usize {
+fn fill(area: &mut [u8], at: usize, b: u8, times: u32) -> usize {
     let mut next = at;
-    let mut i: u32 = 1;
+    let mut i: u32 = 0;
     while i < times {
         next = put(&mut *area, next, b);
         i += 1;
     }
     next
+}
+
+// A number as four bytes, the lowest first.
+pub(crate) fn put_number(area: &mut [u8], at: usize, n: usize) {
+    let mut next = at;
+    let mut rest = n;
+    let mut i: u32 = 0;
+    while i < 4 {
+        next = put(&mut *area, next, (rest % 256) as u8);
+        rest = rest / 256;
+        i += 1;
+    }
+}
+
+// What the bytes behind this one are: 0 for text, or the mark that they stand behind.
+fn mode_after(mode: u8, b: u8) -> u8 {
+    if mode == b {
+        return 0;
+    }
+    if mode != 0 {
+        return mode;
+    }
+    match b {
+        b'\\' => b,
+        b'*' => b,
+        _ => 0,
+    }
+}
+
+fn digit(b: u8) -> u32 {
+    if b < 58 {
+        return (b % 16) as u32;
+    }
+    ((b % 16) as u32) + 9
+}
+
+// The number so far: the decimal one behind `*`; behind `\`, 16 and the first digit of a byte, or 0 where none is open.
+fn number_after(mode: u8, number: u32, b: u8) -> u32 {
+    if mode == b'*' {
+        return (number % 100000) * 10 + digit(b) % 16;
+    }
+    if mode == 0 {
+        return 0;
+    }
+    if number == 0 {
+        return 16 + digit(b) % 16;
+    }
+    0
+}
+
+// How often the byte is put: once for a letter and for a second digit, and one time less than the number behind it.
+fn times(mode: u8, after: u8, number: u32) -> u32 {
+    if mode == after {
+        if mode == b'*' {
+            return 0;
+        }
+        if mode == 0 {
+            return 1;
+        }
+        return number / 16;
+    }
+    if mode != b'*' {
+        return 0;
+    }
+    if number == 0 {
+        return 0;
+    }
+    number - 1
 }
 
 // The byte that a letter of a text stands for.
@@ -62,176 +96,74 @@ fn letter(b: u8) -> u8 {
         b'_' => 32,
         b'^' => 13,
         b'~' => 10,
+        b'|' => 10,
         b'>' => 9,
         _ => b,
     }
 }
 
-// A mark that puts no byte.
-fn marked(r: Reading, mode: u8) -> Reading {
-    Reading {
-        mode,
-        number: 0,
-        last: r.last,
-        at: r.at,
-        body: r.body,
+// The last byte: a letter's, that of two digits, or the one before.
+fn byte(mode: u8, after: u8, number: u32, last: u8, b: u8) -> u8 {
+    if mode != after {
+        return last;
     }
-}
-
-fn put_letter(r: Reading, b: u8, area: &mut [u8]) -> Reading {
-    Reading {
-        mode: TEXT,
-        number: 0,
-        last: b,
-        at: put(area, r.at, b),
-        body: r.body,
-    }
-}
-
-// Four bytes for a length.
-fn put_length(r: Reading, area: &mut [u8]) -> Reading {
-    let at = put_all(area, r.at, 0, 5);
-    Reading {
-        mode: TEXT,
-        number: 0,
-        last: 0,
-        at,
-        body: at,
-    }
-}
-
-fn text(r: Reading, b: u8, area: &mut [u8]) -> Reading {
-    match b {
-        b'\\' => marked(r, HEX),
-        b'*' => marked(r, TIMES),
-        b'%' => put_length(r, area),
-        b'|' => put_letter(put_letter(r, 13, &mut *area), 10, &mut *area),
-        _ => put_letter(r, letter(b), area),
-    }
-}
-
-fn first_digit(r: Reading, b: u8) -> Reading {
-    if b == b'\\' {
-        return marked(r, TEXT);
-    }
-    Reading {
-        mode: HALF,
-        number: digit(b),
-        last: r.last,
-        at: r.at,
-        body: r.body,
-    }
-}
-
-fn second_digit(r: Reading, b: u8, area: &mut [u8]) -> Reading {
-    let last = (r.number % 16 * 16 + digit(b) % 16) as u8;
-    Reading {
-        mode: HEX,
-        number: 0,
-        last,
-        at: put(area, r.at, last),
-        body: r.body,
-    }
-}
-
-fn repeated(r: Reading, area: &mut [u8]) -> Reading {
-    Reading {
-        mode: TEXT,
-        number: 0,
-        last: r.last,
-        at: put_all(area, r.at, r.last, r.number),
-        body: r.body,
-    }
-}
-
-fn times(r: Reading, b: u8, area: &mut [u8]) -> Reading {
-    if b == b'*' {
-        return repeated(r, area);
-    }
-    Reading {
-        mode: TIMES,
-        number: (r.number % 100000) * 10 + digit(b) % 16,
-        last: r.last,
-        at: r.at,
-        body: r.body,
-    }
-}
-
-fn step(r: Reading, b: u8, area: &mut [u8]) -> Reading {
-    let mode = r.mode;
     match mode {
-        0 => text(r, b, area),
-        1 => first_digit(r, b),
-        2 => second_digit(r, b, area),
-        _ => times(r, b, area),
+        0 => letter(b),
+        b'\\' => (number % 16 * 16 + digit(b) % 16) as u8,
+        _ => last,
     }
 }
 
-// The last length, which is known now, and where the bytes end.
-fn finished(r: Reading, area: &mut [u8]) -> usize {
-    let at = r.at;
-    let body = r.body;
-    if body < 4 {
-        return at;
+// A CR comes before the LF that `|` puts.
+fn returns(mode: u8, b: u8) -> u32 {
+    if mode != 0 {
+        return 0;
     }
-    if body <= at {
-        put_number(area, body - 4, at - body);
+    if b == b'|' {
+        return 1;
     }
-    at
+    0
 }
 
-// The word's bytes in the area, from place `at` on; where they end.
-fn decoded(word: &[u8], area: &mut [u8], at: usize) -> usize {
-    let mut r = Reading {
-        mode: TEXT,
-        number: 0,
-        last: 0,
-        at,
-        body: 0,
-    };
+// The bytes of a word with no `%`, from place `at` of the area on; where they end.
+fn text(word: &[u8], area: &mut [u8], at: usize) -> usize {
+    let mut next = at;
+    let mut mode: u8 = 0;
+    let mut number: u32 = 0;
+    let mut last: u8 = 0;
     let mut i = 0;
     while i < word.len() {
-        r = step(r, word[i], &mut *area);
+        let b = word[i];
+        let after = mode_after(mode, b);
+        last = byte(mode, after, number, last, b);
+        next = fill(&mut *area, next, 13, returns(mode, b));
+        next = fill(&mut *area, next, last, times(mode, after, number));
+        number = number_after(mode, number, b);
+        mode = after;
         i += 1;
     }
-    finished(r, area)
+    next
 }
 
-fn is_none(word: &[u8]) -> bool {
-    if word.len() != 1 {
-        return false;
+// The same for what stands behind a `%`, and its length before it.
+fn sized(word: &[u8], area: &mut [u8], at: usize) -> usize {
+    let body = fill(&mut *area, at, 0, 4);
+    let end = text(word, &mut *area, body);
+    if body <= end {
+        put_number(area, at, end - body);
     }
-    word[0] == b'-'
+    end
 }
 
-fn word_bytes(word: &[u8], area: &mut [u8], at: usize) -> usize {
-    if is_none(word) {
+// The same for any word.
+pub(crate) fn bytes(word: &[u8], area: &mut [u8], at: usize) -> usize {
+    if words::same(word, b"-") {
         return at;
     }
-    decoded(word, area, at)
-}
-
-// The place, or the area's end where that comes first.
-pub(crate) fn within(at: usize, area: &[u8]) -> usize
-    ensures { λ r. ⌜ Counts r (now (area .entry)) ⌝ }
-{
-    if area.len() < at {
-        return area.len();
+    let cut = words::word_end(word, 0, b'%');
+    let end = text(words::part(word, 0, cut), &mut *area, at);
+    if cut == word.len() {
+        return end;
     }
-    at
-}
-
-// The bytes of a line's word in the area, from place `at` on; where they end.
-pub(crate) fn bytes_at(line: &[u8], n: usize, area: &mut [u8], at: usize) -> usize
-    ensures { λ r. ⌜ Counts r (now (area .exit)) ⌝ }
-{
-    let end = word_bytes(words::word(line, n), &mut *area, at);
-    within(end, area)
-}
-
-// The same from the area's first place on.
-pub(crate) fn bytes(line: &[u8], n: usize, area: &mut [u8]) -> usize
-    ensures { λ r. ⌜ Counts r (now (area .exit)) ⌝ }
-{
-    bytes_at(line, n, area, 0)
+    sized(words::part(word, cut + 1, word.len()), area, end)
 }

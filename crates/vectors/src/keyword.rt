@@ -1,31 +1,18 @@
-// `place BITS KEYWORD`, `keywords TEXT` and `casehash LABEL KEYWORD`
+// `place BITS KEYWORD`, `casehash LABEL KEYWORD` and `keywords TEXT`
 use crate::decode;
 use crate::print;
+use crate::rows;
 use crate::words;
 
-pub(crate) fn place(line: &[u8]) {
-    let bits = words::number(line, 1);
-    let mut area = [0u8; 256];
-    let n = decode::bytes(line, 2, &mut area);
-    print::start(line);
-    print::same(line, 2);
-    print::number(keywords::hash::place(&area[..n], bits) as u64);
-    print::end();
+pub(crate) fn place(row: &[u8], bits: u32, j: usize) {
+    let n = keywords::hash::place(rows::word(row, 0, j), bits);
+    print::number(n as u64);
 }
 
-// The place at 13 bits.
-pub(crate) fn case(line: &[u8]) {
-    let mut area = [0u8; 256];
-    let n = decode::bytes(line, 2, &mut area);
-    print::start_as(b"case", line);
-    print::number(keywords::hash::place(&area[..n], 13) as u64);
-    print::end();
-}
-
-// Goes from keyword to keyword; where `show` is set, writes where each starts, with commas.
-fn each(text: &[u8], show: bool) -> u64 {
+// Where each keyword of the text starts, as a byte of the area; how many there are.
+fn starts(text: &[u8], area: &mut [u8]) -> usize {
+    let mut count: usize = 0;
     let mut at: usize = 0;
-    let mut count: u64 = 0;
     while at < text.len() {
         let cut = keywords::cut::first_keyword(&text[at..]);
         let start = cut.start;
@@ -36,32 +23,14 @@ fn each(text: &[u8], show: bool) -> u64 {
         if text.len() - at < end {
             return count;
         }
-        if show {
-            print::between(0 < count);
-            io::print_decimal(1, (at + start) as u64);
-        }
-        if count < 1000 {
-            count += 1;
-        }
+        count = decode::put(&mut *area, count, ((at + start) % 256) as u8);
         at += end;
     }
     count
 }
 
-fn cuts(text: &[u8]) {
-    let count = each(text, false);
-    print::number(count);
-    if count == 0 {
-        print::word(b"");
-        return;
-    }
-    each(text, true);
-}
-
-pub(crate) fn keywords(line: &[u8]) {
-    let mut area = [0u8; 256];
-    let n = decode::bytes(line, 1, &mut area);
-    print::start(line);
-    cuts(&area[..n]);
-    print::end();
+pub(crate) fn cuts(row: &[u8], area: &mut [u8]) {
+    let n = starts(rows::word(row, 0, 0), &mut *area);
+    print::number(n as u64);
+    print::list(area, n);
 }
