@@ -62,6 +62,11 @@ fn changed(s: Station, kind: usize, line: u32) -> Changed {
     station::changes::close_line(s, line)
 }
 
+fn moved(w: Handled, kind: usize, line: u32) -> Handled {
+    let s = w.state;
+    outcome(changed(s, kind, line))
+}
+
 // The place `i` of the ring: the low half of a number whose high half is 0, and its asker; and the ring's count and
 // next place.
 fn kept(mut s: Station, i: usize, number: u64, who: u8, count: usize, next: usize) -> Station {
@@ -146,13 +151,21 @@ fn line_set(mut s: Station, row: &[u8], k: usize) -> Station {
     s
 }
 
-fn set(s: Station, kind: usize, row: &[u8], k: usize) -> Station {
+fn state(s: Station, kind: usize, row: &[u8], k: usize) -> Station {
     match kind {
         5 => kept_at(s, row, k),
         6 => line_set(s, row, k),
         7 => fill(s, rows::byte(row, k, 1)),
         _ => s,
     }
+}
+
+// The same outcome with another state.
+fn set(mut w: Handled, kind: usize, row: &[u8], k: usize) -> Handled {
+    let s = w.state;
+    let t = state(s, kind, row, k);
+    w.state = t;
+    w
 }
 
 fn own(calls: bool) -> Own {
@@ -166,16 +179,25 @@ fn own(calls: bool) -> Own {
 }
 
 fn message(
-    s: Station,
+    w: Handled,
     row: &[u8],
     k: usize,
-    own: Own,
+    calls: bool,
     out: &mut [u8],
     route: &mut [u8],
 ) -> Handled {
+    let s = w.state;
     let line = rows::number(row, k, 1);
     let clock = rows::number(row, k, 2);
-    station::calls::message(s, line, clock, own, rows::word(row, k, 3), out, route)
+    station::calls::message(
+        s,
+        line,
+        clock,
+        own(calls),
+        rows::word(row, k, 3),
+        out,
+        route,
+    )
 }
 
 fn number(bytes: &[u8]) -> [u8; 16] {
@@ -191,7 +213,8 @@ fn number(bytes: &[u8]) -> [u8; 16] {
     number
 }
 
-fn asked(s: Station, row: &[u8], k: usize, out: &mut [u8], route: &[u8]) -> Handled {
+fn asked(w: Handled, row: &[u8], k: usize, out: &mut [u8], route: &[u8]) -> Handled {
+    let s = w.state;
     let number = number(rows::word(row, k, 1));
     station::asking::ask(s, number, rows::word(row, k, 2), out, route)
 }
@@ -201,46 +224,42 @@ fn event(
     kind: usize,
     row: &[u8],
     k: usize,
-    own: Own,
+    calls: bool,
     out: &mut [u8],
     route: &mut [u8],
 ) -> Handled {
-    let s = w.state;
     match kind {
-        0 | 1 => outcome(changed(s, kind, rows::number(row, k, 1))),
-        2 => message(s, row, k, own, out, route),
-        3 => asked(s, row, k, out, route),
-        _ => with(w, set(s, kind, row, k)),
+        0 | 1 => moved(w, kind, rows::number(row, k, 1)),
+        2 => message(w, row, k, calls, out, route),
+        3 => asked(w, row, k, out, route),
+        _ => set(w, kind, row, k),
     }
-}
-
-// The same outcome with another state.
-fn with(mut w: Handled, state: Station) -> Handled {
-    w.state = state;
-    w
 }
 
 // The answer of an event, where it is a call and shown.
-fn show_answer(show: bool, kind: usize, some: bool, n: u8) -> bool {
+fn show_answer(show: bool, kind: usize, i: usize, n: u8) -> usize {
     if !show {
-        return some;
+        return i;
     }
     if 3 < kind {
-        return some;
+        return i;
     }
-    print::item(some, n as u64);
-    true
+    if i == 0 {
+        print::mark(b' ');
+    }
+    print::item(i, n, b',');
+    1
 }
 
 // The line's events, and what the last one did.
-fn run(row: &[u8], show: bool, own: Own, out: &mut [u8], route: &mut [u8]) -> Handled {
+fn run(row: &[u8], show: bool, calls: bool, out: &mut [u8], route: &mut [u8]) -> Handled {
     let count = rows::count(row);
     let mut w = outcome(station::changes::fresh_over(32));
-    let mut some = false;
+    let mut some: usize = 0;
     let mut k: usize = 0;
     while k < count {
         let kind = kind_of(row, k);
-        w = event(w, kind, row, k, own, &mut *out, &mut *route);
+        w = event(w, kind, row, k, calls, &mut *out, &mut *route);
         some = show_answer(show, kind, some, w.answer);
         k += width(kind);
     }
@@ -257,11 +276,10 @@ fn term(row: &[u8], j: usize, usual: usize) -> usize {
 }
 
 fn ran(row: &[u8], show: bool, out: &mut [u8], route: &mut [u8]) -> Handled {
-    let calls = term(row, 3, 1) != 0;
     run(
         row,
         show,
-        own(calls),
+        term(row, 3, 1) != 0,
         words::front(out, term(row, 1, 4119)),
         words::front(route, term(row, 2, 32)),
     )
@@ -302,23 +320,23 @@ fn area_words(kind: usize, mark: u8, route: &[u8], out: &[u8], written: usize) {
     }
     if kind == CASE {
         print::number(mark as u64);
-        print::list(words::part(route, 4, 8), 4);
+        print::list(words::part(route, 4, 8), 4, b',');
     }
-    print::hex(out, written);
+    print::list(out, written, 0);
 }
 
 // The mark of line 1's table.
-fn mark(state: Station) -> u8 {
-    let neighbour = state.lines[1];
+fn mark(w: Handled) -> u8 {
+    let s = w.state;
+    let neighbour = s.lines[1];
     let table = neighbour.table;
     table.mark
 }
 
-pub(crate) fn calls(kind: usize, row: &[u8], out: &mut [u8]) {
+pub(crate) fn values(kind: usize, row: &[u8], out: &mut [u8]) {
     let mut route = [0u8; 64];
     let w = ran(row, kind == CALLS, &mut *out, &mut route);
     let to = w.to;
-    let state = w.state;
     outcome_words(kind, w.answer, w.used, to, w.search, w.delivered);
-    area_words(kind, mark(state), &route, out, w.written);
+    area_words(kind, mark(w), &route, out, w.written);
 }

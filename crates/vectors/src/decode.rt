@@ -1,6 +1,7 @@
 // A word that stands for bytes: text in which `_` is a space, `|` CR and LF, `^` a CR, `~` an LF, `>` a tab;
 // hexadecimal between two `\`; `*N*`, the byte before it N times in all; and `%`, the length in four bytes of what
 // follows it. The word `-` is no byte.
+ghost use Prim.Native.Nat.{_<_};
 use crate::words;
 
 // The place behind the byte once it is put, if the area has that place.
@@ -34,89 +35,76 @@ pub(crate) fn put_number(area: &mut [u8], at: usize, n: usize) {
     }
 }
 
-// What the bytes behind this one are: 0 for text, or the mark that they stand behind.
-fn mode_after(mode: u8, b: u8) -> u8 {
-    if mode == b {
-        return 0;
-    }
-    if mode != 0 {
-        return mode;
-    }
-    match b {
-        b'\\' => b,
-        b'*' => b,
-        _ => 0,
-    }
-}
-
 fn digit(b: u8) -> u32 {
     if b < 58 {
         return (b % 16) as u32;
     }
-    ((b % 16) as u32) + 9
+    (b % 8) as u32 + 9
 }
 
-// The number so far: the decimal one behind `*`; behind `\`, 16 and the first digit of a byte, or 0 where none is open.
-fn number_after(mode: u8, number: u32, b: u8) -> u32 {
-    if mode == b'*' {
-        return (number % 100000) * 10 + digit(b) % 16;
+// Where reading stands behind this byte: 0 in text, 1 in hexadecimal, 2 and more behind the first digit of a byte, 32
+// and more behind a `*` and the digits that follow it.
+fn state_after(state: u32, b: u8) -> u32 {
+    if state == 0 {
+        return match b {
+            b'\\' => 1,
+            b'*' => 32,
+            _ => 0,
+        };
     }
-    if mode == 0 {
-        return 0;
-    }
-    if number == 0 {
-        return 16 + digit(b) % 16;
-    }
-    0
-}
-
-// How often the byte is put: once for a letter and for a second digit, and one time less than the number behind it.
-fn times(mode: u8, after: u8, number: u32) -> u32 {
-    if mode == after {
-        if mode == b'*' {
+    if 32 <= state {
+        if b == b'*' {
             return 0;
         }
-        if mode == 0 {
-            return 1;
-        }
-        return number / 16;
+        return 32 + (state - 32) % 100000 * 10 + digit(b) % 16;
     }
-    if mode != b'*' {
+    if b == b'\\' {
         return 0;
     }
-    if number == 0 {
-        return 0;
+    if state == 1 {
+        return 2 + digit(b) % 16;
     }
-    number - 1
+    1
 }
 
-// The byte that a letter of a text stands for.
-fn letter(b: u8) -> u8 {
+// What a letter of a text puts: a byte, and 256 for each time.
+fn letter(last: u32, b: u8) -> u32 {
     match b {
-        b'_' => 32,
-        b'^' => 13,
-        b'~' => 10,
-        b'|' => 10,
-        b'>' => 9,
-        _ => b,
+        b'_' => 256 + 32,
+        b'^' => 256 + 13,
+        b'~' | b'|' => 256 + 10,
+        b'>' => 256 + 9,
+        b'%' => 4 * 256,
+        b'\\' | b'*' => last,
+        _ => 256 + (b as u32),
     }
 }
 
-// The last byte: a letter's, that of two digits, or the one before.
-fn byte(mode: u8, after: u8, number: u32, last: u8, b: u8) -> u8 {
-    if mode != after {
+// What a byte of the word puts, after the last byte put.
+fn puts(state: u32, last: u32, b: u8) -> u32
+    requires { ⌜ last < 256 ⌝ }
+{
+    if state == 0 {
+        return letter(last, b);
+    }
+    if 32 < state {
+        if b == b'*' {
+            return (state - 33) % 1048576 * 256 + last;
+        }
         return last;
     }
-    match mode {
-        0 => letter(b),
-        b'\\' => (number % 16 * 16 + digit(b) % 16) as u8,
-        _ => last,
+    if state == 32 {
+        return last;
     }
+    if state == 1 {
+        return last;
+    }
+    256 + (state - 2) % 16 * 16 + digit(b) % 16
 }
 
 // A CR comes before the LF that `|` puts.
-fn returns(mode: u8, b: u8) -> u32 {
-    if mode != 0 {
+fn returns(state: u32, b: u8) -> u32 {
+    if state != 0 {
         return 0;
     }
     if b == b'|' {
@@ -125,45 +113,48 @@ fn returns(mode: u8, b: u8) -> u32 {
     0
 }
 
-// The bytes of a word with no `%`, from place `at` of the area on; where they end.
+// Where the bytes begin whose length a `%` stands for.
+fn body_after(b: u8, next: usize, body: usize) -> usize {
+    if b == b'%' {
+        return next;
+    }
+    body
+}
+
+// The length of the bytes from `body` on, in the four before them.
+fn put_length(area: &mut [u8], body: usize, end: usize) {
+    if body < 4 {
+        return;
+    }
+    if body <= end {
+        put_number(area, body - 4, end - body);
+    }
+}
+
+// The bytes of a word, from place `at` of the area on; where they end.
 fn text(word: &[u8], area: &mut [u8], at: usize) -> usize {
     let mut next = at;
-    let mut mode: u8 = 0;
-    let mut number: u32 = 0;
-    let mut last: u8 = 0;
+    let mut body: usize = 0;
+    let mut state: u32 = 0;
+    let mut last: u32 = 0;
     let mut i = 0;
     while i < word.len() {
         let b = word[i];
-        let after = mode_after(mode, b);
-        last = byte(mode, after, number, last, b);
-        next = fill(&mut *area, next, 13, returns(mode, b));
-        next = fill(&mut *area, next, last, times(mode, after, number));
-        number = number_after(mode, number, b);
-        mode = after;
+        next = fill(&mut *area, next, 13, returns(state, b));
+        let put = puts(state, last, b);
+        last = put % 256;
+        next = fill(&mut *area, next, last as u8, put / 256);
+        body = body_after(b, next, body);
+        state = state_after(state, b);
         i += 1;
     }
+    put_length(area, body, next);
     next
 }
 
-// The same for what stands behind a `%`, and its length before it.
-fn sized(word: &[u8], area: &mut [u8], at: usize) -> usize {
-    let body = fill(&mut *area, at, 0, 4);
-    let end = text(word, &mut *area, body);
-    if body <= end {
-        put_number(area, at, end - body);
-    }
-    end
-}
-
-// The same for any word.
 pub(crate) fn bytes(word: &[u8], area: &mut [u8], at: usize) -> usize {
     if words::same(word, b"-") {
         return at;
     }
-    let cut = words::word_end(word, 0, b'%');
-    let end = text(words::part(word, 0, cut), &mut *area, at);
-    if cut == word.len() {
-        return end;
-    }
-    sized(words::part(word, cut + 1, word.len()), area, end)
+    text(word, area, at)
 }

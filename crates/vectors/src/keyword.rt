@@ -1,36 +1,52 @@
 // `place BITS KEYWORD`, `casehash LABEL KEYWORD` and `keywords TEXT`
-use crate::decode;
 use crate::print;
 use crate::rows;
 use crate::words;
+use keywords::cut::Cut;
 
-pub(crate) fn place(row: &[u8], bits: u32, j: usize) {
-    let n = keywords::hash::place(rows::word(row, 0, j), bits);
+pub(crate) fn place(keyword: &[u8], bits: u32) {
+    let n = keywords::hash::place(keyword, bits);
     print::number(n as u64);
+}
+
+// The first keyword from a place on.
+fn next(text: &[u8], at: usize) -> Cut {
+    let cut = keywords::cut::first_keyword(words::part(text, at, text.len()));
+    Cut {
+        start: at % 4096 + cut.start % 4096,
+        end: at % 4096 + cut.end % 4096,
+    }
 }
 
 // Where each keyword of the text starts, as a byte of the area; how many there are.
 fn starts(text: &[u8], area: &mut [u8]) -> usize {
     let mut count: usize = 0;
     let mut at: usize = 0;
-    while at < text.len() {
-        let cut = keywords::cut::first_keyword(&text[at..]);
-        let start = cut.start;
-        let end = cut.end;
-        if end <= start {
-            return count;
-        }
-        if text.len() - at < end {
-            return count;
-        }
-        count = decode::put(&mut *area, count, ((at + start) % 256) as u8);
-        at += end;
+    let mut i: usize = 0;
+    while i < 256 {
+        let cut = next(text, at);
+        count = print::noted(
+            cut.start < cut.end,
+            &mut *area,
+            count,
+            (cut.start % 256) as u8,
+        );
+        at = cut.end;
+        i += 1;
     }
     count
 }
 
-pub(crate) fn cuts(row: &[u8], area: &mut [u8]) {
+fn cuts(row: &[u8], area: &mut [u8]) {
     let n = starts(rows::word(row, 0, 0), &mut *area);
     print::number(n as u64);
-    print::list(area, n);
+    print::list(area, n, b',');
+}
+
+pub(crate) fn values(kind: usize, row: &[u8], out: &mut [u8]) {
+    match kind {
+        0 => place(rows::word(row, 0, 1), rows::number(row, 0, 0)),
+        1 => cuts(row, out),
+        _ => place(rows::word(row, 0, 0), 13),
+    }
 }

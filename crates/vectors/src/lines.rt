@@ -10,53 +10,35 @@ use crate::sessions;
 use crate::updates;
 use crate::words;
 
-// Where the line's first words end, at least one of them and at most four.
-fn ends(line: &[u8], n: u8) -> usize {
-    let a = words::word_end(line, 0, b' ');
-    if n < 2 {
-        return a;
-    }
-    let b = after(line, a);
-    if n < 3 {
-        return b;
-    }
-    let c = after(line, b);
-    if n < 4 {
-        return c;
-    }
-    after(line, c)
-}
-
-// Where the word behind a space at this place ends.
-fn after(line: &[u8], at: usize) -> usize {
+// Where the word behind the space at this place ends.
+pub(crate) fn after(line: &[u8], at: usize) -> usize {
     if at < line.len() {
         return words::word_end(line, at + 1, b' ');
     }
     line.len()
 }
 
-// How many of the line's first words a row begins with.
-fn shown(kind: usize) -> u8 {
+// Where the words end that a row begins with: two, three or four.
+fn shown(kind: usize, two: usize, three: usize, four: usize) -> usize {
     match kind {
-        0 | 7 => 3,
-        3 | 5 => 4,
-        _ => 2,
+        0 | 7 => three,
+        3 | 5 => four,
+        _ => two,
     }
 }
 
-// How many of them are not part of the row's values.
-fn skipped(kind: usize) -> u8 {
+// Where the words end that stand before the values: one, two or four.
+fn skipped(kind: usize, one: usize, two: usize, four: usize) -> usize {
     match kind {
-        0 | 1 => 1,
-        5 => 4,
-        _ => 2,
+        0 | 1 => one,
+        5 => four,
+        _ => two,
     }
 }
 
-// What a row begins with: its kind, which is `case` for `casehash` and `session` for `file`, its label, and the words
-// that are shown again.
-pub(crate) fn head(kind: usize, line: &[u8]) {
-    let a = ends(line, 1);
+// What a row begins with: its kind, which is `case` for `casehash` and `session` for `file`, its label, and words that
+// are shown again.
+fn head(kind: usize, line: &[u8], one: usize, end: usize) {
     match kind {
         11 => {
             io::write_all(1, b"case");
@@ -65,18 +47,44 @@ pub(crate) fn head(kind: usize, line: &[u8]) {
             io::write_all(1, b"session");
         }
         _ => {
-            io::write_all(1, words::part(line, 0, a));
+            io::write_all(1, words::part(line, 0, one));
         }
     }
-    io::write_all(1, words::part(line, a, ends(line, shown(kind))));
+    io::write_all(1, words::part(line, one, end));
+}
+
+fn values(kind: usize, label: &[u8], row: &[u8], out: &mut [u8]) {
+    match kind {
+        0 | 1 | 11 => keyword::values(kind, row, out),
+        2 | 3 | 4 | 5 => updates::values(kind, row, out),
+        6 | 7 | 8 | 9 => pairs::values(kind, row, out),
+        12 | 13 => sessions::values(kind, label, row, out),
+        _ => calls::values(kind, row, out),
+    }
+}
+
+fn row(kind: usize, line: &[u8], one: usize, area: &mut [u8], out: &mut [u8]) {
+    let two = after(line, one);
+    let three = after(line, two);
+    let four = after(line, three);
+    head(kind, line, one, shown(kind, two, three, four));
+    let text = words::part(line, skipped(kind, one, two, four), line.len());
+    let n = rows::read(text, &mut *area);
+    values(
+        kind,
+        words::part(line, one, two),
+        words::part(area, 0, n),
+        out,
+    );
+    print::mark(b'\n');
 }
 
 // A line of no kind is shown, unless it is empty or begins with `#`.
 fn unread(line: &[u8]) {
-    if line.len() == 0 {
+    if words::same(words::part(line, 0, 1), b"#") {
         return;
     }
-    if line[0] == b'#' {
+    if line.len() == 0 {
         return;
     }
     io::write_all(1, b"unread ");
@@ -84,52 +92,20 @@ fn unread(line: &[u8]) {
     print::mark(b'\n');
 }
 
-fn later(kind: usize, line: &[u8], row: &[u8], out: &mut [u8]) {
-    match kind {
-        9 => pairs::written(row, out),
-        11 => keyword::place(row, 13, 0),
-        12 => sessions::session(kind, line, row, out),
-        13 => sessions::session(kind, line, rows::word(row, 0, 0), out),
-        _ => calls::calls(kind, row, out),
-    }
-}
-
-fn values(kind: usize, line: &[u8], row: &[u8], out: &mut [u8]) {
-    match kind {
-        0 => keyword::place(row, rows::number(row, 0, 0), 1),
-        1 => keyword::cuts(row, out),
-        2 => updates::update(row),
-        3 => updates::withheld(row),
-        4 => updates::table(row, out),
-        5 => updates::run(row, out),
-        6 => pairs::group(row),
-        7 => pairs::field(row, out),
-        8 => pairs::try_hosts(row),
-        _ => later(kind, line, row, out),
-    }
-}
-
-fn kind_of(line: &[u8]) -> usize {
+fn kind_of(name: &[u8]) -> usize {
     words::index(
         b"place keywords update withheld table run group field try written case casehash session file calls order",
-        words::part(line, 0, ends(line, 1)),
+        name,
     )
 }
 
-fn row(kind: usize, line: &[u8], area: &mut [u8], out: &mut [u8]) {
-    head(kind, line);
-    let text = words::part(line, ends(line, skipped(kind)), line.len());
-    let n = rows::read(text, &mut *area);
-    values(kind, line, words::part(area, 0, n), out);
-    print::mark(b'\n');
-}
-
 fn one(line: &[u8], area: &mut [u8], out: &mut [u8]) {
-    let kind = kind_of(line);
-    if 15 < kind {
-        unread(line);
+    let end = words::word_end(line, 0, b' ');
+    let kind = kind_of(words::part(line, 0, end));
+    if kind < 16 {
+        row(kind, line, end, area, out);
     } else {
-        row(kind, line, area, out);
+        unread(line);
     }
 }
 
@@ -137,7 +113,7 @@ pub(crate) fn all(input: &[u8], area: &mut [u8], out: &mut [u8]) {
     let mut at = 0;
     while at < input.len() {
         let end = words::word_end(input, at, b'\n');
-        one(&input[at..end], &mut *area, &mut *out);
+        one(words::part(input, at, end), &mut *area, &mut *out);
         at = end + 1;
     }
 }

@@ -10,10 +10,20 @@ mod sessions;
 mod updates;
 mod words;
 
+ghost use mathlib.Core.Path.{_≡_};
+ghost use lib.ListN.{length};
+
+// Room for the input, for the bytes of a row, and for what is written, which is a session's text at the longest.
+fn room() -> [u8; 98304]
+    ensures { λ r. ⌜ 98304 ≡ length r ⌝ }
+{
+    [0; 98304]
+}
+
 fn main() {
-    let mut input = [0u8; 131072];
+    let mut input = room();
+    let mut area = room();
+    let mut out = room();
     let size = io::read_full(0, &mut input);
-    let mut area = [0u8; 131072];
-    let mut out = [0u8; 98304];
     lines::all(&input[..size], &mut area, &mut out);
 }

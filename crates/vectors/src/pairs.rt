@@ -18,7 +18,7 @@ fn group_words(g: Group) {
     print::number(g.code as u64);
 }
 
-pub(crate) fn group(row: &[u8]) {
+fn group(row: &[u8]) {
     group_words(handshake::read_group(rows::word(row, 0, 0)));
 }
 
@@ -30,15 +30,17 @@ fn asked(row: &[u8], out: &mut [u8]) -> Asked {
     )
 }
 
-pub(crate) fn field(row: &[u8], out: &mut [u8]) {
+fn field(row: &[u8], out: &mut [u8]) {
     let r = asked(row, &mut *out);
     print::answer(r.answer, r.used);
-    print::hex(out, r.written);
+    print::list(out, r.written, 0);
 }
 
 fn pair_words(p: Pair, i: usize) {
     let address = p.address;
-    print::between(i, b',');
+    if 0 < i {
+        print::mark(b',');
+    }
     print::joined(&address, b'.');
     print::mark(b':');
     io::print_decimal(1, p.port as u64);
@@ -57,7 +59,7 @@ fn pairs_words(found: Pairs) {
     }
 }
 
-pub(crate) fn try_hosts(row: &[u8]) {
+fn try_hosts(row: &[u8]) {
     let r = tryhosts::group::try_pairs(rows::word(row, 0, 0));
     print::answer(r.answer, r.used);
     let found = r.pairs;
@@ -98,10 +100,19 @@ fn wrote(what: usize, pairs: Pairs, out: &mut [u8]) -> Wrote {
     }
 }
 
-pub(crate) fn written(row: &[u8], out: &mut [u8]) {
+fn written(row: &[u8], out: &mut [u8]) {
     let what = words::index(b"greeting ok", rows::word(row, 0, 0));
     let pairs = pairs_of(rows::word(row, 0, 2));
     let r = wrote(what, pairs, words::front(&mut *out, rows::size(row, 0, 1)));
     print::number(r.answer as u64);
-    print::hex(out, r.written);
+    print::list(out, r.written, 0);
+}
+
+pub(crate) fn values(kind: usize, row: &[u8], out: &mut [u8]) {
+    match kind {
+        6 => group(row),
+        7 => field(row, out),
+        8 => try_hosts(row),
+        _ => written(row, out),
+    }
 }

@@ -1,4 +1,5 @@
 // Words, numbers and lists of a row, on standard output, each with a space before it.
+use crate::decode;
 use crate::words;
 
 pub(crate) fn mark(b: u8) {
@@ -33,69 +34,48 @@ pub(crate) fn start(size: usize) {
     }
 }
 
-// What stands before an item of a list.
-pub(crate) fn between(i: usize, separator: u8) {
+// A byte of a list: two digits with nothing between, or a number behind a separator.
+pub(crate) fn item(i: usize, b: u8, separator: u8) {
+    if separator == 0 {
+        io::print_hex(1, b as u64, 2);
+        return;
+    }
     if 0 < i {
         mark(separator);
     }
+    io::print_decimal(1, b as u64);
 }
 
-fn wide(b: u8) -> u64 {
-    b as u64
-}
-
-// The bytes as numbers, with a separator.
 pub(crate) fn joined(bytes: &[u8], separator: u8) {
     let mut i = 0;
     while i < bytes.len() {
-        between(i, separator);
-        io::print_decimal(1, wide(bytes[i]));
+        item(i, bytes[i], separator);
         i += 1;
     }
 }
 
-// The first n bytes as numbers, with commas.
-pub(crate) fn list(bytes: &[u8], n: usize) {
+// The first n bytes, in hexadecimal where the separator is 0.
+pub(crate) fn list(bytes: &[u8], n: usize, separator: u8) {
     start(n);
-    joined(words::part(bytes, 0, n), b',');
+    joined(words::part(bytes, 0, n), separator);
 }
 
-fn digits(bytes: &[u8]) {
-    let mut i = 0;
-    while i < bytes.len() {
-        io::print_hex(1, wide(bytes[i]), 2);
-        i += 1;
-    }
-}
-
-// The first n bytes in hexadecimal.
-pub(crate) fn hex(bytes: &[u8], n: usize) {
-    start(n);
-    digits(words::part(bytes, 0, n));
-}
-
-// A number of a list, behind others or as the first.
-pub(crate) fn item(some: bool, n: u64) {
+// One byte more in the area, or none.
+pub(crate) fn noted(some: bool, area: &mut [u8], at: usize, b: u8) -> usize {
     if some {
-        mark(b',');
-    } else {
-        mark(b' ');
+        return decode::put(area, at, b);
     }
-    io::print_decimal(1, n);
+    at
 }
 
 // The numbers of the flags that are set.
 pub(crate) fn flags(set: [bool; 8]) {
-    let mut some = false;
+    let mut places = [0u8; 8];
+    let mut n: usize = 0;
     let mut k: usize = 0;
     while k < 8 {
-        if set[k] {
-            item(some, k as u64);
-            some = true;
-        }
+        n = noted(set[k], &mut places, n, k as u8);
         k += 1;
     }
-    if !some {
-        start(0);
-    }
+    list(&places, n, b',');
 }

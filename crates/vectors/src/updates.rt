@@ -52,16 +52,16 @@ fn table_words(t: Table) {
     print::number(t.at as u64);
 }
 
-pub(crate) fn update(row: &[u8]) {
+fn update(row: &[u8]) {
     let mut part = [7u8; 8];
     let u = updated(row, rows::byte(row, 0, 0), rows::byte(row, 0, 1), &mut part);
     print::number(u.answer as u64);
     let table = u.table;
     table_words(table);
-    print::list(&part, 8);
+    print::list(&part, 8, b',');
 }
 
-pub(crate) fn withheld(row: &[u8]) {
+fn withheld(row: &[u8]) {
     let mut part = [7u8; 8];
     let u = updated(row, 1, 0, &mut part);
     let table = u.table;
@@ -87,13 +87,18 @@ fn written(row: &[u8], out: &mut [u8]) -> Written {
     )
 }
 
-pub(crate) fn run(row: &[u8], out: &mut [u8]) {
-    let r = written(row, out);
-    print::answer(r.answer, r.written);
-}
-
-pub(crate) fn table(row: &[u8], out: &mut [u8]) {
+fn table(kind: usize, row: &[u8], out: &mut [u8]) {
     let r = written(row, &mut *out);
     print::answer(r.answer, r.written);
-    print::hex(out, r.written);
+    if kind == 4 {
+        print::list(out, r.written, 0);
+    }
+}
+
+pub(crate) fn values(kind: usize, row: &[u8], out: &mut [u8]) {
+    match kind {
+        2 => update(row),
+        3 => withheld(row),
+        _ => table(kind, row, out),
+    }
 }

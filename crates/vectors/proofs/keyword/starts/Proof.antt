@@ -1,4 +1,4 @@
--- The place stays within the text, and the area keeps its length.
+-- 256 turns.
 use Prim.Native.Nat.{_-_, _≤_}
 use mathlib.Core.Path.{_≡_}
 use lib.ListN.{length}
@@ -7,10 +7,10 @@ use Rattle.vectors.proofs.keyword.starts.Statement.{statement}
 use Rattle.vectors.proofs.keyword.starts.Tie as tie
 
 abbrev Inv-loop : tie.InvT-loop
-Inv-loop text area₀ count₀ at₀ area count at = (length area ≡ length area₀) × (at ≤ length text)
+Inv-loop text area₀ count₀ at₀ i₀ area count at i = (length area ≡ length area₀) × (i ≤ 256)
 
 abbrev μ-loop : tie.MeasureT-loop
-μ-loop text area₀ count₀ at₀ area count at = length text - at
+μ-loop text area₀ count₀ at₀ i₀ area count at i = 256 - i
 
 pub starts-spec : {M : Type 1} → statement M
 starts-spec =
@@ -19,16 +19,7 @@ starts-spec =
     Inv-loop
     μ-loop
     (λ c. search needs)
-    (λ c. search needs)
-    (λ c. search needs)
-    (λ c. search needs)
     (λ c κs. search needs)
-    (λ c. search needs)
-    (λ c. search needs)
-    (λ c. search needs)
-    (λ c. search needs)
-    (λ c. search needs)
-    (λ c. search needs)
     (λ c. search needs)
     (λ c κs. search needs)
     (λ c. search needs)

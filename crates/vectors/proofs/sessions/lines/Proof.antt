@@ -2,17 +2,17 @@
 use Prim.Native.Nat.{_-_, _≤_, _+_}
 use lib.ListN.{length}
 use borrow.Author.Needs.{needs}
-use Rattle.vectors.proofs.sessions.rows.Statement.{statement}
-use Rattle.vectors.proofs.sessions.rows.Tie as tie
+use Rattle.vectors.proofs.sessions.lines.Statement.{statement}
+use Rattle.vectors.proofs.sessions.lines.Tie as tie
 
 abbrev Inv-loop : tie.InvT-loop
-Inv-loop kind line text at₀ at = at ≤ length text + 1
+Inv-loop label text at₀ at = at ≤ length text + 1
 
 abbrev μ-loop : tie.MeasureT-loop
-μ-loop kind line text at₀ at = (length text + 1) - at
+μ-loop label text at₀ at = (length text + 1) - at
 
-pub rows-spec : {M : Type 1} → statement M
-rows-spec =
+pub lines-spec : {M : Type 1} → statement M
+lines-spec =
     tie.close
     (tie.spec
     Inv-loop
@@ -20,9 +20,7 @@ rows-spec =
     (λ c. search needs)
     (λ c κs. search needs)
     (λ c κs. search needs)
-    (λ c. search needs)
-    (λ c. search needs)
-    (λ c. search needs)
+    (λ c κs. search needs)
     (λ c κs. search needs)
     (λ c. search needs)
     (λ c. search needs)
