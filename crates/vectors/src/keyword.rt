@@ -37,16 +37,17 @@ fn starts(text: &[u8], area: &mut [u8]) -> usize {
     count
 }
 
-fn cuts(row: &[u8], area: &mut [u8]) {
-    let n = starts(rows::word(row, 0, 0), &mut *area);
+fn cuts(text: &[u8]) {
+    let mut area = [0u8; 256];
+    let n = starts(text, &mut area);
     print::number(n as u64);
-    print::list(area, n, b',');
+    print::list(&area, n, b',');
 }
 
-pub(crate) fn values(kind: usize, row: &[u8], out: &mut [u8]) {
+pub(crate) fn values(kind: usize, row: &[u8]) {
     match kind {
         0 => place(rows::word(row, 0, 1), rows::number(row, 0, 0)),
-        1 => cuts(row, out),
+        1 => cuts(rows::word(row, 0, 0)),
         _ => place(rows::word(row, 0, 0), 13),
     }
 }

@@ -1,5 +1,5 @@
 // A row for each line of the input: its first word says which kind.
-ghost use Prim.Native.Nat.{_≤_};
+ghost use mathlib.Core.Path.{_≡_};
 ghost use lib.ListN.{length};
 use crate::calls;
 use crate::keyword;
@@ -10,8 +10,15 @@ use crate::sessions;
 use crate::updates;
 use crate::words;
 
+// Room for the input, for the bytes of a row, and for what is written, which is a session's text at the longest.
+pub(crate) fn room() -> [u8; 98304]
+    ensures { λ r. ⌜ 98304 ≡ length r ⌝ }
+{
+    [0; 98304]
+}
+
 // Where the word behind the space at this place ends.
-pub(crate) fn after(line: &[u8], at: usize) -> usize {
+fn after(line: &[u8], at: usize) -> usize {
     if at < line.len() {
         return words::word_end(line, at + 1, b' ');
     }
@@ -55,7 +62,7 @@ fn head(kind: usize, line: &[u8], one: usize, end: usize) {
 
 fn values(kind: usize, label: &[u8], row: &[u8], out: &mut [u8]) {
     match kind {
-        0 | 1 | 11 => keyword::values(kind, row, out),
+        0 | 1 | 11 => keyword::values(kind, row),
         2 | 3 | 4 | 5 => updates::values(kind, row, out),
         6 | 7 | 8 | 9 => pairs::values(kind, row, out),
         12 | 13 => sessions::values(kind, label, row, out),
@@ -63,19 +70,20 @@ fn values(kind: usize, label: &[u8], row: &[u8], out: &mut [u8]) {
     }
 }
 
-fn row(kind: usize, line: &[u8], one: usize, area: &mut [u8], out: &mut [u8]) {
+fn read(kind: usize, label: &[u8], text: &[u8]) {
+    let mut area = room();
+    let n = rows::read(text, &mut area);
+    let mut out = room();
+    values(kind, label, words::part(&area, 0, n), &mut out);
+}
+
+fn row(kind: usize, line: &[u8], one: usize) {
     let two = after(line, one);
     let three = after(line, two);
     let four = after(line, three);
     head(kind, line, one, shown(kind, two, three, four));
     let text = words::part(line, skipped(kind, one, two, four), line.len());
-    let n = rows::read(text, &mut *area);
-    values(
-        kind,
-        words::part(line, one, two),
-        words::part(area, 0, n),
-        out,
-    );
+    read(kind, words::part(line, one, two), text);
     print::mark(b'\n');
 }
 
@@ -99,21 +107,21 @@ fn kind_of(name: &[u8]) -> usize {
     )
 }
 
-fn one(line: &[u8], area: &mut [u8], out: &mut [u8]) {
+fn one(line: &[u8]) {
     let end = words::word_end(line, 0, b' ');
     let kind = kind_of(words::part(line, 0, end));
     if kind < 16 {
-        row(kind, line, end, area, out);
+        row(kind, line, end);
     } else {
         unread(line);
     }
 }
 
-pub(crate) fn all(input: &[u8], area: &mut [u8], out: &mut [u8]) {
+pub(crate) fn all(input: &[u8]) {
     let mut at = 0;
     while at < input.len() {
         let end = words::word_end(input, at, b'\n');
-        one(words::part(input, at, end), &mut *area, &mut *out);
+        one(words::part(input, at, end));
         at = end + 1;
     }
 }

@@ -1,16 +1,15 @@
 -- The place stays within the input.
 use Prim.Native.Nat.{_-_, _≤_, _+_}
-use mathlib.Core.Path.{_≡_}
 use lib.ListN.{length}
 use borrow.Author.Needs.{needs}
 use Rattle.vectors.proofs.lines.all.Statement.{statement}
 use Rattle.vectors.proofs.lines.all.Tie as tie
 
 abbrev Inv-loop : tie.InvT-loop
-Inv-loop input area₀ out₀ at₀ area out at = (length area ≡ length area₀) × (length out ≡ length out₀) × (at ≤ length input + 1)
+Inv-loop input at₀ at = at ≤ length input + 1
 
 abbrev μ-loop : tie.MeasureT-loop
-μ-loop input area₀ out₀ at₀ area out at = (length input + 1) - at
+μ-loop input at₀ at = (length input + 1) - at
 
 pub all-spec : {M : Type 1} → statement M
 all-spec =
@@ -22,8 +21,6 @@ all-spec =
     (λ c κs. search needs)
     (λ c κs. search needs)
     (λ c κs. search needs)
-    (λ c. search needs)
-    (λ c. search needs)
     (λ c. search needs)
     (λ c. search needs)
     (λ c. search needs)
