@@ -1,13 +1,15 @@
 /* The proved core of a Gnutella 0.6 station, for C11 and C++11 on x86-64.
  *
- * Link target/staticlib/liblunozhar.a, which `rt staticlib lunozhar` proves and writes. Nothing here allocates, starts a thread, keeps a
- * pointer or has a state of its own: everything is in the structs and areas that the caller lends for the length of a call.
+ * Link target/staticlib/liblunozhar.a, which `rt staticlib lunozhar` proves and writes. Nothing here allocates,
+ * starts a thread, keeps a pointer or has a state of its own: everything is in the structs and areas that the
+ * caller lends for the length of a call.
  *
- * Every function takes any values and any bytes, and answers. What it asks of a caller is C's own: a pointer is not null, even where its
- * length is 0, and points to as much as its length or type says; a bool is 0 or 1; what one call is lent to write overlaps nothing else of it.
+ * Every function takes any values and any bytes, and answers. What it asks of a caller is C's own: a pointer is
+ * not null, even where its length is 0, and points to as much as its length or type says; a bool is 0 or 1; what
+ * one call is lent to write overlaps nothing else of it.
  *
- * A refusal (an answer other than LUNOZHAR_DONE) sends to no line and changes no struct and no area, but for two cases that are said at
- * lunozhar_fresh and lunozhar_message. */
+ * A refusal (an answer other than LUNOZHAR_DONE) sends to no line and changes no struct and no area, but for two
+ * cases that are said at lunozhar_fresh and lunozhar_message. */
 #ifndef LUNOZHAR_H
 #define LUNOZHAR_H
 
@@ -15,12 +17,14 @@
 #include <stdbool.h>
 #include <stddef.h>
 #include <stdint.h>
+#include <string.h>
 
 #ifdef __cplusplus
 extern "C" {
 #endif
 
-/* How many: lines of a station, queries it remembers, pongs it keeps of a line, hosts of an X-Try field, answer numbers. */
+/* How many: lines of a station, queries it remembers, pongs it keeps of a line, hosts of an X-Try field, answer
+ * numbers. */
 #define LUNOZHAR_LINES 8
 #define LUNOZHAR_MEMORY 512
 #define LUNOZHAR_PONGS 10
@@ -30,7 +34,8 @@ extern "C" {
 /* The shortest output area of a message or an own query: a header of 23 bytes and a payload of 4,096. */
 #define LUNOZHAR_OUTPUT 4119
 
-/* The shortest route area. A neighbour's table has room for route_len / 8 entries; the longest that a neighbour can send has 65,536. */
+/* The shortest route area. A neighbour's table has room for route_len / 8 entries; the longest that a neighbour
+ * can send has 65,536. */
 #define LUNOZHAR_ROUTE 32
 
 /* The answers: done, or the first reason to refuse. */
@@ -49,7 +54,7 @@ enum lunozhar_answer {
     LUNOZHAR_ASKER_CLOSED = 11,       /* a hit for a query whose line has closed since */
     LUNOZHAR_HOPS_FULL = 12,          /* Hops is 255 and would have to rise */
     LUNOZHAR_PING_TOO_SOON = 13,      /* less than 1,000 ms since the line's last accepted ping */
-    LUNOZHAR_BAD_UPDATE = 14,         /* a field of a route update is not allowed; the table writer's arguments are wrong */
+    LUNOZHAR_BAD_UPDATE = 14,         /* a field of a route update or an argument of the table writer is wrong */
     LUNOZHAR_OUT_OF_TURN = 15,        /* a PATCH that is not the next of its run, or does not fit the table */
     LUNOZHAR_ENTRY_OUT_OF_RANGE = 16, /* a PATCH leads an entry outside 1 to Infinity */
     LUNOZHAR_BAD_HANDSHAKE = 17,      /* the handshake group is not understood */
@@ -78,7 +83,8 @@ enum lunozhar_kind {
     LUNOZHAR_KIND_REPLY = 2     /* GNUTELLA/0.6 200 OK, and the like */
 };
 
-/* A neighbour's route table but for its entries, which are in the route area from byte line * room on, one byte each. */
+/* A neighbour's route table but for its entries, which are in the route area from byte line * room on, one byte
+ * each. */
 typedef struct lunozhar_table {
     uint8_t mark;     /* enum lunozhar_mark */
     uint32_t length;  /* how many entries */
@@ -101,20 +107,26 @@ typedef struct lunozhar_line {
     bool live;         /* whether it is open */
     bool pinged;       /* whether a ping was accepted, and the clock of the last one */
     uint32_t pingtime;
-    size_t pongcount;  /* the ring of stored pongs: how many, where the next goes; the kept ones are those just before it */
+    size_t pongcount;  /* the ring of stored pongs: how many are kept, and where the next goes; they stand before */
     size_t pongnext;
     lunozhar_pong pongs[LUNOZHAR_PONGS];
     lunozhar_table table;
 } lunozhar_line;
 
-/* A station's state. Only the functions below are to write it. It has no pointer, so that it may be copied and moved. */
+/* The eight lines of a station, as they are handed to a call. */
+typedef struct lunozhar_lines {
+    lunozhar_line at[LUNOZHAR_LINES];
+} lunozhar_lines;
+
+/* A station's state. Only the functions below are to write it. It has no pointer, so that it may be copied and
+ * moved. */
 typedef struct lunozhar_station {
     size_t room; /* entries that there is room for in each neighbour's table: the route area's length / 8 */
     lunozhar_line lines[LUNOZHAR_LINES];
-    uint64_t lo[LUNOZHAR_MEMORY];   /* the ring of remembered queries: the number's bytes 0 to 7 and 8 to 15, little-endian, and the asker */
-    uint64_t hi[LUNOZHAR_MEMORY];
-    uint8_t asker[LUNOZHAR_MEMORY];
-    size_t count;                   /* how many are kept, and where the next goes; the kept ones are those just before it */
+    uint64_t lo[LUNOZHAR_MEMORY];   /* the ring of remembered queries: the number's bytes 0 to 7, little-endian, */
+    uint64_t hi[LUNOZHAR_MEMORY];   /* bytes 8 to 15, */
+    uint8_t asker[LUNOZHAR_MEMORY]; /* and the asker */
+    size_t count;                   /* how many are kept, and where the next goes; they stand before */
     size_t next;
 } lunozhar_station;
 
@@ -124,7 +136,7 @@ typedef struct lunozhar_own {
     uint8_t address[4]; /* IPv4, in network order */
     uint32_t files;
     uint32_t kilobytes;
-    bool calls; /* whether it takes connections; if not, only a ping to this station alone (TTL 1, Hops 0 or 1) gets its own pong */
+    bool calls; /* whether it takes connections; if not, only a ping to it alone (TTL 1, Hops 0 or 1) gets its pong */
 } lunozhar_own;
 
 /* A message's number: bytes 0 to 15 of its header. */
@@ -135,14 +147,32 @@ typedef struct lunozhar_number {
 /* What a message or an own query came to. */
 typedef struct lunozhar_told {
     uint8_t answer;           /* enum lunozhar_answer */
-    size_t used;              /* bytes used of the message: its header and payload for 0 and 6 to 16, else 0; 0 for an own query */
+    size_t used;              /* of a message: its header and payload for 0 and 6 to 16, else 0; of an own query 0 */
     size_t written;           /* bytes written to the output area, to be sent to each line whose flag is set */
     bool to[LUNOZHAR_LINES];
-    bool search;              /* a query is for the local search; its text is textlen bytes of the message from textat on */
+    bool search;              /* a query is for the local search: textlen bytes of the message from textat on */
     bool delivered;           /* the message is a hit for a query of this station's own */
     size_t textat;
     size_t textlen;
 } lunozhar_told;
+
+/* What the functions below hand back of a message, of a line opened or closed, and of a station made: the record
+ * of the line after the call, or all that is new of the station. */
+typedef struct lunozhar_arrival {
+    lunozhar_line line;
+    lunozhar_told told;
+} lunozhar_arrival;
+
+typedef struct lunozhar_line_change {
+    uint8_t answer;
+    lunozhar_line line;
+} lunozhar_line_change;
+
+typedef struct lunozhar_beginning {
+    uint8_t answer;
+    size_t room;
+    lunozhar_line lines[LUNOZHAR_LINES];
+} lunozhar_beginning;
 
 /* How many messages had each answer. Start with all zero. A full count stays. */
 typedef struct lunozhar_tally {
@@ -191,57 +221,121 @@ typedef struct lunozhar_hosts {
     lunozhar_pairs pairs;
 } lunozhar_hosts;
 
-/* Makes the station: every line closed, nothing remembered, room for tables as a route area of route_len bytes gives it. The area itself is
- * lent to lunozhar_message and lunozhar_ask, always the same one; its bytes may be anything. What the station held before does not count, but it
- * holds something: memory that is new is set to zero first, as a static station is.
+/* The calls on a station, as the library has them: lo, hi and asker are its three arrays of LUNOZHAR_MEMORY
+ * places, lent with count and next where a call writes them. The record that comes back belongs at
+ * line % LUNOZHAR_LINES, whatever the answer is. The functions below do all that: call those. */
+lunozhar_beginning lunozhar_fresh_lent(uint64_t *lo, uint64_t *hi, uint8_t *asker, size_t *count, size_t *next,
+                                       size_t route_len);
+lunozhar_line_change lunozhar_open_lent(const uint64_t *lo, const uint64_t *hi, const uint8_t *asker, size_t count,
+                                        size_t next, size_t room, lunozhar_lines lines, uint32_t line);
+lunozhar_line_change lunozhar_close_lent(const uint64_t *lo, const uint64_t *hi, uint8_t *asker, size_t count,
+                                         size_t next, size_t room, lunozhar_lines lines, uint32_t line);
+lunozhar_arrival lunozhar_message_lent(uint64_t *lo, uint64_t *hi, uint8_t *asker, size_t *count, size_t *next,
+                                       size_t room, lunozhar_lines lines, uint32_t line, uint32_t clock,
+                                       lunozhar_own own, const uint8_t *message, size_t message_len, uint8_t *out,
+                                       size_t out_len, uint8_t *route, size_t route_len);
+lunozhar_told lunozhar_ask_lent(uint64_t *lo, uint64_t *hi, uint8_t *asker, size_t *count, size_t *next, size_t room,
+                                lunozhar_lines lines, lunozhar_number number, const uint8_t *text, size_t text_len,
+                                uint8_t *out, size_t out_len, const uint8_t *route, size_t route_len);
+bool lunozhar_in_order_lent(const uint64_t *lo, const uint64_t *hi, const uint8_t *asker, size_t count, size_t next,
+                            size_t room, lunozhar_lines lines);
+
+/* A station's lines, to be handed on with one copy: what is read as lunozhar_lines is an array of its only
+ * member's type (C11 6.5 p7, C++11 3.10 p10). */
+static inline const lunozhar_lines *lunozhar_lines_of(const lunozhar_station *station) {
+    const void *lines = station->lines;
+    return (const lunozhar_lines *)lines;
+}
+
+/* Makes the station: every line closed, nothing remembered, room for tables as a route area of route_len bytes
+ * gives it. The area itself is lent to lunozhar_message and lunozhar_ask, always the same one; its bytes may be
+ * anything. What the station held before does not count, but it holds something: memory that is new is set to zero
+ * first, as a static station is.
  * Answers 0, or 2 for route_len below LUNOZHAR_ROUTE: the station is made all the same, with room 0. */
-uint8_t lunozhar_fresh(lunozhar_station *station, size_t route_len);
+static inline uint8_t lunozhar_fresh(lunozhar_station *station, size_t route_len) {
+    const lunozhar_beginning made =
+        lunozhar_fresh_lent(station->lo, station->hi, station->asker, &station->count, &station->next, route_len);
+    station->room = made.room;
+    memcpy(station->lines, made.lines, sizeof station->lines);
+    return made.answer;
+}
 
 /* Opens a line, 0 to 7: no table, no pongs, no ping. Answers 0, 1, or 3 for a line over 7 or open already. */
-uint8_t lunozhar_open(lunozhar_station *station, uint32_t line);
+static inline uint8_t lunozhar_open(lunozhar_station *station, uint32_t line) {
+    const lunozhar_line_change change =
+        lunozhar_open_lent(station->lo, station->hi, station->asker, station->count, station->next, station->room,
+                           *lunozhar_lines_of(station), line);
+    station->lines[line % LUNOZHAR_LINES] = change.line;
+    return change.answer;
+}
 
-/* Closes a line: its table and pongs are dropped, and no hit for a query that came by it is passed on any more, even if the line is opened
- * again. Answers 0, 1, or 3 for a line over 7 or not open. */
-uint8_t lunozhar_close(lunozhar_station *station, uint32_t line);
+/* Closes a line: its table and pongs are dropped, and no hit for a query that came by it is passed on any more,
+ * even if the line is opened again. Answers 0, 1, or 3 for a line over 7 or not open. */
+static inline uint8_t lunozhar_close(lunozhar_station *station, uint32_t line) {
+    const lunozhar_line_change change =
+        lunozhar_close_lent(station->lo, station->hi, station->asker, station->count, station->next, station->room,
+                            *lunozhar_lines_of(station), line);
+    station->lines[line % LUNOZHAR_LINES] = change.line;
+    return change.answer;
+}
 
-/* Takes the message at the front of the bytes, which arrived by a line at a clock in milliseconds (it may go round). Bytes past the message
- * are not read. Answers 0 to 16, and says what is to be sent, searched or delivered. Writes the bytes to be sent to the front of the output
- * area (out_len at least LUNOZHAR_OUTPUT), and an accepted update's entries to the line's part of the route area (route_len at least
- * LUNOZHAR_ROUTE, route_len / 8 the station's room). A refusal writes to no area and changes no state, but that 14, 15 and 16 mark the
- * line's table as broken. */
-lunozhar_told lunozhar_message(lunozhar_station *station, uint32_t line, uint32_t clock, lunozhar_own own,
-                               const uint8_t *message, size_t message_len, uint8_t *out, size_t out_len,
-                               uint8_t *route, size_t route_len);
+/* Takes the message at the front of the bytes, which arrived by a line at a clock in milliseconds (it may go
+ * round). Bytes past the message are not read. Answers 0 to 16, and says what is to be sent, searched or
+ * delivered. Writes the bytes to be sent to the front of the output area (out_len at least LUNOZHAR_OUTPUT), and
+ * an accepted update's entries to the line's part of the route area (route_len at least LUNOZHAR_ROUTE, where
+ * route_len / 8 is the station's room). A refusal writes to no area and changes no state, but that 14, 15 and 16
+ * mark the line's table as broken. */
+static inline lunozhar_told lunozhar_message(lunozhar_station *station, uint32_t line, uint32_t clock,
+                                             lunozhar_own own, const uint8_t *message, size_t message_len,
+                                             uint8_t *out, size_t out_len, uint8_t *route, size_t route_len) {
+    const lunozhar_arrival arrival =
+        lunozhar_message_lent(station->lo, station->hi, station->asker, &station->count, &station->next, station->room,
+                              *lunozhar_lines_of(station), line, clock, own, message, message_len, out, out_len, route,
+                              route_len);
+    station->lines[line % LUNOZHAR_LINES] = arrival.line;
+    return arrival.told;
+}
 
-/* Asks a query of this station's own, with a number that no query had yet. The message goes to each open line whose table does not withhold
- * it, and is written to the front of the output area (lengths as for lunozhar_message). The route area is only read.
- * Answers 0, 1, 2, 5 for a text over 4,093 bytes, 6 for a zero byte in it, or 9 for a number that is remembered. */
-lunozhar_told lunozhar_ask(lunozhar_station *station, lunozhar_number number, const uint8_t *text, size_t text_len,
-                           uint8_t *out, size_t out_len, const uint8_t *route, size_t route_len);
+/* Asks a query of this station's own, with a number that no query had yet. The message goes to each open line
+ * whose table does not withhold it, and is written to the front of the output area (lengths as for
+ * lunozhar_message). The route area is only read. Answers 0, 1, 2, 5 for a text over 4,093 bytes, 6 for a zero
+ * byte in it, or 9 for a number that is remembered. */
+static inline lunozhar_told lunozhar_ask(lunozhar_station *station, lunozhar_number number, const uint8_t *text,
+                                         size_t text_len, uint8_t *out, size_t out_len, const uint8_t *route,
+                                         size_t route_len) {
+    return lunozhar_ask_lent(station->lo, station->hi, station->asker, &station->count, &station->next, station->room,
+                             *lunozhar_lines_of(station), number, text, text_len, out, out_len, route, route_len);
+}
 
 /* Whether the state is in order, as every call tests first (answer 1). A state that only these functions wrote is. */
-bool lunozhar_in_order(const lunozhar_station *station);
+static inline bool lunozhar_in_order(const lunozhar_station *station) {
+    return lunozhar_in_order_lent(station->lo, station->hi, station->asker, station->count, station->next,
+                                  station->room, *lunozhar_lines_of(station));
+}
 
 /* Counts one more message with this answer. A number over 18 counts nothing. */
 void lunozhar_count(lunozhar_tally *tally, uint8_t answer);
 
-/* Writes the messages that turn a neighbour's copy of the old table into the new one: a RESET where there was none (`had` is false; the old
- * entries and Infinity are not looked at then), and a run of PATCHes with `size` bytes of data each (1 to 4,091), the last with the rest.
- * Answers 0, 14 for a length, an Infinity, an entry, two unlike tables, a size or a run that is not allowed, or 2 for a short area.
- * Writes to the front of the area; one of 29 + 28 * 255 + new_len bytes is never short. */
+/* Writes the messages that turn a neighbour's copy of the old table into the new one: a RESET where there was none
+ * (`had` is false; the old entries and Infinity are not looked at then), and a run of PATCHes with `size` bytes of
+ * data each (1 to 4,091), the last with the rest. Answers 0, 14 for a length, an Infinity, an entry, two unlike
+ * tables, a size or a run that is not allowed, or 2 for a short area. Writes to the front of the area; one of
+ * 29 + 28 * 255 + new_len bytes is never short. */
 lunozhar_written lunozhar_write_table(lunozhar_number number, bool had, const uint8_t *old_entries, size_t old_len,
-                                      uint8_t old_infinity, const uint8_t *new_entries, size_t new_len, uint8_t infinity,
-                                      size_t size, uint8_t *out, size_t out_len);
+                                      uint8_t old_infinity, const uint8_t *new_entries, size_t new_len,
+                                      uint8_t infinity, size_t size, uint8_t *out, size_t out_len);
 
 /* Reads the handshake group at the front of the bytes. Answers 0, 4, 17 or 18. */
 lunozhar_group lunozhar_read_group(const uint8_t *bytes, size_t len);
 
-/* Writes the value of the group's field of that name, whatever its case, to the front of an area; equal names are joined by commas. Answers
- * 0, 4, 17, 18, 10 for no such field, or 2 for a short area; one of 4,096 bytes is never short. */
-lunozhar_asked lunozhar_read_field(const uint8_t *bytes, size_t len, const uint8_t *name, size_t name_len, uint8_t *value,
-                                   size_t value_len);
+/* Writes the value of the group's field of that name, whatever its case, to the front of an area; equal names are
+ * joined by commas. Answers 0, 4, 17, 18, 10 for no such field, or 2 for a short area; one of 4,096 bytes is never
+ * short. */
+lunozhar_asked lunozhar_read_field(const uint8_t *bytes, size_t len, const uint8_t *name, size_t name_len,
+                                   uint8_t *value, size_t value_len);
 
-/* Reads the first 32 hosts of the group's X-Try field, none where it has no such field. Answers 0, 4, 17, 18, or 6 for a bad host. */
+/* Reads the first 32 hosts of the group's X-Try field, none where it has no such field. Answers 0, 4, 17, 18, or 6
+ * for a bad host. */
 lunozhar_hosts lunozhar_read_hosts(const uint8_t *bytes, size_t len);
 
 /* Writes the greeting, 24 bytes, to the front of an area. Answers 0, or 2 for a short area. */
@@ -250,8 +344,8 @@ lunozhar_written lunozhar_write_greeting(uint8_t *out, size_t out_len);
 /* Writes the reply that takes a connection, 23 bytes, to the front of an area. Answers 0, or 2 for a short area. */
 lunozhar_written lunozhar_write_ok(uint8_t *out, size_t out_len);
 
-/* Writes the reply that turns a connection away and names other hosts to the front of an area. Answers 0, 6 for more than 32 hosts or a
- * port 0, or 2 for a short area; one of 737 bytes is never short. */
+/* Writes the reply that turns a connection away and names other hosts to the front of an area. Answers 0, 6 for
+ * more than 32 hosts or a port 0, or 2 for a short area; one of 737 bytes is never short. */
 lunozhar_written lunozhar_write_busy(lunozhar_pairs pairs, uint8_t *out, size_t out_len);
 
 /* The 32-bit hash of a keyword, whatever the case of its letters A to Z. */
@@ -287,6 +381,9 @@ LUNOZHAR_AT(lunozhar_line, pongnext, 16);
 LUNOZHAR_AT(lunozhar_line, pongs, 24);
 LUNOZHAR_AT(lunozhar_line, table, 224);
 
+LUNOZHAR_SIZE(lunozhar_lines, 1920);
+LUNOZHAR_AT(lunozhar_lines, at, 0);
+
 LUNOZHAR_SIZE(lunozhar_station, 10648);
 LUNOZHAR_AT(lunozhar_station, room, 0);
 LUNOZHAR_AT(lunozhar_station, lines, 8);
@@ -315,6 +412,19 @@ LUNOZHAR_AT(lunozhar_told, search, 32);
 LUNOZHAR_AT(lunozhar_told, delivered, 33);
 LUNOZHAR_AT(lunozhar_told, textat, 40);
 LUNOZHAR_AT(lunozhar_told, textlen, 48);
+
+LUNOZHAR_SIZE(lunozhar_arrival, 296);
+LUNOZHAR_AT(lunozhar_arrival, line, 0);
+LUNOZHAR_AT(lunozhar_arrival, told, 240);
+
+LUNOZHAR_SIZE(lunozhar_line_change, 248);
+LUNOZHAR_AT(lunozhar_line_change, answer, 0);
+LUNOZHAR_AT(lunozhar_line_change, line, 8);
+
+LUNOZHAR_SIZE(lunozhar_beginning, 1936);
+LUNOZHAR_AT(lunozhar_beginning, answer, 0);
+LUNOZHAR_AT(lunozhar_beginning, room, 8);
+LUNOZHAR_AT(lunozhar_beginning, lines, 16);
 
 LUNOZHAR_SIZE(lunozhar_tally, 76);
 LUNOZHAR_AT(lunozhar_tally, counts, 0);

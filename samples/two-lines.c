@@ -1,8 +1,10 @@
-/* A station with two neighbours. Line 0 asks for "mountain lake"; the query goes on by line 1; the hit comes back by line 1 and goes to line 0.
- * Then line 0 closes and is given to another neighbour: the same hit, coming late, is refused. samples/two-lines.out is what this prints.
+/* A station with two neighbours. Line 0 asks for "mountain lake"; the query goes on by line 1; the hit comes back by
+ * line 1 and goes to line 0. Then line 0 closes and is given to another neighbour: the same hit, coming late, is
+ * refused. At the end the station asks both for "lake" itself. samples/two-lines.out is what this prints.
  *
  *     rt staticlib lunozhar
- *     cc -std=c11 -Wall -Wextra -Werror -Iinclude samples/two-lines.c target/staticlib/liblunozhar.a -o target/two-lines
+ *     cc -std=c11 -Wall -Wextra -Werror -Iinclude samples/two-lines.c target/staticlib/liblunozhar.a \
+ *         -o target/two-lines
  *     target/two-lines */
 #include "lunozhar.h"
 #include <stdio.h>
@@ -12,7 +14,8 @@
 #define HIT 0x81
 
 /* Writes a message, always with the same number, and hands back its length. */
-static size_t put_message(uint8_t *message, uint8_t type, uint8_t ttl, uint8_t hops, const void *payload, uint8_t len) {
+static size_t put_message(uint8_t *message, uint8_t type, uint8_t ttl, uint8_t hops, const void *payload,
+                          uint8_t len) {
     memset(message, 0xA7, 16); /* the number: bytes 0 to 15 */
     message[16] = type;
     message[17] = ttl;
@@ -30,7 +33,8 @@ static uint8_t out[LUNOZHAR_OUTPUT];
 /* Hands the station a message that arrived, and prints what it came to. */
 static void arrive(uint32_t line, uint32_t clock, const uint8_t *message, size_t len) {
     const lunozhar_own own = {.port = 6346, .address = {127, 0, 0, 1}, .calls = true};
-    lunozhar_told told = lunozhar_message(&station, line, clock, own, message, len, out, sizeof out, route, sizeof route);
+    lunozhar_told told =
+        lunozhar_message(&station, line, clock, own, message, len, out, sizeof out, route, sizeof route);
     printf("message by line %u: answer %u, used %zu, written %zu", line, told.answer, told.used, told.written);
     for (unsigned to = 0; to < LUNOZHAR_LINES; to++) {
         if (told.to[to]) {
@@ -58,5 +62,12 @@ int main(void) {
     arrive(1, 1400, hit, hit_len);
     printf("line 0 opens: %u\n", lunozhar_open(&station, 0));
     arrive(1, 1600, hit, hit_len);
+
+    const lunozhar_number number = {{0xB8}}; /* and 15 zero bytes */
+    const uint8_t text[] = {'l', 'a', 'k', 'e'};
+    lunozhar_told asked = lunozhar_ask(&station, number, text, sizeof text, out, sizeof out, route, sizeof route);
+    printf("own query: answer %u, written %zu", asked.answer, asked.written);
+    printf(", to line 0: %d, to line 1: %d\n", asked.to[0], asked.to[1]);
+    printf("in order: %d\n", lunozhar_in_order(&station));
     return 0;
 }

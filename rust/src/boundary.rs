@@ -1,10 +1,131 @@
-//! The calls of the library: the one module with `unsafe` code. Safe functions over slices and references, a function of [`raw`] each.
+//! The calls of the library: the one module with `unsafe` code. First the calls on a station, under the names and with the parameters that the header
+//! has for them; then safe functions over slices and references, a function of [`raw`] each.
 //!
 //! The library asks of a caller that pointers are not null and point to as much as their length or type says, and that what it is lent to
 //! write overlaps nothing else. Slices and references are so, empty ones too, and `&mut` borrows of one call are apart. It keeps no pointer.
 #![allow(unsafe_code)]
 
-use crate::raw::{self, Asked, Group, Hosts, Number, Own, Pairs, Station, Tally, Told, Written};
+use crate::raw::{self, Asked, Group, Hosts, Lines, Number, Own, Pairs, Station, Tally, Told, Written, LINES};
+
+/// Makes a station over a route area of so many bytes.
+///
+/// # Safety
+///
+/// The pointer points to a whole station.
+#[inline]
+pub unsafe fn lunozhar_fresh(station: *mut Station, route_len: usize) -> u8 {
+    let Station { room, lines, lo, hi, asker, count, next } = &mut *station;
+    let made = raw::lunozhar_fresh_lent(lo.as_mut_ptr(), hi.as_mut_ptr(), asker.as_mut_ptr(), count, next, route_len);
+    *room = made.room;
+    *lines = made.lines;
+    made.answer
+}
+
+/// Opens a line.
+///
+/// # Safety
+///
+/// The pointer points to a whole station.
+#[inline]
+pub unsafe fn lunozhar_open(station: *mut Station, line: u32) -> u8 {
+    let Station { room, lines, lo, hi, asker, count, next } = &mut *station;
+    let (lo, hi, asker, at) = (lo.as_ptr(), hi.as_ptr(), asker.as_ptr(), *lines);
+    let change = raw::lunozhar_open_lent(lo, hi, asker, *count, *next, *room, Lines { at }, line);
+    lines[line as usize % LINES] = change.line;
+    change.answer
+}
+
+/// Closes a line.
+///
+/// # Safety
+///
+/// The pointer points to a whole station.
+#[inline]
+pub unsafe fn lunozhar_close(station: *mut Station, line: u32) -> u8 {
+    let Station { room, lines, lo, hi, asker, count, next } = &mut *station;
+    let (lo, hi, asker, at) = (lo.as_ptr(), hi.as_ptr(), asker.as_mut_ptr(), *lines);
+    let change = raw::lunozhar_close_lent(lo, hi, asker, *count, *next, *room, Lines { at }, line);
+    lines[line as usize % LINES] = change.line;
+    change.answer
+}
+
+/// Takes a message that arrived.
+///
+/// # Safety
+///
+/// The first pointer points to a whole station, each other to as many bytes as the length behind it says; station, output and route area overlap
+/// neither each other nor the message.
+#[inline]
+#[allow(clippy::too_many_arguments)]
+pub unsafe fn lunozhar_message(
+    station: *mut Station,
+    line: u32,
+    clock: u32,
+    own: Own,
+    message: *const u8,
+    message_len: usize,
+    out: *mut u8,
+    out_len: usize,
+    route: *mut u8,
+    route_len: usize,
+) -> Told {
+    let Station { room, lines, lo, hi, asker, count, next } = &mut *station;
+    let (lo, hi, asker, at) = (lo.as_mut_ptr(), hi.as_mut_ptr(), asker.as_mut_ptr(), *lines);
+    let arrival = raw::lunozhar_message_lent(
+        lo,
+        hi,
+        asker,
+        count,
+        next,
+        *room,
+        Lines { at },
+        line,
+        clock,
+        own,
+        message,
+        message_len,
+        out,
+        out_len,
+        route,
+        route_len,
+    );
+    lines[line as usize % LINES] = arrival.line;
+    arrival.told
+}
+
+/// Asks a query of the station's own.
+///
+/// # Safety
+///
+/// The first pointer points to a whole station, each other to as many bytes as the length behind it says; station and output overlap neither each
+/// other nor the text and the route area.
+#[inline]
+#[allow(clippy::too_many_arguments)]
+pub unsafe fn lunozhar_ask(
+    station: *mut Station,
+    number: Number,
+    text: *const u8,
+    text_len: usize,
+    out: *mut u8,
+    out_len: usize,
+    route: *const u8,
+    route_len: usize,
+) -> Told {
+    let Station { room, lines, lo, hi, asker, count, next } = &mut *station;
+    let (lo, hi, asker, at) = (lo.as_mut_ptr(), hi.as_mut_ptr(), asker.as_mut_ptr(), *lines);
+    raw::lunozhar_ask_lent(lo, hi, asker, count, next, *room, Lines { at }, number, text, text_len, out, out_len, route, route_len)
+}
+
+/// Whether a state is in order.
+///
+/// # Safety
+///
+/// The pointer points to a whole station.
+#[inline]
+pub unsafe fn lunozhar_in_order(station: *const Station) -> bool {
+    let Station { room, lines, lo, hi, asker, count, next } = &*station;
+    raw::lunozhar_in_order_lent(lo.as_ptr(), hi.as_ptr(), asker.as_ptr(), *count, *next, *room, Lines { at: *lines })
+}
 
 pub(crate) fn fresh(station: &mut Station, route_len: usize) -> u8 {
     // SAFETY: the reference points to a whole station.

@@ -1,4 +1,6 @@
-//! The library as C sees it: the constants, structs and functions of `include/lunozhar.h`, which says more of each.
+//! The library as C sees it: the constants, structs and functions of `include/lunozhar.h`, which says more of each. The functions that end in
+//! `_lent` are lent the parts of a station; those of the same name without it take a station, and do no more than pass its parts and store what
+//! comes back.
 //!
 //! Most users want [`crate::Station`] and the functions beside it. A slice is a pointer and a length here, and every function is `unsafe` to call:
 //! pointers are not null and point to as much as their length or type says, and what a call is lent to write overlaps nothing else of it.
@@ -12,6 +14,7 @@
 //! assert_eq!(place, 3179);
 //! ```
 
+pub use crate::boundary::{lunozhar_ask, lunozhar_close, lunozhar_fresh, lunozhar_in_order, lunozhar_message, lunozhar_open};
 use core::mem::{offset_of, size_of};
 
 #[cfg(test)]
@@ -107,6 +110,14 @@ pub struct Line {
     pub table: Table,
 }
 
+/// The eight lines of a station, as they are handed to a call.
+#[repr(C)]
+#[derive(Clone, Copy, Debug, Default, PartialEq, Eq)]
+pub struct Lines {
+    /// Line 0, 1, .. 7.
+    pub at: [Line; LINES],
+}
+
 /// A station's state.
 #[repr(C)]
 #[derive(Clone, Debug, PartialEq, Eq)]
@@ -179,6 +190,38 @@ pub struct Told {
     pub textat: usize,
     /// How long the query's text is.
     pub textlen: usize,
+}
+
+/// What [`lunozhar_message_lent`] hands back.
+#[repr(C)]
+#[derive(Clone, Copy, Debug, PartialEq, Eq)]
+pub struct Arrival {
+    /// The record of the message's line after it.
+    pub line: Line,
+    /// What the message came to.
+    pub told: Told,
+}
+
+/// What [`lunozhar_open_lent`] and [`lunozhar_close_lent`] hand back.
+#[repr(C)]
+#[derive(Clone, Copy, Debug, PartialEq, Eq)]
+pub struct LineChange {
+    /// 0, or the number of a [`crate::Refusal`].
+    pub answer: u8,
+    /// The record of the line after the call.
+    pub line: Line,
+}
+
+/// What [`lunozhar_fresh_lent`] hands back.
+#[repr(C)]
+#[derive(Clone, Copy, Debug, PartialEq, Eq)]
+pub struct Beginning {
+    /// 0, or the number of a [`crate::Refusal`].
+    pub answer: u8,
+    /// The room of the new station.
+    pub room: usize,
+    /// Its lines.
+    pub lines: [Line; LINES],
 }
 
 /// How many messages had each answer.
@@ -262,15 +305,46 @@ pub struct Hosts {
 }
 
 extern "C" {
-    /// Makes a station over a route area of so many bytes.
-    pub fn lunozhar_fresh(station: *mut Station, route_len: usize) -> u8;
-    /// Opens a line.
-    pub fn lunozhar_open(station: *mut Station, line: u32) -> u8;
-    /// Closes a line.
-    pub fn lunozhar_close(station: *mut Station, line: u32) -> u8;
-    /// Takes a message that arrived.
-    pub fn lunozhar_message(
-        station: *mut Station,
+    /// [`lunozhar_fresh`] on the parts of a station.
+    pub fn lunozhar_fresh_lent(
+        lo: *mut u64,
+        hi: *mut u64,
+        asker: *mut u8,
+        count: *mut usize,
+        next: *mut usize,
+        route_len: usize,
+    ) -> Beginning;
+    /// [`lunozhar_open`] on the parts of a station.
+    pub fn lunozhar_open_lent(
+        lo: *const u64,
+        hi: *const u64,
+        asker: *const u8,
+        count: usize,
+        next: usize,
+        room: usize,
+        lines: Lines,
+        line: u32,
+    ) -> LineChange;
+    /// [`lunozhar_close`] on the parts of a station.
+    pub fn lunozhar_close_lent(
+        lo: *const u64,
+        hi: *const u64,
+        asker: *mut u8,
+        count: usize,
+        next: usize,
+        room: usize,
+        lines: Lines,
+        line: u32,
+    ) -> LineChange;
+    /// [`lunozhar_message`] on the parts of a station.
+    pub fn lunozhar_message_lent(
+        lo: *mut u64,
+        hi: *mut u64,
+        asker: *mut u8,
+        count: *mut usize,
+        next: *mut usize,
+        room: usize,
+        lines: Lines,
         line: u32,
         clock: u32,
         own: Own,
@@ -280,10 +354,16 @@ extern "C" {
         out_len: usize,
         route: *mut u8,
         route_len: usize,
-    ) -> Told;
-    /// Asks a query of the station's own.
-    pub fn lunozhar_ask(
-        station: *mut Station,
+    ) -> Arrival;
+    /// [`lunozhar_ask`] on the parts of a station.
+    pub fn lunozhar_ask_lent(
+        lo: *mut u64,
+        hi: *mut u64,
+        asker: *mut u8,
+        count: *mut usize,
+        next: *mut usize,
+        room: usize,
+        lines: Lines,
         number: Number,
         text: *const u8,
         text_len: usize,
@@ -292,8 +372,16 @@ extern "C" {
         route: *const u8,
         route_len: usize,
     ) -> Told;
-    /// Whether a state is in order.
-    pub fn lunozhar_in_order(station: *const Station) -> bool;
+    /// [`lunozhar_in_order`] on the parts of a station.
+    pub fn lunozhar_in_order_lent(
+        lo: *const u64,
+        hi: *const u64,
+        asker: *const u8,
+        count: usize,
+        next: usize,
+        room: usize,
+        lines: Lines,
+    ) -> bool;
     /// Counts one more message with this answer.
     pub fn lunozhar_count(tally: *mut Tally, answer: u8);
     /// Writes the updates that turn the old table into the new one.
@@ -346,10 +434,14 @@ layout! {
     Table 16 { mark 0, length 4, infinity 8, place 9, size 10, bits 11, at 12 }
     Pong 20 { bytes 0, hops 14, clock 16 }
     Line 240 { live 0, pinged 1, pingtime 4, pongcount 8, pongnext 16, pongs 24, table 224 }
+    Lines 1920 { at 0 }
     Station 10648 { room 0, lines 8, lo 1928, hi 6024, asker 10120, count 10632, next 10640 }
     Own 20 { port 0, address 2, files 8, kilobytes 12, calls 16 }
     Number 16 { bytes 0 }
     Told 56 { answer 0, used 8, written 16, to 24, search 32, delivered 33, textat 40, textlen 48 }
+    Arrival 296 { line 0, told 240 }
+    LineChange 248 { answer 0, line 8 }
+    Beginning 1936 { answer 0, room 8, lines 16 }
     Tally 76 { counts 0 }
     Written 16 { answer 0, written 8 }
     Group 32 { answer 0, used 8, kind 16, major 20, minor 24, code 28 }

@@ -1,10 +1,10 @@
 -- The places of a ring by rank, what stands at a place of a list that is made number by number, and lists of four.
 -- Assumes nothing.
-use Prim.Native.Nat.{ℕ, zero, suc, _+_, _-_, _%_, _<_}
+use Prim.Native.Nat.{ℕ, zero, suc, _+_, _-_, _%_, _≤_, _<_}
 use mathlib.Core.Path.{_≡_, refl, ap, _∙_}
 use mathlib.Core.List.{List, [], _∷_, _++_, map}
 use native.Mathlib.Omega.{arith}
-use native.Mathlib.Nat.{mod-add-mod, add-mod-right}
+use native.Mathlib.Nat.{mod-add-mod, add-mod-right, mod-eq-of-lt}
 use lib.ListN.{length, getD}
 use Rattle.laws.specs.Ring.{back, placesBefore}
 
@@ -18,6 +18,31 @@ place-rank c (suc n) (suc r) p hn hc =
     ∙ mod-add-mod (p + (c - 1)) c (c - 1 - r)
     ∙ ap (λ k. k % c) e
     ∙ add-mod-right (p + (c - 1 - suc r)) c
+
+-- the place before, by comparison
+back-first : (c : ℕ) → 0 < c → back c 0 ≡ c - 1
+back-first c h = let e : 0 + (c - 1) ≡ c - 1 = omega arith in ap (λ n. n % c) e ∙ mod-eq-of-lt (omega arith)
+
+back-other : (c p : ℕ) → suc p < c → back c (suc p) ≡ p
+back-other c p h = let e : suc p + (c - 1) ≡ p + c = omega arith in ap (λ n. n % c) e ∙ add-mod-right p c ∙ mod-eq-of-lt (omega arith)
+
+-- the place of rank r: r places back from the one before p, not going round
+pub place-low : (c n r p : ℕ) → p < c → r < p → r < n → getD (placesBefore c p n) r 0 ≡ p - 1 - r
+place-low c zero r p hp hr hn = absurd (omega arith)
+place-low c (suc n) r zero hp hr hn = absurd (omega arith)
+place-low c (suc n) zero (suc q) hp hr hn = back-other c q hp ∙ omega arith
+place-low c (suc n) (suc r) (suc q) hp hr hn =
+    ap (λ b. getD (placesBefore c b n) r 0) (back-other c q hp) ∙ place-low c n r q (omega arith) (omega arith) (omega arith) ∙ omega arith
+
+-- and going round
+pub place-high : (c n r p : ℕ) → p < c → p ≤ r → r < c → r < n → getD (placesBefore c p n) r 0 ≡ p + (c - 1) - r
+place-high c zero r p hp hr hc hn = absurd (omega arith)
+place-high c (suc n) zero zero hp hr hc hn = back-first c hp ∙ omega arith
+place-high c (suc n) zero (suc q) hp hr hc hn = absurd (omega arith)
+place-high c (suc n) (suc r) zero hp hr hc hn =
+    ap (λ b. getD (placesBefore c b n) r 0) (back-first c hp) ∙ place-low c n r (c - 1) (omega arith) (omega arith) (omega arith) ∙ omega arith
+place-high c (suc n) (suc r) (suc q) hp hr hc hn =
+    ap (λ b. getD (placesBefore c b n) r 0) (back-other c q hp) ∙ place-high c n r q (omega arith) (omega arith) (omega arith) (omega arith) ∙ omega arith
 
 -- n numbers, counted up from `from`
 abbrev pub counting : ℕ → ℕ → List ℕ

@@ -9,7 +9,8 @@ use lib.Dec.{eqb, leb, ltb}
 use borrow.Author.Tests.{leb-true, le-leb, ltb-true, ltb-false, le-ltb, lt-ltb, eqb-true, eqb-false, eq-eqb, not-true}
 use borrow.Author.Tests.{not-false}
 use Rattle.laws.specs.Tests.{firstOf, all}
-use Rattle.laws.proofs.Refusals.{clash, and-fst, and-snd, and-intro, or-split, or-left, or-right, answer-in, NoRefusal}
+use Rattle.laws.proofs.Refusals.{clash, and-fst, and-snd, and-intro, or-split, or-left, or-right, answer-in}
+use Rattle.laws.proofs.Refusals.{NoRefusal}
 
 pub and-iff : (a b : Bool) {A B : Type 0} → (a ≡ true) ↔ A → (b ≡ true) ↔ B → ((a && b) ≡ true) ↔ (A × B)
 and-iff a b x y = (
@@ -60,6 +61,9 @@ less-iff a b = (ltb-true a b, lt-ltb a b)
 
 pub not-less-iff : (a b : ℕ) → (ltb a b ≡ false) ↔ (b ≤ a)
 not-less-iff a b = (ltb-false a b, le-ltb a b)
+
+pub least-iff : (a b : ℕ) → (not (ltb a b) ≡ true) ↔ (b ≤ a)
+least-iff a b = ((λ e. ltb-false a b (not-true (ltb a b) e)), (λ h. ap not (le-ltb a b h)))
 
 pub most-iff : (a b : ℕ) → (leb a b ≡ true) ↔ (a ≤ b)
 most-iff a b = (leb-true a b, le-leb a b)

@@ -52,7 +52,8 @@ module _ (live : ℕ → Bool) where
   next-fits k a = by (leb a 9) (ltb a k) refl (eqb a k) refl
     where
       by : (m t : Bool) → ltb a k ≡ t → (u : Bool) → eqb a k ≡ u
-          → ((m && (not (ltb a k) || live a)) && (live k || (m && not (eqb a k)))) ≡ (m && (not (ltb a (k + 1)) || live a))
+          → ((m && (not (ltb a k) || live a)) && (live k || (m && not (eqb a k))))
+          ≡ (m && (not (ltb a (k + 1)) || live a))
       by false t p u q = refl
       by true true p u q =
           let h : a < k = ltb-true a k p in
@@ -73,7 +74,8 @@ module _ (live : ℕ → Bool) where
   all-fit : (a : ℕ) → fitsTo 8 a ≡ askerFits live a
   all-fit a = by (ltb a 8) refl (eqb a 8) refl (eqb a 9) refl
     where
-      by : (t : Bool) → ltb a 8 ≡ t → (u : Bool) → eqb a 8 ≡ u → (v : Bool) → eqb a 9 ≡ v → fitsTo 8 a ≡ askerFits live a
+      by : (t : Bool) → ltb a 8 ≡ t → (u : Bool) → eqb a 8 ≡ u → (v : Bool) → eqb a 9 ≡ v
+          → fitsTo 8 a ≡ askerFits live a
       by true p u q v r =
           let h : a < 8 = ltb-true a 8 p in
           rw (p, ne-eqb a 8 (λ z. omega arith), ne-eqb a 9 (λ z. omega arith), le-leb a 9 (omega arith), or-false)
@@ -104,11 +106,13 @@ module _ (f : ℕ → Bool) where
       let d : p - 1 - n ≡ p - suc n = omega arith in
       let e : p - suc n + n ≡ p - 1 = omega arith in
       let i : n < length (drop (p - suc n) s) = simp length-drop (omega arith) in
-      rw (b, part-below s c n (p - 1) (omega arith) (omega arith) (omega arith), d, all-suc (drop (p - suc n) s) n i, getD-drop, e)
+      let r = part-below s c n (p - 1) (omega arith) (omega arith) (omega arith) in
+      rw (b, r, d, all-suc (drop (p - suc n) s) n i, getD-drop, e)
       (and-comm (f (getD s (p - 1) 0)) (all f (take n (drop (p - suc n) s))))
 
 -- the kept elements: `first` below `next`, and the rest at the end
-pub parts-kept : (f : ℕ → Bool) (s : List ℕ) (next count first : ℕ) → next < length s → count ≤ length s → first ≡ min count next
+pub parts-kept : (f : ℕ → Bool) (s : List ℕ) (next count first : ℕ)
+    → next < length s → count ≤ length s → first ≡ min count next
     → (all f (take (next - (next - first)) (drop (next - first) s))
     && all f (take (length s - (length s - (count - first))) (drop (length s - (count - first)) s)))
     ≡ all (λ x. f (getD s x 0)) (placesBefore (length s) next count)

@@ -11,12 +11,13 @@ use lib.ListN.{length, set}
 use lib.Seq.{getD-set-same, getD-set-other}
 use borrow.Author.Tests.{eqb-true, eqb-false, eq-eqb}
 use Rattle.laws.specs.Tests.{any, all}
-use Rattle.laws.proofs.Truth.{both-left, both-right, both-true, all-more}
+use Rattle.laws.proofs.Truth.{both-left, both-right}
 use Rattle.protocol.specs.Memory.{Query}
 use Rattle.memory.specs.Order.{sameAs, wordOf, marked}
 
 -- three numbers joined, by their lowest bits and the rest
-or-three : (w a b : ℕ) → bitOr (bitOr w a) b ≡ bitOr (bitOr (w / 2) (a / 2)) (b / 2) * 2 + max (max (w % 2) (a % 2)) (b % 2)
+or-three : (w a b : ℕ)
+    → bitOr (bitOr w a) b ≡ bitOr (bitOr (w / 2) (a / 2)) (b / 2) * 2 + max (max (w % 2) (a % 2)) (b % 2)
 or-three w a b =
     let e = or-step w a in
     let h : bitOr w a / 2 ≡ bitOr (w / 2) (a / 2) = omega (arith, e) in
@@ -34,34 +35,30 @@ or-again : (w a : ℕ) → bitOr (bitOr w a) a ≡ bitOr w a
 or-again w a = rw (or-comm w a) (or-swap a w a ∙ rw (or-self a))
 
 -- the filter after one number more
-abbrev pub joined : List ℕ → Query → List ℕ
-joined filter q = set filter (q .number .lo % 1024) (bitOr (wordOf filter q) (q .number .lo))
+abbrev pub joined : List ℕ → ℕ → List ℕ
+joined filter a = set filter (a % 1024) (bitOr (wordOf filter a) a)
 
-module _ (filter : List ℕ) (q : Query) (size : length filter ≡ 1024) where
-  word-same : wordOf (joined filter q) q ≡ bitOr (wordOf filter q) (q .number .lo)
-  word-same = getD-set-same filter (q .number .lo % 1024) (bitOr (wordOf filter q) (q .number .lo)) 0 (omega (arith, size))
+module _ (filter : List ℕ) (a : ℕ) (size : length filter ≡ 1024) where
+  word-same : wordOf (joined filter a) a ≡ bitOr (wordOf filter a) a
+  word-same = getD-set-same filter (a % 1024) (bitOr (wordOf filter a) a) 0 (omega (arith, size))
 
-  marked-same : marked (joined filter q) q ≡ true
-  marked-same = rw word-same (eq-eqb _ _ (or-again (wordOf filter q) (q .number .lo)))
+  pub marked-same : marked (joined filter a) a ≡ true
+  marked-same = rw word-same (eq-eqb _ _ (or-again (wordOf filter a) a))
 
-  marked-stays : (x : Query) → marked filter x ≡ true → marked (joined filter q) x ≡ true
-  marked-stays x e = by (eqb (x .number .lo % 1024) (q .number .lo % 1024)) refl
+  pub marked-stays : (b : ℕ) → marked filter b ≡ true → marked (joined filter a) b ≡ true
+  marked-stays b e = by (eqb (b % 1024) (a % 1024)) refl
     where
-      by : (t : Bool) → eqb (x .number .lo % 1024) (q .number .lo % 1024) ≡ t → marked (joined filter q) x ≡ true
-      by false p =
-          rw (getD-set-other filter (q .number .lo % 1024) (x .number .lo % 1024) (bitOr (wordOf filter q) (q .number .lo)) 0 (eqb-false _ _ p)) e
+      by : (t : Bool) → eqb (b % 1024) (a % 1024) ≡ t → marked (joined filter a) b ≡ true
+      by false p = rw (getD-set-other filter (a % 1024) (b % 1024) (bitOr (wordOf filter a) a) 0 (eqb-false _ _ p)) e
       by true p =
-          let s : x .number .lo % 1024 ≡ q .number .lo % 1024 = eqb-true _ _ p in
-          let w : bitOr (wordOf filter q) (x .number .lo) ≡ wordOf filter q = rw s at (eqb-true (bitOr (wordOf filter x) (x .number .lo)) (wordOf filter x) e) in
-          rw (s, word-same) (eq-eqb _ _ (or-swap (wordOf filter q) (q .number .lo) (x .number .lo) ∙ rw w))
-
-  -- one number more
-  pub marked-more : (qs : List Query) → all (marked filter) qs ≡ true → all (marked (joined filter q)) (q ∷ qs) ≡ true
-  marked-more qs e = both-true _ _ marked-same (all-more (marked filter) (marked (joined filter q)) marked-stays qs e)
+          let s : b % 1024 ≡ a % 1024 = eqb-true _ _ p in
+          let m = eqb-true (bitOr (wordOf filter b) b) (wordOf filter b) e in
+          let w : bitOr (wordOf filter a) b ≡ wordOf filter a = rw s at m in
+          rw (s, word-same) (eq-eqb _ _ (or-swap (wordOf filter a) a b ∙ rw w))
 
 -- a number with a bit that its word lacks was not passed
-module _ (filter : List ℕ) (q : Query) (new : marked filter q ≡ false) where
-  no-same : (x : Query) → marked filter x ≡ true → sameAs q x ≡ false
+module _ (filter : List ℕ) (q : Query) (new : marked filter (q .number .lo) ≡ false) where
+  no-same : (x : Query) → marked filter (x .number .lo) ≡ true → sameAs q x ≡ false
   no-same x e = by (eqb (x .number .lo) (q .number .lo)) refl
     where
       by : (t : Bool) → eqb (x .number .lo) (q .number .lo) ≡ t → sameAs q x ≡ false
@@ -71,6 +68,7 @@ module _ (filter : List ℕ) (q : Query) (new : marked filter q ≡ false) where
           let z : true ≡ false = sym (rw s at e) ∙ new in
           cc
 
-  pub unmarked-new : (qs : List Query) → all (marked filter) qs ≡ true → any (sameAs q) qs ≡ false
+  pub unmarked-new : (qs : List Query) → all (λ x. marked filter (x .number .lo)) qs ≡ true → any (sameAs q) qs ≡ false
   unmarked-new [] e = refl
-  unmarked-new (x ∷ xs) e = rw (no-same x (both-left _ _ e)) (unmarked-new xs (both-right (marked filter x) _ e))
+  unmarked-new (x ∷ xs) e =
+      rw (no-same x (both-left _ _ e)) (unmarked-new xs (both-right (marked filter (x .number .lo)) _ e))

@@ -1,4 +1,4 @@
--- Laws by which the loops of this crate go, and small rings by evaluation.
+-- Laws by which the loops of this crate go.
 pub mod SearchLaws
 pub mod FilterLaws
 pub mod NumberLaws

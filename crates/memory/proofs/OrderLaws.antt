@@ -1,4 +1,5 @@
--- A ring that fits and one that does not; the test of order put together: the ring fits, the askers fit, and no number stands twice.
+-- A ring that fits and one that does not; the test of order put together: the ring fits, the askers fit, and no
+-- number stands twice.
 use mathlib.Core.Path.{_≡_, refl, _∙_}
 use mathlib.Core.Bool.{Bool, true, false, _&&_, and-true}
 use mathlib.Core.List.{[]}
@@ -37,11 +38,16 @@ module _ (n : ℕ) (q : Memory) where
   module _ (live : ℕ → Bool) where
     pub order-unfit : ringFits n (q .next) (q .count) ≡ false → memoryInOrder n live q ≡ false
     unfolding memoryInOrder
-    order-unfit f = first-two (leb (q .count) n) (ltb (q .next) n) (noTwice (queriesIn n q) && (all (λ x. askerFits live (x .asker)) (queriesIn n q) && true)) f
+    order-unfit f =
+        first-two (leb (q .count) n) (ltb (q .next) n)
+        (noTwice (queriesIn n q) && (all (λ x. askerFits live (x .asker)) (queriesIn n q) && true)) f
 
     pub order-fit : length (q .asker) ≡ n → ringFits n (q .next) (q .count) ≡ true
         → memoryInOrder n live q
-        ≡ (noTwice (queriesBefore n q) && all (λ p. askerFits live (getD (q .asker) p 0)) (placesBefore (length (q .asker)) (q .next) (q .count)))
+        ≡ (noTwice (queriesBefore n q)
+        && all (λ p. askerFits live (getD (q .asker) p 0)) (placesBefore (length (q .asker)) (q .next) (q .count)))
     unfolding memoryInOrder
     order-fit same f =
-        rw (kept-all f, le-leb (q .count) n (fits-count n (q .next) (q .count) f), lt-ltb (q .next) n (fits-next n (q .next) (q .count) f), and-true, all-map, same)
+        let m = le-leb (q .count) n (fits-count n (q .next) (q .count) f) in
+        let h = lt-ltb (q .next) n (fits-next n (q .next) (q .count) f) in
+        rw (kept-all f, m, h, and-true, all-map, same)

@@ -1,4 +1,5 @@
--- A look-up, turn by turn, and in the two parts of a ring: the places below `next`, and the rest at the end of the slices.
+-- A look-up, turn by turn, and in the two parts of a ring: the places below `next`, and the rest at the end of the
+-- slices.
 use mathlib.Core.Path.{_≡_, refl, sym, ap, _∙_}
 use mathlib.Core.Bool.{Bool, true, false}
 use mathlib.Core.List.{List, [], _∷_, _++_, map, map-append}
@@ -11,7 +12,8 @@ use Rattle.laws.specs.Ring.{back, placesBefore, ringFits, keptPlaces, ringPlace
 use Rattle.laws.proofs.Truth.{both-left, both-right}
 use Rattle.laws.proofs.Rings.{map-getD, kept-at}
 use Rattle.laws.proofs.RingScan.{back-pos, places-split, places-length}
-use Rattle.protocol.specs.Memory.{Memory, Number, Query, queryAt, queriesIn, numberFrom, sameNumber, Found, Absent, At, later, pickFound, find, isFound}
+use Rattle.protocol.specs.Memory.{Memory, Number, Query, queryAt, queriesIn, numberFrom, sameNumber}
+use Rattle.protocol.specs.Memory.{Found, Absent, At, later, pickFound, find, isFound}
 use Rattle.memory.specs.Queries.{behind, FoundThere}
 use Rattle.memory.proofs.OrderLaws.{fits-next, kept-all}
 
@@ -19,7 +21,8 @@ behind-none : (f : Found) → behind 0 f ≡ f
 behind-none Absent = refl
 behind-none (At n a) = let e : 0 + n ≡ n = omega arith in rw e
 
-behind-pick : (t : Bool) (i a : ℕ) (f : Found) → behind i (pickFound t (At 0 a) (later f)) ≡ pickFound t (At i a) (behind (i + 1) f)
+behind-pick : (t : Bool) (i a : ℕ) (f : Found)
+    → behind i (pickFound t (At 0 a) (later f)) ≡ pickFound t (At i a) (behind (i + 1) f)
 behind-pick true i a f = let e : i + 0 ≡ i = omega arith in rw e
 behind-pick false i a Absent = refl
 behind-pick false i a (At n b) = let e : i + suc n ≡ i + 1 + n = omega arith in rw e
@@ -69,7 +72,8 @@ second-found : (f g : Found) → isFound f ≡ false → orElse f g ≡ g
 second-found Absent g e = refl
 second-found (At n a) g e = cc
 
-find-append : (xs ys : List Query) (x : Number) → find (xs ++ ys) x ≡ orElse (find xs x) (behind (length xs) (find ys x))
+find-append : (xs ys : List Query) (x : Number)
+    → find (xs ++ ys) x ≡ orElse (find xs x) (behind (length xs) (find ys x))
 unfolding find
 find-append [] ys x = sym (behind-none (find ys x))
 find-append (q ∷ xs) ys x = rw (find-append xs ys x) (by (sameNumber (q .number) x) (find xs x) (find ys x))
@@ -82,7 +86,8 @@ find-append (q ∷ xs) ys x = rw (find-append xs ys x) (by (sameNumber (q .numbe
     by false Absent Absent = refl
     by false Absent (At n a) = let e : suc (length xs + n) ≡ suc (length xs) + n = omega arith in rw e
 
-module _ (n : ℕ) (q : Memory) (x : Number) (first : ℕ) (fits : ringFits n (q .next) (q .count) ≡ true) (is : first ≡ min (q .count) (q .next)) where
+module _ (n : ℕ) (q : Memory) (x : Number) (first : ℕ)
+    (fits : ringFits n (q .next) (q .count) ≡ true) (is : first ≡ min (q .count) (q .next)) where
   abbrev newer : Found
   newer = find (map (queryAt q) (placesBefore n (q .next) first)) x
 
@@ -91,8 +96,10 @@ module _ (n : ℕ) (q : Memory) (x : Number) (first : ℕ) (fits : ringFits n (q
 
   parts : find (queriesIn n q) x ≡ orElse newer older
   parts =
-      rw (kept-all n q fits, places-split n (q .next) (q .count) (fits-next n (q .next) (q .count) fits), ← is, map-append)
-      (find-append (map (queryAt q) (placesBefore n (q .next) first)) (map (queryAt q) (placesBefore n n (q .count - first))) x
+      let split = places-split n (q .next) (q .count) (fits-next n (q .next) (q .count) fits) in
+      rw (kept-all n q fits, split, ← is, map-append)
+      (find-append (map (queryAt q) (placesBefore n (q .next) first))
+      (map (queryAt q) (placesBefore n n (q .count - first))) x
       ∙ rw (length-map, places-length))
 
   pub find-first : isFound (behind 0 newer) ≡ true → behind 0 newer ≡ find (queriesIn n q) x
@@ -132,4 +139,6 @@ unfolding queriesIn
 found-there n q x i a e =
     let r = found-index (queriesIn n q) x a i e in
     let h : i < length (keptPlaces n (q .next) (q .count)) = rw length-map at (r .0) in
-    ap (queryAt q) (sym (kept-at n (q .next) (q .count) i h)) ∙ sym (map-getD (queryAt q) (keptPlaces n (q .next) (q .count)) i 0 none h) ∙ r .1
+    ap (queryAt q) (sym (kept-at n (q .next) (q .count) i h))
+    ∙ sym (map-getD (queryAt q) (keptPlaces n (q .next) (q .count)) i 0 none h)
+    ∙ r .1

@@ -1,8 +1,8 @@
-// Whether every remembered query's asker is an open line, here or gone. The tests pass over bytes without a way out, so that many
-// bytes are tested at a time.
+// Whether every remembered query's asker is an open line, here or gone. The tests pass over bytes without a way out,
+// so that many bytes are tested at a time.
 ghost use Prim.Native.Nat.{ℕ, _<_, _≤_};
 ghost use mathlib.Core.Path.{_≡_};
-ghost use mathlib.Core.Bool.{Bool, false, _||_};
+ghost use mathlib.Core.Bool.{Bool, false};
 ghost use lib.ListN.{length, getD};
 ghost use Rattle.laws.specs.Ring.{placesBefore};
 ghost use Rattle.laws.specs.Tests.{all};
@@ -26,16 +26,6 @@ fn all_fit_beside(part: &[u8], line: u8) -> bool
     good
 }
 
-fn open_or_absent(live: bool, part: &[u8], line: u8) -> bool
-    ensures { λ r. ⌜ r ≡ (live || all (fitsBeside line) (now (part .entry))) ⌝ }
-{
-    if live {
-        true
-    } else {
-        all_fit_beside(part, line)
-    }
-}
-
 // One pass for each closed line, and one before them for nobody, who is no line.
 fn part_fits(part: &[u8], live: [bool; 8]) -> bool
     ensures { λ r. ⌜ r ≡ all (askerFits (λ k. getD live k false)) (now (part .entry)) ⌝ }
@@ -43,7 +33,9 @@ fn part_fits(part: &[u8], live: [bool; 8]) -> bool
     let mut good = all_fit_beside(part, NOBODY);
     let mut k = 0;
     while k < 8 {
-        good = good & open_or_absent(live[k], part, k as u8);
+        if !live[k] {
+            good = good & all_fit_beside(part, k as u8);
+        }
         k += 1;
     }
     good

@@ -1,63 +1,66 @@
 // Whether no number stands twice among the remembered queries, in one pass over them.
-ghost use Prim.Native.Nat.{_+_, _<_, _≤_};
+ghost use Prim.Native.Nat.{_+_, _-_, _<_, _≤_};
 ghost use mathlib.Core.Path.{_≡_};
-ghost use mathlib.Core.Bool.{false};
 ghost use lib.ListN.{length};
 ghost use Rattle.protocol.specs.Memory.{memoryOf};
 ghost use Rattle.memory.specs.Queries.{queriesBefore};
-ghost use Rattle.memory.specs.Order.{isMet, Passed, Tested};
+ghost use Rattle.memory.specs.Order.{Passed, Filled, Tested};
 use crate::places::below;
 use crate::places::word_at;
 use crate::search::find;
 
-// Does the number at place p stand among the n queries before it? They are looked through only where it may.
-fn met<'a>(maybe: bool, lo: &'a [u64], hi: &'a [u64], asker: &'a [u8], p: usize, n: usize) -> bool
-    requires { ⌜ (p < length (now lo)) × (n ≤ length (now lo)) ⌝ }
-    requires { ⌜ (maybe ≡ false → isMet (length (now lo)) (memoryOf (now lo) (now hi) (now asker) n p) ≡ false) ⌝ }
-    ensures { λ r. ⌜ r ≡ isMet (length (now (lo .entry))) (memoryOf (now (lo .entry)) (now (hi .entry)) (now (asker .entry)) n p) ⌝ }
+// A word of the filter joins the first halves passed that agree in their lowest ten bits: a number with a bit that
+// its word lacks was not passed. From place `from` on such numbers are put in. The place of the first other one, or
+// `to`.
+fn fill(lo: &[u64], from: usize, to: usize, filter: &mut [u64; 1024]) -> usize
+    requires { ⌜ (from ≤ to) × (to ≤ length (now lo)) × (length (now filter) ≡ 1024) ⌝ }
+    ensures { λ r. ⌜ Filled (now (lo .entry)) from to r (now (filter .entry)) (now (filter .exit)) ⌝ }
 {
-    if maybe {
-        let r = find(lo, hi, asker, n, p, lo[p], word_at(hi, p));
-        r.found
-    } else {
-        false
+    let mut p = from;
+    while p < to {
+        let a = lo[p];
+        let h = (a % 1024) as usize;
+        let word = filter[h];
+        let more = word | a;
+        if more == word {
+            return p;
+        }
+        filter[h] = more;
+        p += 1;
     }
+    p
 }
 
-// The n queries from place `from` on, behind `passed` older ones. A word of the filter joins the first halves passed that agree in their lowest
-// ten bits: a number with a bit that its word lacks was not passed.
+// The queries at the places `from` to `to`, behind `passed` older ones. Only a number that the filter does not tell
+// from those passed is looked up among them.
 fn no_twice_in<'a>(
     lo: &'a [u64],
     hi: &'a [u64],
     asker: &'a [u8],
     from: usize,
-    n: usize,
+    to: usize,
     passed: usize,
     filter: &mut [u64; 1024],
 ) -> bool
-    requires { ⌜ (from + n ≤ length (now lo)) × (passed + n ≤ length (now lo)) ⌝ }
+    requires { ⌜ (from ≤ to) × (to ≤ length (now lo)) × (passed + (to - from) ≤ length (now lo)) ⌝ }
     requires { ⌜ Passed (now filter) (queriesBefore (length (now lo)) (memoryOf (now lo) (now hi) (now asker) passed from)) ⌝ }
     ensures { λ r.
-        let ring = memoryOf (now (lo .entry)) (now (hi .entry)) (now (asker .entry)) (passed + n) (from + n) in
+        let ring = memoryOf (now (lo .entry)) (now (hi .entry)) (now (asker .entry)) (passed + (to - from)) to in
         ⌜ Tested r (now (filter .exit)) (queriesBefore (length (now (lo .entry))) ring) ⌝ }
 {
-    let mut i = 0;
-    while i < n {
-        let p = from + i;
-        let a = lo[p];
-        let h = (a % 1024) as usize;
-        let word = filter[h];
-        let more = word | a;
-        if met(more == word, lo, hi, asker, p, passed + i) {
+    let mut p = fill(lo, from, to, filter);
+    while p < to {
+        let r = find(lo, hi, asker, passed + (p - from), p, lo[p], word_at(hi, p));
+        if r.found {
             return false;
         }
-        filter[h] = more;
-        i += 1;
+        p = fill(lo, p + 1, to, filter);
     }
     true
 }
 
-// The oldest queries are those at the end of the slices. The filter is handed in empty: bits that no number brought only cost look-ups.
+// The oldest queries are those at the end of the slices. The filter is handed in empty: bits that no number brought
+// only cost look-ups.
 pub(crate) fn no_twice<'a>(
     lo: &'a [u64],
     hi: &'a [u64],
@@ -73,8 +76,9 @@ pub(crate) fn no_twice<'a>(
 {
     let first = below(count, next);
     let rest = count - first;
-    if !no_twice_in(lo, hi, asker, lo.len() - rest, rest, 0, filter) {
+    let capacity = lo.len();
+    if !no_twice_in(lo, hi, asker, capacity - rest, capacity, 0, filter) {
         return false;
     }
-    no_twice_in(lo, hi, asker, next - first, first, rest, filter)
+    no_twice_in(lo, hi, asker, next - first, next, rest, filter)
 }

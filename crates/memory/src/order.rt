@@ -38,8 +38,8 @@ fn in_order<'a>(
     no_twice(lo, hi, asker, count, next, filter)
 }
 
-// The test of order and the look-up of the number (low, high) at once: the filter that the test fills rules out nearly every new number.
-// `live` says which lines are open.
+// The test of order and the look-up of the number (low, high) at once: the filter that the test fills rules out
+// nearly every new number. `live` says which lines are open.
 pub fn survey<'a>(
     lo: &'a [u64; 512],
     hi: &'a [u64; 512],

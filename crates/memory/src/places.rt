@@ -16,8 +16,8 @@ pub fn byte_at(s: &[u8], i: usize) -> u8
     if i < s.len() { s[i] } else { 0 }
 }
 
-// The kept places of a ring are those just below `next`, as many as there are or are kept, and the rest at the end of its slices. This many are
-// below.
+// The kept places of a ring are those just below `next`, as many as there are or are kept, and the rest at the end of
+// its slices. This many are below.
 pub(crate) fn below(count: usize, next: usize) -> usize
     ensures { λ r. ⌜ r ≡ min count next ⌝ }
 {

@@ -20,8 +20,8 @@ pub(crate) fn absent() -> Lookup
     }
 }
 
-// The newest query with the number (a, b) among the n before place `from`, behind `passed` newer ones. One comparison passes over nearly every
-// other query.
+// The newest query with the number (a, b) among the n before place `from`, behind `passed` newer ones. One comparison
+// passes over nearly every other query.
 fn newest<'a>(
     lo: &'a [u64],
     hi: &'a [u64],

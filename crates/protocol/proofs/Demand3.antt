@@ -31,9 +31,10 @@ use Rattle.protocol.specs.Queries.{usualLimit, lifeOf, textIn, passes, g
 use Rattle.protocol.specs.Pings.{isProbe, timeKept}
 use Rattle.protocol.specs.Calls.{opening, closedState, closing, updateStep, arrived, arriving, ownAnswer}
 use Rattle.protocol.specs.Calls.{ownTaken, asking}
-use Rattle.protocol.specs.Runs.{Area, Same, Other, Call, Open, Close, Message, Ask, World, unsent, lent, keptArea}
+use Rattle.protocol.specs.Runs.{Area, Same, Other, Call, Open, Close, Message, Ask, World, unsent, lent}
+use Rattle.protocol.specs.Runs.{keptArea}
 use Rattle.protocol.specs.Runs.{outcomeOf, areaAfter, step, run, start, FairArea, FairCall, Fair}
-use Rattle.protocol.specs.Expected.{Expected, wiped, brings, asks, brought, isUpdateOf, expectedAnswer, hears}
+use Rattle.protocol.specs.Expected.{Expected, wiped, asks, brought, isUpdateOf, expectedAnswer, hears}
 use Rattle.protocol.specs.Expected.{feed, expected}
 use Rattle.protocol.specs.History.{Update, updatesOf, sumAt}
 use Rattle.protocol.specs.Demand3.{lifeLeft, MayGo, Forwarded, updateIn, Agrees, entriesAt, Stands, Demand3}
@@ -52,15 +53,6 @@ abbrev Good : (limit L room : ℕ) → Call → Expected → List Update → Lis
 Good limit L room c e us area o =
     Matches L room (feed L room (brought c) (unsent c (o .answer)) e) (o .state) (areaAfter c area (o .route))
     × Agrees limit L room e us c o
-
-feed-unsent : (L room : ℕ) (c : Call) (e : Expected) (b : Bool) → b ≡ true → feed L room (brought c) b e ≡ e
-unfolding feed
-feed-unsent L room c e b u = ap (λ b. feed L room (brought c) b e) u
-
-feed-message : (L room l : ℕ) (m : List ℕ) (e : Expected) (a b : Bool) → a ≡ false → isUpdateOf L l m ≡ b
-    → feed L room (brings l m) a e ≡ cond b (hears room m e) e
-unfolding feed
-feed-message L room l m e a b u v = ap (λ c. feed L room (brings l m) c e) u ∙ ap (λ c. cond c (hears room m e) e) v
 
 feed-ask : (L room : ℕ) (b : Bool) (e : Expected) → feed L room asks b e ≡ e
 unfolding feed
@@ -106,11 +98,8 @@ module _ (limit L room : ℕ) (seven : L ≤ 7) (e : Expected) (us : List Update
         → (o .answer ≡ 0 → kindOf m ≡ 0x80
         → Forwarded e us (MayGo limit e L l m) text (lifeLeft limit m - 1) (getD (o .to) L false))
         → AfterMessage o
-    aside o u v w g = (
-      subst (λ (x : Expected). Matches L room x (o .state) (o .route))
-          (sym (feed-message L room l m e (unused (o .answer)) false u v)) (left-alone q w),
-      ((λ _ y. absurd (clash y v)), g),
-    )
+    unfolding feed
+    aside o u v w g = (rw (u, v) (left-alone q w), ((λ _ y. absurd (clash y v)), g))
 
     not-update : eqb (kindOf m) routeUpdate ≡ false → isUpdateOf L l m ≡ false
     not-update k = ap (λ b. eqb l L && b) k ∙ and-false (eqb l L)
@@ -206,14 +195,13 @@ module _ (limit L room : ℕ) (seven : L ≤ 7) (e : Expected) (us : List Update
         ∙ (λ i. record { table = then′ .table; entries = g i })
 
     own-update : After (Message L m t Same) o
-    unfolding updateStep
+    unfolding updateStep feed
     own-update =
         let u : isUpdateOf L L m ≡ true = ap₂ (λ a b. a && b) (eq-eqb L L refl) k in
         let v : lineAt (o .state) L .live ≡ lineAt s L .live = ap (λ (x : Line). x .live) line-then in
         let a : o .answer ≡ expectedAnswer room e m
         = ap₂ (λ r h. updateAnswer r h (ttlOf m) (hopsOf m) (payloadOf m)) (q .sameRoom) (sym (q .whileOpen open′)) in (
-          subst (λ (x : Expected). Matches L room x (o .state) (o .route))
-              (sym (feed-message L room L m e (unused (o .answer)) true (update-answered L m t) u))
+          rw (update-answered L m t, u)
               (record {
                 sameRoom = q .sameRoom;
                 eight = length-set (s .lines) L line ∙ q .eight;
@@ -259,10 +247,11 @@ module _ (limit L room : ℕ) (seven : L ≤ 7) (e : Expected) (us : List Update
   -- an area of another room is refused
   message-good : (l : ℕ) (m : List ℕ) (t : Terms) (a : Area) → FairArea room a
       → After (Message l m t a) (arriving limit s l m t (lent a area))
+  unfolding feed
   message-good l m t a f =
       of-message (After (Message l m t a)) s l m (lent a area) limit t
       (λ n u. (
-        rw (feed-unsent L room (Message l m t a) e (unused n) u, kept-lent a area) q,
+        rw (u, kept-lent a area) q,
         ((λ v. absurd (clash u v)), (λ z. absurd (unused-some n u z))),
       ))
       (let-in-good a f)
@@ -327,16 +316,14 @@ module _ (limit L room : ℕ) (seven : L ≤ 7) (e : Expected) (us : List Update
   opening-good l =
       of-refused (After (Open l)) (firstOf (openingIn s l)) s [] (quiet 0 (withLine s l (emptyLine true)) [])
       (λ _. (turned (withLine s l (emptyLine true)) l true refl refl, (λ _. refl)))
-      (λ n. let u = all-unused (openingIn s l) refl n in
-      (rw (feed-unsent L room (Open l) e (unused (firstOf (openingIn s l))) u) q, (λ v. absurd (clash u v))))
+      (λ n. let u = all-unused (openingIn s l) refl n in (rw u q, (λ v. absurd (clash u v))))
 
   closing-good : (l : ℕ) → After (Close l) (closing s l)
   unfolding closing feed
   closing-good l =
       of-refused (After (Close l)) (firstOf (closingIn s l)) s [] (quiet 0 (closedState s l) [])
       (λ _. (turned (closedState s l) l false refl refl, (λ _. refl)))
-      (λ n. let u = all-unused (closingIn s l) refl n in
-      (rw (feed-unsent L room (Close l) e (unused (firstOf (closingIn s l))) u) q, (λ v. absurd (clash u v))))
+      (λ n. let u = all-unused (closingIn s l) refl n in (rw u q, (λ v. absurd (clash u v))))
 
 -- every call
 module _ (L room : ℕ) (seven : L ≤ 7) (e : Expected) (us : List Update) (told : Accounts (e .held) us)

@@ -31,7 +31,8 @@ use Rattle.protocol.proofs.Outcomes.{is-open, is-closed, LetIn, asked-i
 use Rattle.protocol.proofs.ByType.{pingDone, pongDone, updateDone, queryDone, hitDone, queryIn}
 use Rattle.protocol.proofs.ByType.{of-types, of-message}
 use Rattle.protocol.proofs.Memory.{remembered-left}
-use Rattle.protocol.proofs.Kept.{fitsIn, open-still, remembered-one}
+use Rattle.protocol.proofs.InOrder.{fitsIn}
+use Rattle.protocol.proofs.Kept.{open-still, remembered-one}
 
 -- What a call does to the memory: it takes a query, closes a line, or neither
 pub record Takes (s : Station) (c : Call) (o : Outcome) : Type 0 where
@@ -59,31 +60,20 @@ pub record Effect (s : Station) (c : Call) (o : Outcome) : Type 0 where
   pub stays : (l : ℕ) → lineAt s l .live ≡ true → closed c (o .answer) l ≡ false
       → (opened c (o .answer) l ≡ false) × (lineAt (o .state) l .live ≡ true)
 
--- a refused call
-took-not : (c : Call) (n : ℕ) → eqb n 0 ≡ false → took c n ≡ false
-took-not (Open k) n e = refl
-took-not (Close k) n e = refl
-took-not (Message k m t a) n e = ap (λ b. eqb (kindOf m) 0x80 && b) e ∙ and-false (eqb (kindOf m) 0x80)
-took-not (Ask number text t a) n e = e
-
-closed-not : (c : Call) (n l : ℕ) → eqb n 0 ≡ false → closed c n l ≡ false
-closed-not (Open k) n l e = refl
-closed-not (Close k) n l e = ap (λ b. eqb l k && b) e ∙ and-false (eqb l k)
-closed-not (Message k m t a) n l e = refl
-closed-not (Ask number text t a) n l e = refl
-
-opened-not : (c : Call) (n l : ℕ) → eqb n 0 ≡ false → opened c n l ≡ false
-opened-not (Open k) n l e = ap (λ b. eqb l k && b) e ∙ and-false (eqb l k)
-opened-not (Close k) n l e = refl
-opened-not (Message k m t a) n l e = refl
-opened-not (Ask number text t a) n l e = refl
+-- a refused call takes, closes and opens nothing
+not-done : (c : Call) (n : ℕ) → eqb n 0 ≡ false
+    → (took c n ≡ false) × ((l : ℕ) → (closed c n l ≡ false) × (opened c n l ≡ false))
+not-done (Open k) n e = (refl, λ l. (refl, rw (e, and-false)))
+not-done (Close k) n e = (refl, λ l. (rw (e, and-false), refl))
+not-done (Message k m t a) n e = (rw (e, and-false), λ l. (refl, refl))
+not-done (Ask number text t a) n e = (e, λ l. (refl, refl))
 
 refused-effect : (s : Station) (c : Call) (n : ℕ) (route : List ℕ) → (n ≡ 0 → ⊥) → Effect s c (quiet n s route)
 refused-effect s c n route ne =
-    let e : eqb n 0 ≡ false = ne-eqb n 0 ne in
+    let h = not-done c n (ne-eqb n 0 ne) in
     record {
-      does = inr (inr (record { passed = took-not c n e; unclosed = λ l. closed-not c n l e; memory = refl }));
-      stays = λ l v _. (opened-not c n l e, v);
+      does = inr (inr (record { passed = h .0; unclosed = λ l. h .1 l .0; memory = refl }));
+      stays = λ l v _. (h .1 l .1, v);
     }
 
 -- an arriving message that was let in

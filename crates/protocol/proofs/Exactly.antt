@@ -4,16 +4,16 @@
 use Prim.Native.Nat.{ℕ, zero, suc, _/_, _≤_, _<_}
 use native.Mathlib.Omega.{arith}
 use mathlib.Core.Path.{_≡_, refl, sym, ap, _∙_}
-use mathlib.Core.Bool.{Bool, true, false, not, _||_, false≢true}
+use mathlib.Core.Bool.{Bool, true, false, not, _&&_, _||_, false≢true}
 use mathlib.Core.Logic.{_↔_, ⊎-elim, Iff·trans}
 use mathlib.Core.List.{List, [], _∷_, _++_}
 use lib.Dec.{eqb, leb, ltb}
 use lib.ListN.{length, getD, drop}
-use borrow.Author.Tests.{ltb-false, le-ltb, eqb-true, eq-eqb, not-true}
+use borrow.Author.Tests.{eqb-true, eq-eqb}
 use Rattle.laws.specs.Tests.{firstOf, any, all}
-use Rattle.laws.proofs.Refusals.{or-split, or-left, or-right}
+use Rattle.laws.proofs.Refusals.{clash, or-split, or-left, or-right, all-weaken}
 use Rattle.laws.proofs.Words.{or-iff, none-iff, some-iff, no-iff, yes-iff, eqb-iff, other-iff, less-iff, not-less-iff}
-use Rattle.laws.proofs.Words.{most-iff, first-iff, past-iff}
+use Rattle.laws.proofs.Words.{least-iff, most-iff, first-iff, past-iff, refuted}
 use Rattle.wire.specs.Header.{headerIn, kindOf, ttlOf, hopsOf, sizeOf, payloadOf}
 use Rattle.protocol.specs.State.{Station, lookedUp, lineAt}
 use Rattle.protocol.specs.Memory.{numberIn}
@@ -41,17 +41,8 @@ module _ (s : Station) (out : ℕ) (route : List ℕ) where
   fit-iff : (badAreas s out route ≡ false) ↔ Areas s out route
   fit-iff = (areas-of s out route, areas-fit s out route)
 
-over-iff : (l : ℕ) → (not (ltb l 8) ≡ true) ↔ (7 < l)
-over-iff l = (there, back)
-  where
-    there : not (ltb l 8) ≡ true → 7 < l
-    there e = let h : 8 ≤ l = ltb-false l 8 (not-true (ltb l 8) e) in omega arith
-
-    back : 7 < l → not (ltb l 8) ≡ true
-    back h = ap not (le-ltb l 8 (omega arith))
-
 closed-iff : (s : Station) (l : ℕ) → (notOpen l (lineAt s l .live) ≡ true) ↔ LineNotOpen s l
-closed-iff s l = or-iff (not (ltb l 8)) (not (lineAt s l .live)) (over-iff l) (no-iff (lineAt s l .live))
+closed-iff s l = or-iff (not (ltb l 8)) (not (lineAt s l .live)) (least-iff l 8) (no-iff (lineAt s l .live))
 
 named-iff : (m : List ℕ) → (any (eqb (kindOf m)) (0x00 ∷ 0x01 ∷ 0x30 ∷ 0x80 ∷ 0x81 ∷ []) ≡ true) ↔ Named m
 named-iff m =
@@ -119,34 +110,28 @@ module _ (s : Station) (l : ℕ) (m : List ℕ) (t : Terms) (route : List ℕ) w
   abbrev fromAreas : List (Bool × ℕ)
   fromAreas = (bad, 2) ∷ fromLine
 
-  -- numbers that no type's rules have
-  abbrev Lacks : ℕ → Type 0
-  Lacks n = all (λ c. not (eqb (c .1) n)) (typeRules s l (t .clock) m route) ≡ true
+  -- the numbers of the types' rules: 6, and 8 and up
+  abbrev typed : ℕ → Bool
+  typed n = leb 6 n && not (eqb n 7)
 
-  lacks-one : Lacks 1
-  lacks-one = types-all s l m t route (λ c. not (eqb (c .1) 1)) refl refl refl refl refl
-
-  lacks-two : Lacks 2
-  lacks-two = types-all s l m t route (λ c. not (eqb (c .1) 2)) refl refl refl refl refl
-
-  lacks-three : Lacks 3
-  lacks-three = types-all s l m t route (λ c. not (eqb (c .1) 3)) refl refl refl refl refl
-
-  lacks-seven : Lacks 7
-  lacks-seven = types-all s l m t route (λ c. not (eqb (c .1) 7)) refl refl refl refl refl
+  lacks : (n : ℕ) → typed n ≡ false → all (λ c. not (eqb (c .1) n)) (typeRules s l (t .clock) m route) ≡ true
+  lacks n h =
+      all-weaken (λ c. typed (c .1)) (λ c. not (eqb (c .1) n)) (typeRules s l (t .clock) m route)
+      (λ c p. ap not (refuted _ (λ e. clash p (ap typed (eqb-true (c .1) n e) ∙ h))))
+      (types-all s l m t route (λ c. typed (c .1)) refl refl refl refl refl)
 
   early-exactly : EarlyExactly s l (t .out) route answer
   early-exactly =
       rw (numbers s l m t route)
       (record {
-        one = Iff·trans (first-iff 1 (not (inOrder s)) fromAreas lacks-one refl) (no-iff (inOrder s));
+        one = Iff·trans (first-iff 1 (not (inOrder s)) fromAreas (lacks 1 refl) refl) (no-iff (inOrder s));
         two =
             past-iff 2 (not (inOrder s)) 1 fromAreas refl (yes-iff (inOrder s))
-            (Iff·trans (first-iff 2 bad fromLine lacks-two refl) (unfit-iff s (t .out) route));
+            (Iff·trans (first-iff 2 bad fromLine (lacks 2 refl) refl) (unfit-iff s (t .out) route));
         three =
             past-iff 3 (not (inOrder s)) 1 fromAreas refl (yes-iff (inOrder s))
             (past-iff 3 bad 2 fromLine refl (fit-iff s (t .out) route)
-            (Iff·trans (first-iff 3 (notOpen l (lineAt s l .live)) fromExtent lacks-three refl) (closed-iff s l)));
+            (Iff·trans (first-iff 3 (notOpen l (lineAt s l .live)) fromExtent (lacks 3 refl) refl) (closed-iff s l)));
       })
 
   -- 7, and 6 and 8 of a query, of a message that has arrived
@@ -157,7 +142,7 @@ module _ (s : Station) (l : ℕ) (m : List ℕ) (t : Terms) (route : List ℕ) w
     seven-exactly : (answer ≡ 7) ↔ (Named m → ⊥)
     seven-exactly =
         rw by-its-type
-        (Iff·trans (first-iff 7 (unnamed m) (typeRules s l (t .clock) m route) lacks-seven refl)
+        (Iff·trans (first-iff 7 (unnamed m) (typeRules s l (t .clock) m route) (lacks 7 refl) refl)
         (none-iff _ (named-iff m)))
 
     module _ (k : kindOf m ≡ 0x80) where

@@ -6,13 +6,14 @@ use native.Mathlib.Nat.{mul-div-cancel, one-le-pow, pow-suc, div-eq-of-lt, mul-z
 use native.Mathlib.Omega.{arith}
 use mathlib.Core.Path.{_≡_, refl, sym, ap, _∙_, subst}
 use mathlib.Core.Bool.{Bool, true, false, cond, not, _&&_, _||_}
-use mathlib.Core.Logic.{_↔_, ⊎-elim}
+use mathlib.Core.Logic.{_↔_, ⊎-elim, Iff·rfl}
 use mathlib.Core.List.{List, [], _∷_, map}
 use lib.Dec.{eqb, leb}
 use lib.ListN.{length, getD}
-use borrow.Author.Tests.{leb-true, le-leb, lt-leb, eqb-true, eqb-false, eq-eqb, ne-eqb, not-true}
+use borrow.Author.Tests.{leb-true, lt-leb, eqb-true, eq-eqb}
 use Rattle.laws.specs.Tests.{any, all}
-use Rattle.laws.proofs.Refusals.{clash, and-fst, and-snd, and-intro, or-split, or-left, or-right}
+use Rattle.laws.proofs.Refusals.{clash, and-fst, and-snd, or-split, or-left, or-right}
+use Rattle.laws.proofs.Words.{and-iff, none-iff, other-iff, most-iff}
 use Rattle.wire.specs.Header.{headerIn, payloadOf}
 use Rattle.keywords.specs.Keywords.{keywordsOf}
 use Rattle.keywords.specs.Hash.{hashOf, placeOf, scaled}
@@ -67,20 +68,6 @@ scaled-place n k e =
     (place-scaled (b .0) k (b .1) ∙ ap (λ x. placeOf x k) (sym (halvings-power 32 (b .0) (b .1)))))
     (or-split (eqb n 0) (any (eqb n) lengths) e)
 
--- tests and what they say
-pub other-iff : (l k : ℕ) → (isOther l k ≡ true) ↔ (k ≡ l → ⊥)
-other-iff l k = ((λ z. eqb-false k l (not-true (eqb k l) z)), (λ f. rw (ne-eqb k l f)))
-
-not-iff : (b : Bool) {P : Type 0} → (b ≡ true) ↔ P → (not b ≡ true) ↔ (P → ⊥)
-not-iff true e = ((λ z. absurd (clash z refl)), λ f. absurd (f (e .0 refl)))
-not-iff false e = ((λ _ p. clash (e .1 p) refl), λ _. refl)
-
-pub and-iff : (a b : Bool) {P Q : Type 0} → (a ≡ true) ↔ P → (b ≡ true) ↔ Q → ((a && b) ≡ true) ↔ (P × Q)
-and-iff a b e f = (
-  (λ z. (e .0 (and-fst a b z), f .0 (and-snd a b z))),
-  (λ w. and-intro a b (e .1 (w .0)) (f .1 (w .1))),
-)
-
 -- a table that is expected and sound
 module _ (room : ℕ) (e : Expected) (sound : Sound room (e .held)) where
   entry-same : (k : List ℕ) → entryOf (e .held) (hashOf k) ≡ entryFor e k
@@ -100,8 +87,8 @@ module _ (room : ℕ) (e : Expected) (sound : Sound room (e .held)) where
   pub passes-iff : (text : List ℕ) (ttl : ℕ)
       → (passing text ttl ≡ true) ↔ ((e .live ≡ true) × (Withheld e text ttl → ⊥))
   passes-iff text ttl =
-      and-iff (e .live) (not (withheld text ttl)) ((λ z. z), (λ z. z))
-      (not-iff (withheld text ttl) (withheld-iff text ttl))
+      and-iff (e .live) (not (withheld text ttl)) Iff·rfl
+      (none-iff (withheld text ttl) (withheld-iff text ttl))
 
   pub goes-iff : (limit L l : ℕ) (m : List ℕ)
       → (goesOn (lifeOf limit (headerIn m)) l L (e .live) (e .held) (textIn (payloadOf m)) ≡ true)
@@ -110,8 +97,8 @@ module _ (room : ℕ) (e : Expected) (sound : Sound room (e .held)) where
       let life : ℕ = lifeLeft limit m in
       let text : List ℕ = textIn (payloadOf m) in
       let p = passes-iff text (life - 1) in
-      let q = and-iff (leb 2 life) (passing text (life - 1)) (leb-true 2 life, le-leb 2 life) p in
-      let r = and-iff (isOther l L) (leb 2 life && passing text (life - 1)) (other-iff l L) q in (
+      let q = and-iff (leb 2 life) (passing text (life - 1)) (most-iff 2 life) p in
+      let r = and-iff (isOther l L) (leb 2 life && passing text (life - 1)) (other-iff L l) q in (
         (λ z. let w = r .0 z in ((w .1 .1 .0, w .0, w .1 .0), w .1 .1 .1)),
         (λ w. r .1 (w .0 .1, (w .0 .2, (w .0 .0, w .1)))),
       )

@@ -17,7 +17,8 @@ use Rattle.protocol.specs.Kept.{asked, leftBy}
 use Rattle.protocol.specs.Demand2.{broughtNumber, broughtBy, Origin, Unknown, Here, From, Gone, origin, askerNow}
 use Rattle.protocol.specs.Demand2.{GoneForever}
 use Rattle.protocol.proofs.Effects.{call-effect}
-use Rattle.protocol.proofs.Origins.{unknown-of, same-number, SameLookUp, Invariant, begins, goes-on, holds-after}
+use Rattle.protocol.proofs.Origins.{unknown-of, same-number, SameLookUp, Invariant, begins, goes-on}
+use Rattle.protocol.proofs.Origins.{holds-after}
 use Rattle.protocol.proofs.Origins.{looked-up}
 
 -- In the remembered queries: gone is still gone after a closing, and after one more query gone or not there
@@ -88,6 +89,10 @@ module _ (base : List Query) (x : Number) where
   gone-step : (w : World) → Invariant base w → (c : Call) → from w ≡ Gone
       → (from (step w c) ≡ Gone) ⊎ (from (step w c) ≡ Unknown)
   gone-step w v c e =
+      let w′ : World = step w c in
+      let v′ : Invariant base w′ = goes-on base w v c in
+      let was : askerOf (found w) ≡ gone = looked-up base w v x .asker ∙ ap askerNow e in
+      let now : SameLookUp (found w′) (from w′) = looked-up base w′ v′ x in
       ⊎-elim
       (λ q. inl (gone-of (from w′) (λ l n f. v′ .since (λ _. false) capacity x l n f .below) (sym (now .asker) ∙ q)))
       (λ q. inr (unknown-of (from w′) (sym (now .found) ∙ q)))
@@ -97,18 +102,6 @@ module _ (base : List Query) (x : Number) where
       (λ t. inl (rw (t .memory) (gone-left (t .line) x (remembered (w .state)) was)))
       (λ t. inl (rw (t .memory) was)))
       (call-effect w (v .sized) (v .order) c .does))
-    where
-      w′ : World
-      w′ = step w c
-
-      v′ : Invariant base w′
-      v′ = goes-on base w v c
-
-      was : askerOf (found w) ≡ gone
-      was = looked-up base w v x .asker ∙ ap askerNow e
-
-      now : SameLookUp (found w′) (from w′)
-      now = looked-up base w′ v′ x
 
   gone-list : (w : World) → Invariant base w → (cs : List Call) → from w ≡ Gone
       → (from (run w cs) ≡ Gone) ⊎ ((ps qs : List Call) × (cs ≡ ps ++ qs) × (from (run w ps) ≡ Unknown))

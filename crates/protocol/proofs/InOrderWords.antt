@@ -5,18 +5,19 @@ use native.Mathlib.Nat.{mod-eq-of-lt, add-mod-right}
 use native.Mathlib.Omega.{arith}
 use mathlib.Core.Path.{_≡_, refl, sym, ap, _∙_}
 use mathlib.Core.Bool.{Bool, true, false, cond, not, _&&_, _||_}
-use mathlib.Core.Logic.{inl, inr, ⊎-elim}
+use mathlib.Core.Logic.{_↔_, ⊎-elim, Iff·rfl}
 use mathlib.Core.List.{List, [], _∷_, map}
 use lib.Dec.{eqb, leb, ltb}
 use lib.ListN.{length, getD, length-map}
 use borrow.Author.Tests.{eqb-true, eqb-false, eq-eqb, ne-eqb, leb-true, le-leb, ltb-true, ltb-false, lt-ltb, not-true}
 use Rattle.laws.specs.Tests.{any, all}
 use Rattle.laws.specs.Ring.{placesBefore, keptPlaces}
-use Rattle.laws.proofs.Chunks.{failed}
-use Rattle.laws.proofs.Refusals.{clash, and-fst, and-snd, and-intro, or-fst, or-snd, or-left, or-right, or-split}
-use Rattle.laws.proofs.Refusals.{or-rest, all-getD, each}
-use Rattle.laws.proofs.Ranks.{places-length, place-low, place-high}
+use Rattle.laws.proofs.Words.{and-iff, or-iff, no-iff, eqb-iff, most-iff, refuted, decided}
+use Rattle.laws.proofs.Refusals.{clash, and-fst, and-snd, and-intro, or-fst, or-snd, or-right}
+use Rattle.laws.proofs.Refusals.{or-rest, all-getD}
+use Rattle.laws.proofs.Ranks.{place-low, place-high}
 use Rattle.laws.proofs.Rings.{map-getD}
+use Rattle.laws.proofs.RingScan.{places-length}
 use Rattle.tables.specs.declared.Table.{Table}
 use Rattle.tables.specs.Tables.{broken, running, ready, goodLength, insideRun, betweenRuns, withinLimits}
 use Rattle.tables.specs.Tables.{tableInOrder}
@@ -27,13 +28,12 @@ use Rattle.protocol.specs.declared.Line.{Line}
 use Rattle.protocol.specs.State.{Station, remembered, lineAt}
 use Rattle.protocol.specs.Memory.{Memory, sameNumber, Query, queryAt, queriesIn, noTwice}
 use Rattle.protocol.specs.Lines.{nowhere, noPong, storedPongs}
-use Rattle.protocol.specs.Order.{emptyWhenClosed, lineInOrder, inOrder}
+use Rattle.protocol.specs.Order.{emptyWhenClosed, lowHops, lineInOrder, inOrder}
 use Rattle.protocol.specs.Kept.{Sized}
 use Rattle.protocol.specs.InOrderWords.{queryPlace, pongPlace, RestWords, RunWords, LimitWords, TableWords}
 use Rattle.protocol.specs.InOrderWords.{ClosedWords, LineWords, AskerWords, OneNumber}
 use Rattle.protocol.specs.InOrderWords.{InOrderWords, InOrderExactly}
-use Rattle.protocol.proofs.InOrder.{state-facts, state-order, line-facts, line-order}
-use Rattle.protocol.proofs.Kept.{fitsIn}
+use Rattle.protocol.proofs.InOrder.{fitsIn, asker-iff, state-facts, state-order, line-facts, line-order}
 
 -- ---- tests over a list, element by element
 
@@ -71,99 +71,66 @@ kept-are c p n hp hn = rw (le-leb n c hn, lt-ltb p c hp)
 
 -- what a ring keeps, read place by place
 module _ {A : Type 0} (c : ℕ) (f : ℕ → A) (d : A) (p n : ℕ) (hp : p < c) (hn : n ≤ c) where
-  kept-length : length (map f (keptPlaces c p n)) ≡ n
+  abbrev kept : List A
+  kept = map f (keptPlaces c p n)
+
+  kept-length : length kept ≡ n
   kept-length = length-map (keptPlaces c p n) f ∙ ap length (kept-are c p n hp hn) ∙ places-length c p n
 
-  kept-at : (i : ℕ) → i < n → getD (map f (keptPlaces c p n)) i d ≡ f ((p + (c - 1) - i) % c)
+  kept-at : (i : ℕ) → i < n → getD kept i d ≡ f ((p + (c - 1) - i) % c)
   kept-at i h =
       ap (λ (l : List ℕ). getD (map f l) i d) (kept-are c p n hp hn)
       ∙ map-getD f (placesBefore c p n) i 0 d (omega (arith, places-length c p n))
       ∙ ap f (place-at c p n i hp hn h)
 
-  each-kept : (t : A → Bool) → all t (map f (keptPlaces c p n)) ≡ true
-      → (i : ℕ) → i < n → t (f ((p + (c - 1) - i) % c)) ≡ true
-  each-kept t h i l = rw (kept-at i l) at (all-getD t (map f (keptPlaces c p n)) i d h (omega (arith, kept-length)))
-
-  all-kept : (t : A → Bool) → ((i : ℕ) → i < n → t (f ((p + (c - 1) - i) % c)) ≡ true)
-      → all t (map f (keptPlaces c p n)) ≡ true
-  all-kept t h =
-      all-each t d (map f (keptPlaces c p n))
-      (λ i l. let k : i < n = omega (arith, kept-length) in ap t (kept-at i k) ∙ h i k)
+  kept-iff : (t : A → Bool) → (all t kept ≡ true) ↔ ((i : ℕ) → i < n → t (f ((p + (c - 1) - i) % c)) ≡ true)
+  kept-iff t = (
+    (λ h i l. rw (kept-at i l) at (all-getD t kept i d h (omega (arith, kept-length)))),
+    (λ h. all-each t d kept (λ i l. let k : i < n = omega (arith, kept-length) in ap t (kept-at i k) ∙ h i k)),
+  )
 
 -- ---- tables
 
 -- waiting, running or settled
 ready-of : (m : ℕ) → 1 ≤ m → m ≤ 3 → ready m ≡ true
-ready-of m a b = by (eqb m 1) refl (eqb m 2) refl
-  where
-    by : (x : Bool) → eqb m 1 ≡ x → (y : Bool) → eqb m 2 ≡ y → ready m ≡ true
-    by true e y f = rw e
-    by false e true f = rw (e, f)
-    by false e false f =
-        let u = eqb-false m 1 e in
-        let v = eqb-false m 2 f in
-        let w : m ≡ 3 = omega arith in
-        rw w
+ready-of m a b =
+    decided (ready m)
+    (λ e. let r = or-snd (eqb m 1) (eqb m 2 || eqb m 3) e in
+    let u = eqb-false m 1 (or-fst (eqb m 1) (eqb m 2 || eqb m 3) e) in
+    let v = eqb-false m 2 (or-fst (eqb m 2) (eqb m 3) r) in
+    let w = eqb-false m 3 (or-snd (eqb m 2) (eqb m 3) r) in
+    absurd (omega arith))
 
 ready-least : (m : ℕ) → ready m ≡ true → (1 ≤ m) × (m ≤ 3)
 ready-least m e =
-    ⊎-elim
-    (λ a. let h : m ≡ 1 = eqb-true m 1 a in (omega arith, omega arith))
-    (λ r. ⊎-elim
-    (λ a. let h : m ≡ 2 = eqb-true m 2 a in (omega arith, omega arith))
-    (λ a. let h : m ≡ 3 = eqb-true m 3 a in (omega arith, omega arith))
-    (or-split (eqb m 2) (eqb m 3) r))
-    (or-split (eqb m 1) (eqb m 2 || eqb m 3) e)
+    ⊎-elim (λ h. (omega arith, omega arith))
+    (⊎-elim (λ h. (omega arith, omega arith)) (λ h. (omega arith, omega arith)))
+    (or-iff (eqb m 1) _ (eqb-iff m 1) (or-iff (eqb m 2) (eqb m 3) (eqb-iff m 2) (eqb-iff m 3)) .0 e)
 
-rest-words : (t : Table) → betweenRuns t ≡ true → RestWords t
-rest-words t e =
-    record {
-      place = eqb-true (t .nextplace) 1 (and-fst (eqb (t .nextplace) 1) (eqb (t .nextentry) 0) e);
-      entry = eqb-true (t .nextentry) 0 (and-snd (eqb (t .nextplace) 1) (eqb (t .nextentry) 0) e);
-    }
+rest-iff : (t : Table) → (betweenRuns t ≡ true) ↔ RestWords t
+rest-iff t =
+    let w = and-iff _ _ (eqb-iff (t .nextplace) 1) (eqb-iff (t .nextentry) 0) in
+    ((λ e. record { place = w .0 e .0; entry = w .0 e .1 }), (λ r. w .1 (r .place, r .entry)))
 
-rest-is : (t : Table) → RestWords t → betweenRuns t ≡ true
-rest-is t w = rw (eq-eqb (t .nextplace) 1 (w .place), eq-eqb (t .nextentry) 0 (w .entry))
-
-abbrev runTests : Table → List Bool
-runTests t =
-    leb 2 (t .nextplace)
-    ∷ leb (t .nextplace) (t .runsize)
-    ∷ (eqb (t .runbits) 4 || eqb (t .runbits) 8)
-    ∷ leb (t .nextentry) (t .length)
-    ∷ []
-
-run-words : (t : Table) → insideRun t ≡ true → RunWords t
-run-words t e =
-    let h = each (runTests t) e in
-    record {
-      second = leb-true 2 (t .nextplace) (h .0);
-      last = leb-true (t .nextplace) (t .runsize) (h .1 .0);
-      width =
-          ⊎-elim (λ a. inl (eqb-true (t .runbits) 4 a)) (λ a. inr (eqb-true (t .runbits) 8 a))
-          (or-split (eqb (t .runbits) 4) (eqb (t .runbits) 8) (h .1 .1 .0));
-      entry = leb-true (t .nextentry) (t .length) (h .1 .1 .1 .0);
-    }
-
-run-is : (t : Table) → RunWords t → insideRun t ≡ true
-run-is t w =
-    let width : (eqb (t .runbits) 4 || eqb (t .runbits) 8) ≡ true
-    = ⊎-elim
-    (λ e. or-left (eqb (t .runbits) 4) (eqb (t .runbits) 8) (eq-eqb (t .runbits) 4 e))
-    (λ e. or-right (eqb (t .runbits) 4) (eqb (t .runbits) 8) (eq-eqb (t .runbits) 8 e))
-    (w .width) in
-    let entry = le-leb (t .nextentry) (t .length) (w .entry) in
-    rw (le-leb 2 (t .nextplace) (w .second), le-leb (t .nextplace) (t .runsize) (w .last), width, entry)
+run-iff : (t : Table) → (insideRun t ≡ true) ↔ RunWords t
+run-iff t =
+    let width = or-iff _ _ (eqb-iff (t .runbits) 4) (eqb-iff (t .runbits) 8) in
+    let entry = and-iff _ true (most-iff (t .nextentry) (t .length)) Iff·rfl in
+    let most = most-iff (t .nextplace) (t .runsize) in
+    let w = and-iff _ _ (most-iff 2 (t .nextplace)) (and-iff _ _ most (and-iff _ _ width entry)) in (
+      (λ e. let h = w .0 e in record { second = h .0; last = h .1 .0; width = h .1 .1 .0; entry = h .1 .1 .1 .0 }),
+      (λ r. w .1 (r .second, (r .last, (r .width, (r .entry, refl))))),
+    )
 
 module _ (room : ℕ) (t : Table) where
   abbrev position : Bool
   position = cond (eqb (t .mark) running) (insideRun t) (betweenRuns t)
 
   rest-at : (t .mark ≡ 2 → ⊥) → position ≡ true → RestWords t
-  rest-at n e = rest-words t (rw (ne-eqb (t .mark) 2 n) at e)
+  rest-at n e = rest-iff t .0 (rw (ne-eqb (t .mark) 2 n) at e)
 
   run-at : t .mark ≡ 2 → position ≡ true → RunWords t
-  run-at n e = run-words t (rw (eq-eqb (t .mark) 2 n) at e)
+  run-at n e = run-iff t .0 (rw (eq-eqb (t .mark) 2 n) at e)
 
   limit-words : Limits room t → LimitWords room t
   unfolding goodLength
@@ -186,13 +153,13 @@ module _ (room : ℕ) (t : Table) where
   position-is a b w = by (eqb (t .mark) 2) refl (eqb (t .mark) 1) refl
     where
       by : (x : Bool) → eqb (t .mark) 2 ≡ x → (y : Bool) → eqb (t .mark) 1 ≡ y → position ≡ true
-      by true e y f = rw e (run-is t (w .running (eqb-true (t .mark) 2 e)))
-      by false e true f = rw e (rest-is t (w .waiting (eqb-true (t .mark) 1 f)))
+      by true e y f = rw e (run-iff t .1 (w .running (eqb-true (t .mark) 2 e)))
+      by false e true f = rw e (rest-iff t .1 (w .waiting (eqb-true (t .mark) 1 f)))
       by false e false f =
           let u = eqb-false (t .mark) 2 e in
           let v = eqb-false (t .mark) 1 f in
           let k : t .mark ≡ 3 = omega arith in
-          rw e (rest-is t (w .settled k))
+          rw e (rest-iff t .1 (w .settled k))
 
   limits-are : 1 ≤ t .mark → t .mark ≤ 3 → LimitWords room t → withinLimits room t ≡ true
   unfolding goodLength
@@ -232,50 +199,35 @@ hops-at [] i = refl
 hops-at (p ∷ ps) zero = refl
 hops-at (p ∷ ps) (suc i) = hops-at ps i
 
-module _ (x : Line) (hp : x .pongnext < 10) (hn : x .pongcount ≤ 10) where
-  abbrev at : ℕ → Pong
-  at p = getD (x .pongs) p (record { bytes = []; hops = 0; clock = 0 })
-
-  hops-words : all (λ p. leb (p .hops) 7) (storedPongs x) ≡ true
-      → (i : ℕ) → i < x .pongcount → getD (x .pongs) (pongPlace (x .pongnext) i) noPong .hops ≤ 7
-  unfolding storedPongs
-  hops-words e i l =
-      let q : ℕ = pongPlace (x .pongnext) i in
-      rw (hops-at (x .pongs) q) at
-      (leb-true (at q .hops) 7
-      (each-kept 10 at noPong (x .pongnext) (x .pongcount) hp hn (λ (p : Pong). leb (p .hops) 7) e i l))
-
-  hops-are : ((i : ℕ) → i < x .pongcount → getD (x .pongs) (pongPlace (x .pongnext) i) noPong .hops ≤ 7)
-      → all (λ p. leb (p .hops) 7) (storedPongs x) ≡ true
-  unfolding storedPongs
-  hops-are h =
-      all-kept 10 at noPong (x .pongnext) (x .pongcount) hp hn (λ (p : Pong). leb (p .hops) 7)
-      (λ i l. let q : ℕ = pongPlace (x .pongnext) i in le-leb (at q .hops) 7 (rw (hops-at (x .pongs) q) (h i l)))
-
 module _ (x : Line) where
+  hops-iff : x .pongnext < 10 → x .pongcount ≤ 10 → (lowHops x ≡ true)
+      ↔ ((i : ℕ) → i < x .pongcount → getD (x .pongs) (pongPlace (x .pongnext) i) noPong .hops ≤ 7)
+  unfolding storedPongs
+  hops-iff hp hn =
+      let at : ℕ → Pong = λ p. getD (x .pongs) p (record { bytes = []; hops = 0; clock = 0 }) in
+      let place : ℕ → ℕ = pongPlace (x .pongnext) in
+      let w = kept-iff 10 at noPong (x .pongnext) (x .pongcount) hp hn (λ (p : Pong). leb (p .hops) 7) in (
+        (λ e i l. rw (hops-at (x .pongs) (place i)) at (leb-true (at (place i) .hops) 7 (w .0 e i l))),
+        (λ h. w .1 (λ i l. le-leb (at (place i) .hops) 7 (rw (hops-at (x .pongs) (place i)) (h i l)))),
+      )
+
   abbrev bare : Bool
   bare = eqb (x .table .mark) 0 && (eqb (x .pongcount) 0 && not (x .pinged))
 
-  closed-words : emptyWhenClosed x ≡ true → x .live ≡ false → ClosedWords x
-  closed-words e c =
-      let h : bare ≡ true = or-rest (x .live) bare e c in
-      let empty : Bool = eqb (x .pongcount) 0 && not (x .pinged) in
-      let r = and-snd (eqb (x .table .mark) 0) empty h in
-      record {
-        table = eqb-true (x .table .mark) 0 (and-fst (eqb (x .table .mark) 0) empty h);
-        pongs = eqb-true (x .pongcount) 0 (and-fst (eqb (x .pongcount) 0) (not (x .pinged)) r);
-        ping = not-true (x .pinged) (and-snd (eqb (x .pongcount) 0) (not (x .pinged)) r);
-      }
+  bare-iff : (bare ≡ true) ↔ ClosedWords x
+  bare-iff =
+      let kept = and-iff _ _ (eqb-iff (x .pongcount) 0) (no-iff (x .pinged)) in
+      let w = and-iff _ _ (eqb-iff (x .table .mark) 0) kept in (
+        (λ e. let h = w .0 e in record { table = h .0; pongs = h .1 .0; ping = h .1 .1 }),
+        (λ c. w .1 (c .table, (c .pongs, c .ping))),
+      )
 
   closed-is : (x .live ≡ false → ClosedWords x) → emptyWhenClosed x ≡ true
   closed-is h = by (x .live) refl
     where
       by : (b : Bool) → x .live ≡ b → (x .live || bare) ≡ true
       by true e = rw e
-      by false e =
-          let w = h e in
-          or-right (x .live) bare
-          (rw (eq-eqb (x .table .mark) 0 (w .table), eq-eqb (x .pongcount) 0 (w .pongs), w .ping))
+      by false e = or-right (x .live) bare (bare-iff .1 (h e))
 
 line-words : (room : ℕ) (x : Line) → lineInOrder room x ≡ true → LineWords room x
 line-words room x e =
@@ -283,10 +235,10 @@ line-words room x e =
     let c : x .pongcount ≤ 10 = leb-true (x .pongcount) 10 (f .count) in
     let n : x .pongnext < 10 = ltb-true (x .pongnext) 10 (f .next) in
     record {
-      closed = closed-words x (f .empty);
+      closed = λ v. bare-iff x .0 (or-rest (x .live) (bare x) (f .empty) v);
       count = c;
       next = n;
-      hops = hops-words x n c (f .hops);
+      hops = hops-iff x n c .0 (f .hops);
       table = table-words room (x .table) (f .table);
     }
 
@@ -297,7 +249,7 @@ line-is room x w =
       empty = closed-is x (w .closed);
       count = le-leb (x .pongcount) 10 (w .count);
       next = lt-ltb (x .pongnext) 10 (w .next);
-      hops = hops-are x (w .next) (w .count) (w .hops);
+      hops = hops-iff x (w .next) (w .count) .1 (w .hops);
       table = table-is room (x .table) (w .table);
     })
 
@@ -328,24 +280,6 @@ module _ (d : Query) where
       rw (none-of (like q) d qs (λ j l. h 0 (suc j) (omega arith) (omega arith)))
       (apart-all qs (λ i j l m. h (suc i) (suc j) (omega arith) (omega arith)))
 
-asker-words : (s : Station) (a : ℕ) → fitsIn s a ≡ true → AskerWords s a
-asker-words s a e =
-    ⊎-elim
-    (λ h. let k : a < 8 = ltb-true a 8 (and-fst (ltb a 8) (lineAt s a .live) h) in
-    inl (omega arith, and-snd (ltb a 8) (lineAt s a .live) h))
-    (λ h. inr (⊎-elim (λ k. inl (eqb-true a 8 k)) (λ k. inr (eqb-true a 9 k)) (or-split (eqb a 8) (eqb a 9) h)))
-    (or-split (ltb a 8 && lineAt s a .live) (eqb a 8 || eqb a 9) e)
-
-asker-is : (s : Station) (a : ℕ) → AskerWords s a → fitsIn s a ≡ true
-asker-is s a w =
-    ⊎-elim
-    (λ h. let k : a < 8 = omega (arith, h .0) in
-    or-left (ltb a 8 && lineAt s a .live) (eqb a 8 || eqb a 9)
-    (and-intro (ltb a 8) (lineAt s a .live) (lt-ltb a 8 k) (h .1)))
-    (λ h. or-right (ltb a 8 && lineAt s a .live) (eqb a 8 || eqb a 9)
-    (⊎-elim (λ k. or-left (eqb a 8) (eqb a 9) (eq-eqb a 8 k)) (λ k. or-right (eqb a 8) (eqb a 9) (eq-eqb a 9 k)) h))
-    w
-
 module _ (s : Station) (hp : s .memory .next < 512) (hn : s .memory .count ≤ 512) where
   abbrev q : Memory
   q = s .memory
@@ -365,51 +299,35 @@ module _ (s : Station) (hp : s .memory .next < 512) (hn : s .memory .count ≤ 5
   unfolding queriesIn
   query-at i l = kept-at 512 (queryAt q) past (q .next) (q .count) hp hn i l
 
-  -- the numbers of the i-th and the j-th, and the halves at their places
-  abbrev same : ℕ → ℕ → Bool
-  same i j = like (getD (remembered s) i past) (getD (remembered s) j past)
-
-  same-places : (i j : ℕ) → i < q .count → j < q .count → same i j ≡ like (queryAt q (place i)) (queryAt q (place j))
-  same-places i j l m = rw (query-at i l, query-at j m)
-
-  abbrev low : ℕ → ℕ
-  low i = getD (q .lo) (place i) 0
-
-  abbrev high : ℕ → ℕ
-  high i = getD (q .hi) (place i) 0
+  -- the numbers of the i-th and the j-th
+  same-iff : (i j : ℕ) → i < q .count → j < q .count
+      → (like (getD (remembered s) i past) (getD (remembered s) j past) ≡ true) ↔ OneNumber s (place i) (place j)
+  same-iff i j l m =
+      let w = and-iff _ _ (eqb-iff (getD (q .lo) (place j) 0) (getD (q .lo) (place i) 0))
+      (eqb-iff (getD (q .hi) (place j) 0) (getD (q .hi) (place i) 0)) in
+      rw (query-at i l, query-at j m) (
+        (λ e. (sym (w .0 e .0), sym (w .0 e .1))),
+        (λ n. w .1 (sym (n .0), sym (n .1))),
+      )
 
   once-words : noTwice (remembered s) ≡ true → (i j : ℕ) → i < j → j < q .count → OneNumber s (place i) (place j) → ⊥
   once-words e i j l m w =
-      let a : same i j ≡ false = apart-at past (remembered s) e i j l (omega (arith, many)) in
-      clash
-      (and-intro _ _ (eq-eqb (low j) (low i) (sym (w .0))) (eq-eqb (high j) (high i) (sym (w .1))))
-      (sym (same-places i j (omega arith) m) ∙ a)
+      clash (same-iff i j (omega arith) m .1 w) (apart-at past (remembered s) e i j l (omega (arith, many)))
 
   once-is : ((i j : ℕ) → i < j → j < q .count → OneNumber s (place i) (place j) → ⊥) → noTwice (remembered s) ≡ true
   once-is h =
       apart-all past (remembered s)
       (λ i j l m. let k : j < q .count = omega (arith, many) in
-      let a : Bool = eqb (low j) (low i) in
-      let b : Bool = eqb (high j) (high i) in
-      same-places i j (omega arith) k
-      ∙ failed (a && b)
-      (λ e. h i j l k
-      (sym (eqb-true (low j) (low i) (and-fst a b e)), sym (eqb-true (high j) (high i) (and-snd a b e)))))
+      refuted _ (λ e. h i j l k (same-iff i j (omega arith) k .0 e)))
 
-  abbrev fits : Query → Bool
-  fits x = fitsIn s (x .asker)
-
-  askers-words : all fits (remembered s) ≡ true → (i : ℕ) → i < q .count → AskerWords s (getD (q .asker) (place i) 0)
+  askers-iff : (all (λ x. fitsIn s (x .asker)) (remembered s) ≡ true)
+      ↔ ((i : ℕ) → i < q .count → AskerWords s (getD (q .asker) (place i) 0))
   unfolding queriesIn
-  askers-words e i l =
-      asker-words s (getD (q .asker) (place i) 0)
-      (each-kept 512 (queryAt q) past (q .next) (q .count) hp hn fits e i l)
-
-  askers-are : ((i : ℕ) → i < q .count → AskerWords s (getD (q .asker) (place i) 0)) → all fits (remembered s) ≡ true
-  unfolding queriesIn
-  askers-are h =
-      all-kept 512 (queryAt q) past (q .next) (q .count) hp hn fits
-      (λ i l. asker-is s (getD (q .asker) (place i) 0) (h i l))
+  askers-iff =
+      let w = kept-iff 512 (queryAt q) past (q .next) (q .count) hp hn (λ (x : Query). fitsIn s (x .asker)) in (
+        (λ e i l. asker-iff s _ .0 (w .0 e i l)),
+        (λ h. w .1 (λ i l. asker-iff s _ .1 (h i l))),
+      )
 
 -- ---- the state
 
@@ -422,7 +340,7 @@ words-of s z e =
       count = c;
       next = n;
       once = once-words s n c (f .twice);
-      askers = askers-words s n c (f .askers);
+      askers = askers-iff s n c .0 (f .askers);
       lines = λ l h.
           line-words (s .room) (lineAt s l)
           (all-getD (lineInOrder (s .room)) (s .lines) l nowhere (f .lines) (omega (arith, z .eight)));
@@ -435,7 +353,7 @@ order-of s z w =
       count = le-leb (s .memory .count) 512 (w .count);
       next = lt-ltb (s .memory .next) 512 (w .next);
       twice = once-is s (w .next) (w .count) (w .once);
-      askers = askers-are s (w .next) (w .count) (w .askers);
+      askers = askers-iff s (w .next) (w .count) .1 (w .askers);
       lines =
           all-each (lineInOrder (s .room)) nowhere (s .lines)
           (λ l h. line-is (s .room) (lineAt s l) (w .lines l (omega (arith, z .eight))));

@@ -3,15 +3,16 @@
 use Prim.Native.Nat.{ℕ, _+_, _%_, _≤_, _<_, min}
 use native.Mathlib.Omega.{arith}
 use mathlib.Core.Path.{_≡_, refl, sym, ap, _∙_}
-use mathlib.Core.Bool.{Bool, true, false, _&&_, _||_}
+use mathlib.Core.Bool.{Bool, true, false}
+use mathlib.Core.Logic.{inl, inr, ⊎-elim}
 use mathlib.Core.List.{List, [], _∷_}
 use lib.Dec.{eqb, leb, ltb}
-use lib.ListN.{length, set, take, length-set, length-map, length-take, length-drop, getD-replicate}
+use lib.ListN.{length, take, length-set, length-map, length-take, length-drop, getD-replicate}
 use lib.Seq.{getD-set-same, getD-set-other}
 use borrow.Author.Tests.{leb-true, le-leb, ltb-true, lt-ltb, ltb-false, eqb-true, eqb-false, eq-eqb}
 use Rattle.laws.specs.Tests.{firstOf, all}
 use Rattle.laws.specs.Ring.{keptPlaces, onward}
-use Rattle.laws.proofs.Refusals.{and-fst, and-snd, and-intro, or-snd, or-right, of-choice}
+use Rattle.laws.proofs.Refusals.{and-fst, and-snd, and-intro, or-snd, of-choice}
 use Rattle.laws.proofs.Refusals.{no-refusal, NoRefusal, all-getD, all-set, all-take, all-weaken, all-map}
 use Rattle.wire.specs.Header.{headerIn, ttlOf, hopsOf, sizeOf, payloadOf}
 use Rattle.tables.specs.Tables.{tableInOrder}
@@ -19,8 +20,8 @@ use Rattle.tables.proofs.OrderLaws.{keeps-order}
 use Rattle.tables.proofs.BoundLaws.{all-replicate}
 use Rattle.protocol.specs.declared.Line.{Line}
 use Rattle.protocol.specs.declared.Pong.{Pong}
-use Rattle.protocol.specs.Memory.{capacity, here, gone, Query, numberIn, Number, noTwice, left}
-use Rattle.protocol.specs.Memory.{Memory, queriesIn, remember, askerFits}
+use Rattle.protocol.specs.Memory.{capacity, here, Query, numberIn, Number, noTwice, left}
+use Rattle.protocol.specs.Memory.{Memory, queriesIn, remember}
 use Rattle.protocol.specs.State.{Station, stationOf, remembered, seen, lineAt, withLine, withMemory}
 use Rattle.protocol.specs.Lines.{lineCount, emptyLine, nowhere, withTable, pingedAt, withPong}
 use Rattle.protocol.specs.Lines.{pongCapacity, pongHops, storedPongs, partOf}
@@ -34,13 +35,10 @@ use Rattle.protocol.specs.Runs.{Call, Open, Close, Message, Ask, lent, o
 use Rattle.protocol.specs.Kept.{sizedLine, Sized, Kept, FreshInOrder, OrderKept, OrderKeptByLists, asked, leftBy}
 use Rattle.protocol.proofs.Outcomes.{of-refused, openingIn, closingIn, is-closed, LetIn, asked-in}
 use Rattle.protocol.proofs.ByType.{pongIn, queryIn, heldAfter, updateDone, of-types, of-message}
-use Rattle.protocol.proofs.InOrder.{StateFacts, LineFacts, state-facts, state-order, line-order, facts-at}
+use Rattle.protocol.proofs.InOrder.{fitsIn, asker-iff, StateFacts, LineFacts, state-facts, state-order}
+use Rattle.protocol.proofs.InOrder.{line-order, facts-at}
 use Rattle.protocol.proofs.Memory.{remembered-newest, remembered-left, stored-newest}
 use Rattle.protocol.proofs.Memory.{seen-any, noTwice-take, noTwice-new, noTwice-left}
-
--- an asker fits a state: an open line, here or gone
-abbrev pub fitsIn : Station → ℕ → Bool
-fitsIn s a = askerFits (λ k. lineAt s k .live) a
 
 abbrev askerIn : Station → Query → Bool
 askerIn s q = fitsIn s (q .asker)
@@ -64,15 +62,9 @@ module _ (s : Station) (z : Sized s) (o : inOrder s ≡ true) (l : ℕ) (l≤7 :
           ∙ g (ap (λ k. lineAt s k .live) (sym w) ∙ e)
       go false y = ap (λ (r : Line). r .live) (getD-set-other (s .lines) l a x nowhere (eqb-false a l y)) ∙ e
 
-  fits-still : (c d d′ r : Bool) → (d ≡ true → d′ ≡ true) → ((c && d) || r) ≡ true → ((c && d′) || r) ≡ true
-  fits-still true true d′ r h e = rw (h refl)
-  fits-still true false d′ r h e = or-right d′ r e
-  fits-still false d d′ r h e = e
-
   fits-after : StaysOpen → (a : ℕ) → fitsIn s a ≡ true → fitsIn (withLine s l x) a ≡ true
   fits-after g a e =
-      fits-still (ltb a lineCount) (lineAt s a .live) (lineAt (withLine s l x) a .live) (eqb a here || eqb a gone)
-      (open-still g a) e
+      asker-iff (withLine s l x) a .1 (⊎-elim (λ h. inl (h .0, open-still g a (h .1))) inr (asker-iff s a .0 e))
 
   kept-line : StaysOpen → LineFacts (s .room) x → sizedLine x ≡ true → Kept s (withLine s l x)
   kept-line g f y =
@@ -222,47 +214,32 @@ module _ (s : Station) (z : Sized s) (o : inOrder s ≡ true) (l : ℕ) (m route
       let w : 23 + sizeOf m ≤ length m = d .whole in
       simp (length-take, length-drop) (omega arith)
 
+  abbrev low : Pong → Bool
+  low p = leb (p .hops) pongHops
+
+  abbrev whole : Pong → Bool
+  whole p = eqb (length (p .bytes)) 14
+
   kept-pong : (clock : ℕ) → NoRefusal (pongIn m) → Kept s (withLine s l (withPong x (arrivedPong clock m)))
   kept-pong clock n =
+      let p : Pong = arrivedPong clock m in
+      let at : ℕ = x .pongnext % pongCapacity in
+      let few = ltb-false pongHops (hopsOf m) (or-snd (eqb (ttlOf m) 0) (ltb pongHops (hopsOf m)) (n .1 .0)) in
+      let ten = and-fst (eqb (length (x .pongs)) pongCapacity) (all whole (x .pongs)) was-sized in
+      let were = and-snd (eqb (length (x .pongs)) pongCapacity) (all whole (x .pongs)) was-sized in
+      let e = stored-newest x p (eqb-true (length (x .pongs)) pongCapacity ten)
+      (leb-true (x .pongcount) pongCapacity (was .count)) (ltb-true (x .pongnext) pongCapacity (was .next)) in
       kept-line s z o l (d .line) (withPong x p) (λ v. v)
       (record {
         empty = rw (d .live);
         count = le-leb (min pongCapacity (x .pongcount + 1)) pongCapacity (omega arith);
         next = lt-ltb (onward pongCapacity (x .pongnext)) pongCapacity (omega arith);
         hops = ap (all low) e ∙ all-take low pongCapacity (p ∷ storedPongs x)
-            (and-intro (low p) (all low (storedPongs x)) few (was .hops));
+            (rw (le-leb (hopsOf m) pongHops few) (was .hops));
         table = was .table;
       })
-      (and-intro (eqb (length pongs) pongCapacity) (all whole pongs)
-      (ap (λ n. eqb n pongCapacity) (length-set (x .pongs) at p) ∙ ten)
-      (all-set whole (x .pongs) at p (and-snd (eqb (length (x .pongs)) pongCapacity) (all whole (x .pongs)) was-sized)
-      (eq-eqb (length (p .bytes)) 14 (pong-bytes clock (n .0)))))
-    where
-      p : Pong
-      p = arrivedPong clock m
-
-      low : Pong → Bool
-      low q = leb (q .hops) pongHops
-
-      whole : Pong → Bool
-      whole q = eqb (length (q .bytes)) 14
-
-      at : ℕ
-      at = x .pongnext % pongCapacity
-
-      pongs : List Pong
-      pongs = set (x .pongs) at p
-
-      few : leb (hopsOf m) pongHops ≡ true
-      few = le-leb (hopsOf m) pongHops
-          (ltb-false pongHops (hopsOf m) (or-snd (eqb (ttlOf m) 0) (ltb pongHops (hopsOf m)) (n .1 .0)))
-
-      ten : eqb (length (x .pongs)) pongCapacity ≡ true
-      ten = and-fst (eqb (length (x .pongs)) pongCapacity) (all whole (x .pongs)) was-sized
-
-      e : storedPongs (withPong x p) ≡ take pongCapacity (p ∷ storedPongs x)
-      e = stored-newest x p (eqb-true (length (x .pongs)) pongCapacity ten)
-          (leb-true (x .pongcount) pongCapacity (was .count)) (ltb-true (x .pongnext) pongCapacity (was .next))
+      (rw (length-set (x .pongs) at p, ten)
+      (all-set whole (x .pongs) at p were (eq-eqb (length (p .bytes)) 14 (pong-bytes clock (n .0)))))
 
   kept-query : (limit : ℕ) → NoRefusal (queryIn limit s m)
       → Kept s (withMemory s (remember capacity (s .memory) (numberIn m) l))

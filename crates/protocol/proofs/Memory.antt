@@ -1,4 +1,5 @@
--- The remembered queries and the stored pongs as newest-first lists: one more goes in front, and closing a line marks its queries as gone.
+-- The remembered queries and the stored pongs as newest-first lists: one more goes in front, and closing a line marks
+-- its queries as gone.
 -- Assumes nothing.
 use Prim.Native.Nat.{ℕ, zero, suc, _%_, _<_}
 use native.Mathlib.Nat.{mod-eq-of-lt}
@@ -15,9 +16,10 @@ use Rattle.laws.specs.Ring.{keptPlaces}
 use Rattle.laws.proofs.Refusals.{and-fst, and-snd, any-take}
 use Rattle.laws.proofs.Rings.{map-where, map-map, map-getD, kept-below, ring-push}
 use Rattle.protocol.specs.State.{Station, remembered, seen}
-use Rattle.protocol.specs.Memory.{Memory, capacity, queriesIn, leftAll, Number, sameNumber, Query, queryAt, Found, Absent, At, later, pickFound, find, isFound, remember, noTwice, left}
+use Rattle.protocol.specs.Memory.{Memory, capacity, queriesIn, leftAll, Number, sameNumber, Query, queryAt}
+use Rattle.protocol.specs.Memory.{Found, Absent, At, later, pickFound, find, isFound, remember, noTwice, left}
+use Rattle.protocol.specs.declared.Pong.{Pong}
 use Rattle.protocol.specs.Lines.{withPong, storedPongs}
-use Rattle.protocol.specs.Calls.{closedState}
 use Rattle.protocol.specs.Kept.{asked, leftBy, RemembersNewest, RemembersLeft, StoresNewest}
 
 -- the place at which a ring whose next place is within its capacity keeps the next
@@ -51,7 +53,10 @@ unfolding queriesIn
 remembered-left s l z =
     map-where (λ x. ltb x capacity) (queryAt (leftAll l (s .memory))) (λ x. leftBy l (queryAt (s .memory) x))
     (λ x t i. let k : x < capacity = ltb-true x capacity t in
-    record { number = queryAt (s .memory) x .number; asker = map-getD (left l) (s .memory .asker) x 0 0 (omega (arith, z .asker)) i })
+    record {
+      number = queryAt (s .memory) x .number;
+      asker = map-getD (left l) (s .memory .asker) x 0 0 (omega (arith, z .asker)) i;
+    })
     (keptPlaces capacity (s .memory .next) (s .memory .count))
     (kept-below capacity (omega arith) (s .memory .next) (s .memory .count))
     ∙ sym (map-map (queryAt (s .memory)) (leftBy l) (keptPlaces capacity (s .memory .next) (s .memory .count)))
@@ -59,17 +64,17 @@ remembered-left s l z =
 pub stored-newest : StoresNewest
 unfolding storedPongs
 stored-newest x p z hc hn =
-    ring-push 9 (x .pongnext) (x .pongcount) hn hc (λ i. getD (withPong x p .pongs) i (record { bytes = []; hops = 0; clock = 0 }))
-    (λ i. getD (x .pongs) i (record { bytes = []; hops = 0; clock = 0 }))
-    p
-    (rw (at-next 9 (x .pongnext) hn) (getD-set-same (x .pongs) (x .pongnext) p (record { bytes = []; hops = 0; clock = 0 }) (omega (arith, z))))
-    (rw (at-next 9 (x .pongnext) hn) (λ i ne. getD-set-other (x .pongs) (x .pongnext) i p (record { bytes = []; hops = 0; clock = 0 }) ne))
+    let d : Pong = record { bytes = []; hops = 0; clock = 0 } in
+    ring-push 9 (x .pongnext) (x .pongcount) hn hc (λ i. getD (withPong x p .pongs) i d) (λ i. getD (x .pongs) i d) p
+    (rw (at-next 9 (x .pongnext) hn) (getD-set-same (x .pongs) (x .pongnext) p d (omega (arith, z))))
+    (rw (at-next 9 (x .pongnext) hn) (λ i ne. getD-set-other (x .pongs) (x .pongnext) i p d ne))
 
 -- a number is seen exactly if some remembered query has it
 find-any : (qs : List Query) (n : Number) → isFound (find qs n) ≡ any (λ q. sameNumber (q .number) n) qs
 unfolding find
 find-any [] n = refl
-find-any (q ∷ qs) n = here (sameNumber (q .number) n) (find qs n) ∙ ap (λ b. sameNumber (q .number) n || b) (find-any qs n)
+find-any (q ∷ qs) n =
+    here (sameNumber (q .number) n) (find qs n) ∙ ap (λ b. sameNumber (q .number) n || b) (find-any qs n)
   where
     late : (f : Found) → isFound (later f) ≡ isFound f
     late Absent = refl
@@ -88,15 +93,17 @@ unfolding noTwice
 noTwice-take zero qs h = refl
 noTwice-take (suc k) [] h = refl
 noTwice-take (suc k) (q ∷ qs) h =
-    let a : any (λ p. sameNumber (p .number) (q .number)) qs ≡ false
-    = not-true (any (λ p. sameNumber (p .number) (q .number)) qs) (and-fst (not (any (λ p. sameNumber (p .number) (q .number)) qs)) (noTwice qs) h) in
-    rw (any-take (λ p. sameNumber (p .number) (q .number)) k qs a) (noTwice-take k qs (and-snd (not (any (λ p. sameNumber (p .number) (q .number)) qs)) (noTwice qs) h))
+    let same : Query → Bool = λ p. sameNumber (p .number) (q .number) in
+    let a : any same qs ≡ false = not-true (any same qs) (and-fst (not (any same qs)) (noTwice qs) h) in
+    rw (any-take same k qs a) (noTwice-take k qs (and-snd (not (any same qs)) (noTwice qs) h))
 
-pub noTwice-new : (n : Number) (who : ℕ) (qs : List Query) → any (λ q. sameNumber (q .number) n) qs ≡ false → noTwice qs ≡ true → noTwice (asked n who ∷ qs) ≡ true
+pub noTwice-new : (n : Number) (who : ℕ) (qs : List Query) → any (λ q. sameNumber (q .number) n) qs ≡ false
+    → noTwice qs ≡ true → noTwice (asked n who ∷ qs) ≡ true
 unfolding noTwice
 noTwice-new n who qs a h = rw a h
 
-any-left : (l : ℕ) (n : Number) (qs : List Query) → any (λ q. sameNumber (q .number) n) (map (leftBy l) qs) ≡ any (λ q. sameNumber (q .number) n) qs
+any-left : (l : ℕ) (n : Number) (qs : List Query)
+    → any (λ q. sameNumber (q .number) n) (map (leftBy l) qs) ≡ any (λ q. sameNumber (q .number) n) qs
 any-left l n [] = refl
 any-left l n (q ∷ qs) = ap (λ b. sameNumber (q .number) n || b) (any-left l n qs)
 

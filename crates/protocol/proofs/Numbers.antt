@@ -5,13 +5,13 @@ use native.Mathlib.Omega.{arith}
 use mathlib.Core.Path.{_≡_, refl, sym, ap, ap₂, _∙_}
 use mathlib.Core.Bool.{Bool, true}
 use mathlib.Core.List.{List, [], _∷_, _++_}
-use lib.Dec.{eqb, ltb}
+use lib.Dec.{ltb}
 use lib.ListN.{length, take, drop, length-take, length-drop}
-use lib.Seq.{take-add, take-at, drop-at}
+use lib.Seq.{take-add, take-take, drop-at}
 use borrow.Author.Tests.{ltb-true, eq-eqb}
 use Rattle.laws.specs.Tests.{all}
 use Rattle.laws.specs.Bytes.{little}
-use Rattle.laws.proofs.Refusals.{and-fst, and-snd, and-intro, all-take}
+use Rattle.laws.proofs.Refusals.{and-fst, and-snd, all-take}
 use Rattle.wire.specs.Header.{numberOf}
 use Rattle.tables.proofs.BoundLaws.{all-drop}
 use Rattle.protocol.specs.Memory.{Number, numberIn}
@@ -36,43 +36,32 @@ little-tells (x ∷ xs) (y ∷ ys) p q n e =
     ap₂ _∷_ h
     (little-tells xs ys (and-snd (isByte x) (all isByte xs) p) (and-snd (isByte y) (all isByte ys) q) (omega arith) t)
 
--- the 16 bytes are the halves' 8 and 8
-abbrev low : List ℕ → List ℕ
-low a = take 8 a
+-- the 16 bytes are the halves' 8 and 8, and each half tells its bytes
+abbrev half : ℕ → List ℕ → List ℕ
+half d a = take 8 (drop d a)
 
-abbrev high : List ℕ → List ℕ
-high a = take 8 (drop 8 a)
+module _ (a b : List ℕ) (p : all isByte a ≡ true) (q : all isByte b ≡ true)
+    (h : 16 ≤ length a) (k : 16 ≤ length b) where
+  half-tells : (d : ℕ) → d ≤ 8 → little (half d a) ≡ little (half d b) → half d a ≡ half d b
+  half-tells d l e =
+      little-tells (half d a) (half d b)
+      (all-take isByte 8 (drop d a) (all-drop isByte d a p)) (all-take isByte 8 (drop d b) (all-drop isByte d b q))
+      (simp (length-take, length-drop) (omega arith)) e
 
-halves : (a : List ℕ) → numberOf a ≡ low a ++ high a
-halves a = take-add 8 8 a
-
-length-low : (a : List ℕ) → 16 ≤ length a → length (low a) ≡ 8
-length-low a h = simp length-take (omega arith)
-
-length-high : (a : List ℕ) → 16 ≤ length a → length (high a) ≡ 8
-length-high a h = simp (length-take, length-drop) (omega arith)
-
-all-high : (a : List ℕ) → all isByte a ≡ true → all isByte (high a) ≡ true
-all-high a p = all-take isByte 8 (drop 8 a) (all-drop isByte 8 a p)
+second-half : (a : List ℕ) → 16 ≤ length a → half 8 a ≡ drop 8 (numberOf a)
+second-half a h = sym (ap (drop 8) (take-add 8 8 a) ∙ drop-at (half 0 a) (half 8 a) 8 (simp length-take (omega arith)))
 
 pub same-bytes : SameBytes
 same-bytes a b p q h k = (
   (λ e. let n : numberIn a ≡ numberIn b = same-number (numberIn a) (numberIn b) e in
-      halves a
-      ∙ ap₂ _++_
-      (little-tells (low a) (low b) (all-take isByte 8 a p) (all-take isByte 8 b q)
-      (length-low a h ∙ sym (length-low b k)) (ap (λ (x : Number). x .lo) n))
-      (little-tells (high a) (high b) (all-high a p) (all-high b q)
-      (length-high a h ∙ sym (length-high b k)) (ap (λ (x : Number). x .hi) n))
-      ∙ sym (halves b)),
-  (λ e. let s : low a ++ high a ≡ low b ++ high b = sym (halves a) ∙ e ∙ halves b in
-      let lo : low a ≡ low b
-      = sym (take-at (low a) (high a) 8 (length-low a h)) ∙ ap (take 8) s
-      ∙ take-at (low b) (high b) 8 (length-low b k) in
-      let hi : high a ≡ high b
-      = sym (drop-at (low a) (high a) 8 (length-low a h)) ∙ ap (drop 8) s
-      ∙ drop-at (low b) (high b) 8 (length-low b k) in
-      and-intro (eqb (numberIn a .lo) (numberIn b .lo)) (eqb (numberIn a .hi) (numberIn b .hi))
-      (eq-eqb (numberIn a .lo) (numberIn b .lo) (ap little lo))
-      (eq-eqb (numberIn a .hi) (numberIn b .hi) (ap little hi))),
+      let lo = half-tells a b p q h k 0 (omega arith) (ap (λ (x : Number). x .lo) n) in
+      let hi = half-tells a b p q h k 8 (omega arith) (ap (λ (x : Number). x .hi) n) in
+      take-add 8 8 a ∙ ap₂ _++_ lo hi ∙ sym (take-add 8 8 b)),
+  (λ e. let lo : half 0 a ≡ half 0 b
+      = sym (take-take 8 16 a (omega arith)) ∙ ap (take 8) e ∙ take-take 8 16 b (omega arith) in
+      let hi : half 8 a ≡ half 8 b = second-half a h ∙ ap (drop 8) e ∙ sym (second-half b k) in
+      rw (
+        eq-eqb (numberIn a .lo) (numberIn b .lo) (ap little lo),
+        eq-eqb (numberIn a .hi) (numberIn b .hi) (ap little hi),
+      )),
 )

@@ -1,25 +1,24 @@
 -- The remembered queries are the last 512 taken, read off the log; a line that brought one and has not closed since is
 -- in the same opening.
 -- Assumes nothing.
-use Prim.Native.Nat.{ℕ, zero, suc, _≤_, _<_}
+use Prim.Native.Nat.{ℕ, zero, suc, _≤_}
 use native.Mathlib.Omega.{arith}
 use mathlib.Core.Path.{_≡_, refl, sym, ap, ap₂, _∙_}
-use mathlib.Core.Bool.{Bool, true, false, cond, _&&_, _||_}
+use mathlib.Core.Bool.{Bool, true, false, cond, _||_, or-false, or-true}
 use mathlib.Core.Logic.{_⊎_, inl, inr, ⊎-elim}
 use mathlib.Core.List.{List, [], _∷_, map}
 use lib.Dec.{eqb, leb, ltb}
 use lib.ListN.{length, take, length-map}
 use lib.Seq.{take-all, take-take}
-use borrow.Author.Tests.{leb-true, ltb-true, eqb-true, ne-eqb}
+use borrow.Author.Tests.{leb-true, eqb-true, eqb-false, ne-eqb}
 use Rattle.laws.specs.Tests.{all}
 use Rattle.laws.specs.Ring.{placesBefore, ringFits, keptPlaces}
 use Rattle.laws.proofs.Refusals.{clash, and-fst, and-snd, or-fst, or-snd, of-choice}
 use Rattle.laws.proofs.Rings.{map-take}
-use Rattle.laws.proofs.Ranks.{places-length}
+use Rattle.laws.proofs.RingScan.{places-length}
 use Rattle.protocol.specs.State.{Station, remembered, lineAt}
 use Rattle.protocol.specs.Memory.{capacity, here, gone, Memory, Number, sameNumber, Query, queryAt, queriesIn}
 use Rattle.protocol.specs.Memory.{Found, Absent, At, later, pickFound, find, isFound, askerOf, noTwice, left}
-use Rattle.protocol.specs.Lines.{lineCount}
 use Rattle.protocol.specs.Order.{inOrder}
 use Rattle.protocol.specs.Outcomes.{Outcome}
 use Rattle.protocol.specs.Calls.{opening}
@@ -28,8 +27,8 @@ use Rattle.protocol.specs.Kept.{Sized, Kept, asked, leftBy}
 use Rattle.protocol.specs.Demand2.{took, broughtNumber, broughtBy, closed, openings, Past, past}
 use Rattle.protocol.specs.Demand2.{allTaken, lastTaken, Origin, Unknown, Here, From, Gone, pickOrigin, originOf}
 use Rattle.protocol.specs.Demand2.{lookUp, origin, askerNow, standing, MemoryHistory}
-use Rattle.protocol.proofs.InOrder.{state-facts}
-use Rattle.protocol.proofs.Kept.{fitsIn, order-kept-by-lists}
+use Rattle.protocol.proofs.InOrder.{fitsIn, asker-iff, state-facts}
+use Rattle.protocol.proofs.Kept.{order-kept-by-lists}
 use Rattle.protocol.proofs.Effects.{Takes, Closes, Passes, Effect, call-effect}
 
 -- Origins
@@ -39,23 +38,9 @@ known Here = true
 known (From l n) = true
 known Gone = true
 
-abbrev isFrom : Origin → Bool
-isFrom Unknown = false
-isFrom Here = false
-isFrom (From l n) = true
-isFrom Gone = false
-
-abbrev lineOf : Origin → ℕ
-lineOf Unknown = 0
-lineOf Here = 0
-lineOf (From l n) = l
-lineOf Gone = 0
-
-abbrev openingOf : Origin → ℕ
-openingOf Unknown = 0
-openingOf Here = 0
-openingOf (From l n) = n
-openingOf Gone = 0
+-- two that are not the same
+differ : {A : Type 0} → _≡_ {A = ℕ} 0 1 → A
+differ z = absurd (omega arith)
 
 pub unknown-of : (o : Origin) → known o ≡ false → o ≡ Unknown
 unknown-of Unknown e = refl
@@ -72,9 +57,9 @@ known-if Gone e = refl
 -- a query that came by a line: neither here nor gone, and the line has not closed
 pub from-line : (a b : Bool) (k n l e : ℕ) → pickOrigin a Here (pickOrigin b Gone (From k n)) ≡ From l e
     → (a ≡ false) × (b ≡ false) × (k ≡ l) × (n ≡ e)
-from-line true b k n l e q = absurd (clash refl (sym (ap isFrom q)))
-from-line false true k n l e q = absurd (clash refl (sym (ap isFrom q)))
-from-line false false k n l e q = (refl, refl, ap lineOf q, ap openingOf q)
+from-line true b k n l e q = differ (cc)
+from-line false true k n l e q = differ (cc)
+from-line false false k n l e q = (refl, refl, (cc), (cc))
 
 known-of : (a b : Bool) (k n : ℕ) → known (pickOrigin a Here (pickOrigin b Gone (From k n))) ≡ true
 known-of true b k n = refl
@@ -135,10 +120,8 @@ asker-left l who n h false false false = shut-or-not (eqb who l) who n
 
 or-turn : (a b c : Bool) → ((a || b) || c) ≡ ((a || c) || b)
 or-turn true b c = refl
-or-turn false true true = refl
-or-turn false true false = refl
-or-turn false false true = refl
-or-turn false false false = refl
+or-turn false true c = sym (or-true c)
+or-turn false false c = sym (or-false c)
 
 module _ (l : ℕ) (h : l ≤ 7) where
   not-here : eqb here l ≡ false
@@ -214,8 +197,8 @@ pub record Invariant (base : List Query) (w : World) : Type 0 where
   pub since : AllSince base w
 
 pub no-from : (n : ℕ) (x : Number) (l e : ℕ) → lookUp (take n []) x ≡ From l e → ⊥
-no-from zero x l e q = clash refl (sym (ap isFrom q))
-no-from (suc n) x l e q = clash refl (sym (ap isFrom q))
+no-from zero x l e q = differ (cc)
+no-from (suc n) x l e q = differ (cc)
 
 -- the newest of a list, or another
 pick-from : (b : Bool) (p q : Origin) (l e : ℕ) → pickOrigin b p q ≡ From l e → (p ≡ From l e) ⊎ (q ≡ From l e)
@@ -224,13 +207,11 @@ pick-from false p q l e h = inr h
 
 -- an asker that fits and is a line
 fits-line : (s : Station) (a : ℕ) → fitsIn s a ≡ true → eqb a here ≡ false → eqb a gone ≡ false
-    → (ltb a lineCount ≡ true) × (lineAt s a .live ≡ true)
-fits-line s a f h g = go (ltb a lineCount) (lineAt s a .live) (rw (h, g) at f)
-  where
-    go : (b c : Bool) → ((b && c) || false) ≡ true → (b ≡ true) × (c ≡ true)
-    go true true e = (refl, refl)
-    go true false e = absurd (clash e refl)
-    go false c e = absurd (clash e refl)
+    → (a ≤ 7) × (lineAt s a .live ≡ true)
+fits-line s a f h g =
+    let n = eqb-false a here h in
+    let m = eqb-false a gone g in
+    ⊎-elim (λ v. v) (⊎-elim (λ e. absurd (n e)) (λ e. absurd (m e))) (asker-iff s a .0 f)
 
 -- a query that has just been taken, or that was remembered at the start
 module _ (shut : ℕ → Bool) (w : World) (x : Number) (who n l e : ℕ) (f : fitsIn (w .state) who ≡ true)
@@ -239,7 +220,7 @@ module _ (shut : ℕ → Bool) (w : World) (x : Number) (who n l e : ℕ) (f : f
   since-taken q =
       let h = from-line (eqb who here) (eqb who gone || shut who) who n l e q in
       let v = fits-line (w .state) who f (h .0) (or-fst (eqb who gone) (shut who) (h .1)) in
-      let b : who < lineCount = ltb-true who lineCount (v .0) in
+      let b : who ≤ 7 = v .0 in
       let r : who ≡ l = h .2 in
       record {
         unshut = ap shut (sym r) ∙ or-snd (eqb who gone) (shut who) (h .1);

@@ -1,4 +1,5 @@
--- Cases of an outcome: refused or not, of one type or another; and what it says that a message or an own query was let in.
+-- Cases of an outcome: refused or not, of one type or another; and what it says that a message or an own query was let
+-- in.
 -- Assumes nothing.
 use Prim.Native.Nat.{ℕ, zero, suc, _+_, _/_, _≤_, _<_}
 use native.Mathlib.Omega.{arith}
@@ -18,7 +19,8 @@ use Rattle.protocol.specs.Memory.{Number, numberIn}
 use Rattle.protocol.specs.Lines.{lineNumbers, eachLine, nowhere}
 use Rattle.protocol.specs.Order.{inOrder}
 use Rattle.protocol.specs.Outcomes.{Result, Outcome, Step, quiet, pickResult, refusedOr, stored, unused}
-use Rattle.protocol.specs.Calls.{openingRules, closingRules, notOpen, shortRoute, otherRoom, unfitAreas, earlyRules, early, ownRules, ownAnswer}
+use Rattle.protocol.specs.Calls.{openingRules, closingRules, notOpen, shortRoute, otherRoom, unfitAreas}
+use Rattle.protocol.specs.Calls.{earlyRules, early, ownRules, ownAnswer}
 
 module _ {S : Type 0} (P : Result S → Type 0) where
   pub of-pick : (b : Bool) (x y : Result S) → (b ≡ true → P x) → (b ≡ false → P y) → P (pickResult b x y)
@@ -27,7 +29,8 @@ module _ {S : Type 0} (P : Result S → Type 0) where
 
   pub of-refused : (n : ℕ) (s : S) (route : List ℕ) (o : Result S)
       → (n ≡ 0 → P o) → ((n ≡ 0 → ⊥) → P (quiet n s route)) → P (refusedOr n s route o)
-  of-refused n s route o f g = of-pick (eqb n 0) o (quiet n s route) (λ e. f (eqb-true n 0 e)) (λ e. g (eqb-false n 0 e))
+  of-refused n s route o f g =
+      of-pick (eqb n 0) o (quiet n s route) (λ e. f (eqb-true n 0 e)) (λ e. g (eqb-false n 0 e))
 
 -- the answer of what may be refused; and where what follows is answered 0
 module _ {S : Type 0} (n : ℕ) (s : S) (route : List ℕ) (o : Result S) where
@@ -74,7 +77,8 @@ pub eachLine-at : (f : ℕ → Bool) (k : ℕ) → k ≤ 7 → getD (eachLine f)
 eachLine-at f k h = map-getD f lineNumbers k 0 false (omega arith) ∙ ap f (numbers-at k (omega arith))
 
 -- refusals of which all use nothing, and some of which none do
-pub all-unused : (cs : List (Bool × ℕ)) → all (λ c. unused (c .1)) cs ≡ true → (firstOf cs ≡ 0 → ⊥) → unused (firstOf cs) ≡ true
+pub all-unused : (cs : List (Bool × ℕ)) → all (λ c. unused (c .1)) cs ≡ true → (firstOf cs ≡ 0 → ⊥)
+    → unused (firstOf cs) ≡ true
 all-unused cs h n = refusal-in unused cs h n
 
 pub none-unused : (cs : List (Bool × ℕ)) → all (λ c. not (unused (c .1))) cs ≡ true → unused (firstOf cs) ≡ false
@@ -91,15 +95,17 @@ is-open s l e =
     (omega arith, not-false (lineAt s l .live) (or-snd (not (ltb l 8)) (not (lineAt s l .live)) e))
 
 -- a closed one
-pub is-closed : (s : Station) (l : ℕ) → (not (ltb l 8) || lineAt s l .live) ≡ false → (l ≤ 7) × (lineAt s l .live ≡ false)
+pub is-closed : (s : Station) (l : ℕ) → (not (ltb l 8) || lineAt s l .live) ≡ false
+    → (l ≤ 7) × (lineAt s l .live ≡ false)
 is-closed s l e =
     let h : l < 8 = ltb-true l 8 (not-false (ltb l 8) (or-fst (not (ltb l 8)) (lineAt s l .live) e)) in
     (omega arith, or-snd (not (ltb l 8)) (lineAt s l .live) e)
 
 same-room : (room out route : ℕ) → unfitAreas room out route ≡ false → route / 8 ≡ room
 same-room room out route e =
-    let f : not (eqb (route / 8) room) ≡ false
-    = or-snd (shortRoute route) (not (eqb (route / 8) room)) (or-snd (ltb out largestMessage) (otherRoom room route) e) in
+    let other : Bool = not (eqb (route / 8) room) in
+    let f : other ≡ false
+    = or-snd (shortRoute route) other (or-snd (ltb out largestMessage) (otherRoom room route) e) in
     eqb-true (route / 8) room (not-false (eqb (route / 8) room) f)
 
 -- the refusals of an opening, a closing, and of a message before its type counts, of a state
@@ -140,7 +146,8 @@ let-in s l m out route e =
       whole = ltb-false (length m) (23 + sizeOf m) (p .1 .1 .1 .1 .1 .0);
     }
 
-pub early-unused : (s : Station) (l : ℕ) (m : List ℕ) (out route : ℕ) → (early s l m out route ≡ 0 → ⊥) → unused (early s l m out route) ≡ true
+pub early-unused : (s : Station) (l : ℕ) (m : List ℕ) (out route : ℕ) → (early s l m out route ≡ 0 → ⊥)
+    → unused (early s l m out route) ≡ true
 unfolding early
 early-unused s l m out route n = all-unused (earlyIn s l m out route) refl n
 
@@ -150,11 +157,13 @@ pub record AskedIn (s : Station) (number text : List ℕ) (route : ℕ) : Type 0
   pub room : route / 8 ≡ s .room
   pub unseen : seen s (numberIn number) ≡ false
 
-pub asked-in : (s : Station) (number text : List ℕ) (out route : ℕ) → ownAnswer s number text out route ≡ 0 → AskedIn s number text route
+pub asked-in : (s : Station) (number text : List ℕ) (out route : ℕ) → ownAnswer s number text out route ≡ 0
+    → AskedIn s number text route
 unfolding ownAnswer
 asked-in s number text out route e =
     let p : NoRefusal (ownIn s number text out route) = no-refusal (ownIn s number text out route) refl e in
-    record { order = not-false (inOrder s) (p .0); room = same-room (s .room) out route (p .1 .0); unseen = p .1 .1 .1 .1 .0 }
+    let room = same-room (s .room) out route (p .1 .0) in
+    record { order = not-false (inOrder s) (p .0); room = room; unseen = p .1 .1 .1 .1 .0 }
 
 -- a message of one type is of no other
 pub other-type : (m : List ℕ) (n k : ℕ) → eqb (kindOf m) n ≡ true → eqb n k ≡ false → eqb (kindOf m) k ≡ false

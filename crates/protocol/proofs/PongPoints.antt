@@ -56,7 +56,7 @@ stored =
 ownPongSent : List ℕ
 ownPongSent = message (replicate 16 9) 0x01 3 0 (0xCA ∷ 0x18 ∷ 127 ∷ 0 ∷ 0 ∷ 1 ∷ replicate 8 0)
 
-both : (written true ≡ (ownPongSent ++ stored) ∷ []) × (written false ≡ stored ∷ [])
+pongs-sent : (written true ≡ (ownPongSent ++ stored) ∷ []) × (written false ≡ stored ∷ [])
 unfolding own pong by events written stored ownPongSent keptPlaces message goodLength tableInOrder queriesIn noTwice
     storedPongs lineInOrder memoryInOrder inOrder walk pongsSent pingStep pongStep fresh opening early byType arriving
-both = (refl, refl)
+pongs-sent = (refl, refl)

@@ -1,20 +1,21 @@
 -- Which stored pongs answer a ping: the 80 places in order, those that may answer, and the first ten of these.
 -- Assumes nothing.
-use Prim.Native.Nat.{ℕ, zero, suc, _+_, _≤_, _<_}
+use Prim.Native.Nat.{ℕ, zero, suc, _+_, _*_, _/_, _%_, _≤_, _<_}
 use native.Mathlib.Omega.{arith}
 use mathlib.Core.Path.{_≡_, refl, sym, ap, ap₂, _∙_}
-use mathlib.Core.Bool.{Bool, true, false, cond, not, _&&_, _||_}
-use mathlib.Core.Logic.{_⊎_, inl, inr, ⊎-elim}
+use mathlib.Core.Bool.{Bool, true, false, cond, _&&_, _||_}
+use mathlib.Core.Logic.{_↔_, _⊎_, inl, inr}
 use mathlib.Core.List.{List, [], _∷_, _++_, map}
 use lib.Dec.{eqb, leb, ltb}
 use lib.ListN.{length, getD, take, length-take}
 use lib.Seq.{getD-take}
-use borrow.Author.Tests.{leb-true, ltb-true, ltb-false, lt-ltb, eqb-true, eqb-false, ne-eqb, not-true}
+use borrow.Author.Tests.{leb-true, ltb-true, ltb-false}
 use Rattle.laws.specs.Tests.{all}
 use Rattle.laws.specs.Ring.{keptPlaces}
-use Rattle.laws.proofs.Refusals.{and-fst, and-snd, and-intro, or-split, of-choice, all-getD, getD-any, all-append}
+use Rattle.laws.proofs.Refusals.{and-fst, and-snd, and-intro, of-choice, all-getD, getD-any, all-append}
 use Rattle.laws.proofs.Refusals.{all-take, all-weaken}
-use Rattle.laws.proofs.Rings.{map-take}
+use Rattle.laws.proofs.Words.{and-iff, or-iff, eqb-iff, other-iff, less-iff}
+use Rattle.laws.proofs.Rings.{map-take, map-getD}
 use Rattle.protocol.specs.declared.Pong.{Pong}
 use Rattle.protocol.specs.declared.Line.{Line}
 use Rattle.wire.specs.Header.{hopsOf, numberOf}
@@ -24,7 +25,7 @@ use Rattle.protocol.specs.Order.{lowHops, lineInOrder, inOrder}
 use Rattle.protocol.specs.Pings.{ranked, keepIf, flat, walk, isFresh, storedSent, pongBytes, oneHopMore}
 use Rattle.protocol.specs.Pings.{storedBytes}
 use Rattle.protocol.specs.Pongs.{Place, firstPlace, pongAt, Before, MayAnswer, Among, FirstTen, storedWritten}
-use Rattle.protocol.proofs.Outcomes.{counting, counted, numbers-at}
+use Rattle.protocol.proofs.Outcomes.{counting, counted}
 use Rattle.protocol.proofs.InOrder.{state-facts, line-facts}
 
 abbrev ranks : List ℕ
@@ -101,13 +102,9 @@ abbrev before : Place → Place → Bool
 before p q = ltb (p .rank) (q .rank) || (eqb (p .rank) (q .rank) && ltb (p .line) (q .line))
 
 before-is : (p q : Place) → before p q ≡ true → Before p q
-before-is p q e =
-    ⊎-elim (λ h. inl (ltb-true (p .rank) (q .rank) h))
-    (λ h. inr (
-      eqb-true (p .rank) (q .rank) (and-fst (eqb (p .rank) (q .rank)) (ltb (p .line) (q .line)) h),
-      ltb-true (p .line) (q .line) (and-snd (eqb (p .rank) (q .rank)) (ltb (p .line) (q .line)) h),
-    ))
-    (or-split (ltb (p .rank) (q .rank)) (eqb (p .rank) (q .rank) && ltb (p .line) (q .line)) e)
+before-is p q =
+    or-iff (ltb (p .rank) (q .rank)) _ (less-iff (p .rank) (q .rank))
+    (and-iff (eqb (p .rank) (q .rank)) _ (eqb-iff (p .rank) (q .rank)) (less-iff (p .line) (q .line))) .0
 
 abbrev rising : List Place → Bool
 rising [] = true
@@ -141,40 +138,26 @@ bounded p = ltb (p .rank) 10 && ltb (p .line) 8
 rows-bounded : all bounded (rows ranks) ≡ true
 rows-bounded = refl
 
--- each place of the 80 is among them
+-- each place of the 80 is among them, at its rank's row and its line
+abbrev placeAt : ℕ → Place
+placeAt n = record { rank = n / 8; line = n % 8 }
+
 later : (q : Place) (ps : List Place) (p : Place) → Among ps p → Among (q ∷ ps) p
 later q ps p a = record { at = suc (a .at); below = let h = a .below in omega arith; is = a .is }
 
-in-rest : (r : ℕ) (ks : List ℕ) (rest : List Place) (p : Place) → Among rest p → Among (row r ks rest) p
-in-rest r [] rest p a = a
-in-rest r (k ∷ ks) rest p a = later (record { rank = r; line = k }) (row r ks rest) p (in-rest r ks rest p a)
-
-in-row : (r : ℕ) (ks : List ℕ) (rest : List Place) (i : ℕ) → i < length ks
-    → Among (row r ks rest) (record { rank = r; line = getD ks i 0 })
-in-row r [] rest i h = absurd (omega arith)
-in-row r (k ∷ ks) rest zero h = record { at = 0; below = omega arith; is = refl }
-in-row r (k ∷ ks) rest (suc i) h =
-    later (record { rank = r; line = k }) (row r ks rest) (record { rank = r; line = getD ks i 0 })
-    (in-row r ks rest i (omega arith))
-
-in-rows : (rs : List ℕ) (j i : ℕ) → j < length rs → i < 8
-    → Among (rows rs) (record { rank = getD rs j 0; line = getD lineNumbers i 0 })
-in-rows [] j i a b = absurd (omega arith)
-in-rows (r ∷ rs) zero i a b = in-row r lineNumbers (rows rs) i b
-in-rows (r ∷ rs) (suc j) i a b =
-    in-rest r lineNumbers (rows rs) (record { rank = getD rs j 0; line = getD lineNumbers i 0 })
-    (in-rows rs j i (omega arith) b)
-
-rank-is : (r : ℕ) → r < 10 → getD ranks r 0 ≡ r
-unfolding counting
-rank-is r h = counted 10 0 r h ∙ omega arith
-
 in-all : (p : Place) → p .rank < 10 → p .line < 8 → Among (rows ranks) p
+unfolding counting
 in-all p a b =
-    let x = in-rows ranks (p .rank) (p .line) a b in
-    let u = rank-is (p .rank) a in
-    let v = numbers-at (p .line) b in
-    record { at = x .at; below = x .below; is = x .is ∙ (λ i. record { rank = u i; line = v i }) }
+    let n : ℕ = 8 * p .rank + p .line in
+    let u : (0 + n) / 8 ≡ p .rank = omega arith in
+    let v : (0 + n) % 8 ≡ p .line = omega arith in
+    record {
+      at = n;
+      below = omega arith;
+      is = map-getD placeAt (counting 80 0) n 0 firstPlace (omega arith)
+          ∙ ap placeAt (counted 80 0 n (omega arith))
+          ∙ (λ i. record { rank = u i; line = v i });
+    }
 
 -- one that passes the test is among those kept
 kept-among : (f : Place → Bool) (ps : List Place) (i : ℕ) → i < length ps → f (getD ps i firstPlace) ≡ true
@@ -284,26 +267,18 @@ module _ (s : Station) (l clock : ℕ) where
           (go ps (and-snd (low (pongAt s p)) (all low (pongs ps)) h))
 
   -- the test, in words
+  may-iff : (p : Place) → (may p ≡ true)
+      ↔ ((p .line ≡ l → ⊥) × ((p .rank < length (storedPongs (lineAt s (p .line))))
+      × (elapsed clock (pongAt s p .clock) < 15000)))
+  may-iff p =
+      and-iff (isOther l (p .line)) _ (other-iff (p .line) l)
+      (and-iff (within p) _ (less-iff (p .rank) _) (less-iff (elapsed clock (pongAt s p .clock)) 15000))
+
   may-is : (p : Place) → may p ≡ true → bounded p ≡ true → MayAnswer s l clock p
   may-is p e b =
-      let x = and-snd (isOther l (p .line)) (within p && isFresh clock (pongAt s p)) e in
-      record {
-        line = ltb-true (p .line) 8 (and-snd (ltb (p .rank) 10) (ltb (p .line) 8) b);
-        other =
-            eqb-false (p .line) l
-            (not-true (eqb (p .line) l) (and-fst (isOther l (p .line)) (within p && isFresh clock (pongAt s p)) e));
-        ten = ltb-true (p .rank) 10 (and-fst (ltb (p .rank) 10) (ltb (p .line) 8) b);
-        stored =
-            ltb-true (p .rank) (length (storedPongs (lineAt s (p .line))))
-            (and-fst (within p) (isFresh clock (pongAt s p)) x);
-        young = ltb-true (elapsed clock (pongAt s p .clock)) 15000 (and-snd (within p) (isFresh clock (pongAt s p)) x);
-      }
-
-  is-may : (p : Place) → MayAnswer s l clock p → may p ≡ true
-  is-may p h =
-      and-intro (isOther l (p .line)) (within p && isFresh clock (pongAt s p)) (ap not (ne-eqb (p .line) l (h .other)))
-      (and-intro (within p) (isFresh clock (pongAt s p)) (lt-ltb _ _ (h .stored))
-      (lt-ltb (elapsed clock (pongAt s p .clock)) 15000 (h .young)))
+      let x = may-iff p .0 e in
+      let y = and-iff (ltb (p .rank) 10) (ltb (p .line) 8) (less-iff (p .rank) 10) (less-iff (p .line) 8) .0 b in
+      record { line = y .1; other = x .0; ten = y .0; stored = x .1 .0; young = x .1 .1 }
 
   up : rising eligible ≡ true
   up = rising-keep may (rows ranks) rows-rising
@@ -323,8 +298,9 @@ module _ (s : Station) (l clock : ℕ) where
             (rising-at eligible up i j a (omega arith));
         rest = λ p h.
             let x = in-all p (h .ten) (h .line) in
+            let e : may p ≡ true = may-iff p .1 (h .other, (h .stored, h .young)) in
             let y : Among eligible p
-            = rw (sym (x .is)) (kept-among may (rows ranks) (x .at) (x .below) (ap may (x .is) ∙ is-may p h)) in
+            = rw (sym (x .is)) (kept-among may (rows ranks) (x .at) (x .below) (ap may (x .is) ∙ e)) in
             tenth p y (ltb (y .at) 10) refl;
       }
     where

@@ -1,12 +1,10 @@
--- The text of a query from outside, proved.
+-- The text of a query from outside, proved: what stands behind the speed, up to the first zero byte.
 -- Assumes nothing.
 use Prim.Native.Nat.{ℕ}
 use mathlib.Core.Path.{_≡_, refl, sym, ap, _∙_}
-use mathlib.Core.Bool.{Bool, true, false, cond, _||_, false≢true}
-use mathlib.Core.Logic.{_↔_}
+use mathlib.Core.Bool.{Bool, true, false, _||_, false≢true}
 use mathlib.Core.List.{List, [], _∷_, _++_}
 use lib.Dec.{eqb}
-use lib.ListN.{length, drop}
 use borrow.Author.Tests.{eqb-true, eqb-false, ne-eqb}
 use Rattle.laws.specs.Tests.{any}
 use Rattle.laws.proofs.Refusals.{or-fst, or-snd}
@@ -21,7 +19,8 @@ until : (text rest : List ℕ) → any (eqb 0) text ≡ false → untilZero (tex
 unfolding untilZero
 until [] rest h = refl
 until (b ∷ bs) rest h =
-    rw (flip b (or-fst (eqb 0 b) (any (eqb 0) bs) h)) (ap (λ (t : List ℕ). b ∷ t) (until bs rest (or-snd (eqb 0 b) (any (eqb 0) bs) h)))
+    rw (flip b (or-fst (eqb 0 b) (any (eqb 0) bs) h))
+    (ap (λ (t : List ℕ). b ∷ t) (until bs rest (or-snd (eqb 0 b) (any (eqb 0) bs) h)))
 
 has-zero : (text rest : List ℕ) → any (eqb 0) (text ++ (0 ∷ rest)) ≡ true
 has-zero [] rest = refl

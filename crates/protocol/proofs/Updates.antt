@@ -12,7 +12,8 @@ use borrow.Author.Tests.{ne-eqb, leb-true, eqb-true}
 use Rattle.laws.specs.Tests.{any}
 use Rattle.laws.proofs.Refusals.{Each, each, answer-in, refusal-in, or-right}
 use Rattle.tables.specs.Tables.{Held, lengths, goodLength}
-use Rattle.tables.specs.Updates.{lengthIn, infinityIn, isPatch, resetTests, patchTests, turnTests, goodReset, goodPatch}
+use Rattle.tables.specs.Updates.{lengthIn, infinityIn, isPatch, resetTests, patchTests, turnTests, goodReset}
+use Rattle.tables.specs.Updates.{goodPatch}
 use Rattle.tables.specs.Updates.{inTurn, inRange, updateAnswer, updated, resetBy, patchBy, brokenBy}
 use Rattle.tables.proofs.AnswerLaws.{ways}
 use Rattle.tables.proofs.KeepLaws.{moved-length, patched-length}

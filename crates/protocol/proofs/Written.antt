@@ -5,13 +5,13 @@ use native.Mathlib.Omega.{arith}
 use mathlib.Core.Path.{_≡_, refl, sym, ap, ap₂, _∙_}
 use mathlib.Core.Bool.{Bool, true, false, cond}
 use mathlib.Core.List.{List, [], _∷_, _++_, append-nil, append-assoc}
-use lib.Dec.{eqb, leb}
+use lib.Dec.{eqb}
 use lib.ListN.{length, getD, drop, length-append}
 use lib.Seq.{drop-at}
 use borrow.Author.Tests.{eqb-true, leb-true, eq-eqb, le-leb}
 use Rattle.laws.specs.Tests.{any, all}
 use Rattle.laws.proofs.Refusals.{clash, and-fst, and-snd, all-append, or-left, or-right, of-choice}
-use Rattle.wire.specs.Header.{numberOf, kindOf, ttlOf, hopsOf, sizeOf, payloadOf, message}
+use Rattle.wire.specs.Header.{numberOf, kindOf, ttlOf, hopsOf, payloadOf, message}
 use Rattle.wire.proofs.HeaderLaws.{message-length, message-number, message-kind, message-ttl, message-hops}
 use Rattle.wire.proofs.HeaderLaws.{message-size, message-payload}
 use Rattle.protocol.specs.Written.{Part, wellCut, written, CutOnce, Writes, WrittenFor}
@@ -19,41 +19,39 @@ use Rattle.protocol.specs.Outcomes.{writtenFor}
 use Rattle.protocol.proofs.Blind.{ReadsAlike, reads-more}
 
 -- the first message is read off the bytes, whatever follows it
+abbrev readPart : List ℕ → Part
+readPart m =
+    record { number = numberOf m; kind = kindOf m; ttl = ttlOf m; hops = hopsOf m; payload = payloadOf m }
+
 module _ (p : Part) (c : wellCut p ≡ true) (rest : List ℕ) where
   abbrev first : List ℕ
   first = message (p .number) (p .kind) (p .ttl) (p .hops) (p .payload)
 
   sixteen : length (p .number) ≡ 16
-  sixteen = eqb-true (length (p .number)) 16 (and-fst (eqb (length (p .number)) 16) (leb (length (p .payload)) 4096) c)
+  sixteen = eqb-true (length (p .number)) 16 (and-fst (eqb (length (p .number)) 16) _ c)
 
   most : length (p .payload) ≤ 4096
-  most = leb-true (length (p .payload)) 4096 (and-snd (eqb (length (p .number)) 16) (leb (length (p .payload)) 4096) c)
+  most = leb-true (length (p .payload)) 4096 (and-snd (eqb (length (p .number)) 16) _ c)
 
   long : length first ≡ 23 + length (p .payload)
   long = message-length (p .number) (p .kind) (p .ttl) (p .hops) (p .payload) sixteen
 
-  size : sizeOf first ≡ length (p .payload)
-  size = message-size (p .number) (p .kind) (p .ttl) (p .hops) (p .payload) sixteen (omega (arith, most))
-
-  alike : ReadsAlike (first ++ rest) first
-  alike = reads-more first rest (omega (arith, size, long))
-
-  reads-number : numberOf (first ++ rest) ≡ p .number
-  reads-number = alike .number ∙ message-number (p .number) (p .kind) (p .ttl) (p .hops) (p .payload) sixteen
-
-  reads-kind : kindOf (first ++ rest) ≡ p .kind
-  reads-kind = alike .kind ∙ message-kind (p .number) (p .kind) (p .ttl) (p .hops) (p .payload) sixteen
-
-  reads-ttl : ttlOf (first ++ rest) ≡ p .ttl
-  reads-ttl = alike .ttl ∙ message-ttl (p .number) (p .kind) (p .ttl) (p .hops) (p .payload) sixteen
-
-  reads-hops : hopsOf (first ++ rest) ≡ p .hops
-  reads-hops = alike .hops ∙ message-hops (p .number) (p .kind) (p .ttl) (p .hops) (p .payload) sixteen
-
-  reads-payload : payloadOf (first ++ rest) ≡ p .payload
-  reads-payload =
-      alike .payload
-      ∙ message-payload (p .number) (p .kind) (p .ttl) (p .hops) (p .payload) sixteen (omega (arith, most))
+  reads : readPart (first ++ rest) ≡ p
+  reads =
+      let number : List ℕ = p .number in
+      let kind : ℕ = p .kind in
+      let ttl : ℕ = p .ttl in
+      let hops : ℕ = p .hops in
+      let payload : List ℕ = p .payload in
+      let size = message-size number kind ttl hops payload sixteen (omega (arith, most)) in
+      let alike : ReadsAlike (first ++ rest) first = reads-more first rest (omega (arith, size, long)) in
+      λ i. record {
+        number = (alike .number ∙ message-number number kind ttl hops payload sixteen) i;
+        kind = (alike .kind ∙ message-kind number kind ttl hops payload sixteen) i;
+        ttl = (alike .ttl ∙ message-ttl number kind ttl hops payload sixteen) i;
+        hops = (alike .hops ∙ message-hops number kind ttl hops payload sixteen) i;
+        payload = (alike .payload ∙ message-payload number kind ttl hops payload sixteen (omega (arith, most))) i;
+      }
 
   reads-rest : drop (23 + length (p .payload)) (first ++ rest) ≡ rest
   reads-rest = drop-at first rest (23 + length (p .payload)) long
@@ -65,13 +63,7 @@ module _ (p : Part) (c : wellCut p ≡ true) (rest : List ℕ) where
 module _ (p q : Part) (c : wellCut p ≡ true) (d : wellCut q ≡ true) (xs ys : List ℕ)
     (e : first p c xs ++ xs ≡ first q d ys ++ ys) where
   same-first : p ≡ q
-  same-first =
-      let a = sym (reads-number p c xs) ∙ ap numberOf e ∙ reads-number q d ys in
-      let k = sym (reads-kind p c xs) ∙ ap kindOf e ∙ reads-kind q d ys in
-      let t = sym (reads-ttl p c xs) ∙ ap ttlOf e ∙ reads-ttl q d ys in
-      let h = sym (reads-hops p c xs) ∙ ap hopsOf e ∙ reads-hops q d ys in
-      let b = sym (reads-payload p c xs) ∙ ap payloadOf e ∙ reads-payload q d ys in
-      λ i. record { number = a i; kind = k i; ttl = t i; hops = h i; payload = b i }
+  same-first = sym (reads p c xs) ∙ ap readPart e ∙ reads q d ys
 
   same-rest : xs ≡ ys
   same-rest =

@@ -1,5 +1,6 @@
-// Floor 4: the ordered refusals of the calls, as number functions: plain values in, a number of RULES 2.1 out, 0 where nothing is refused. Each
-// makes the tests of its rules, which are those of crate protocol; a function beside it has their numbers and their order.
+// Floor 4: the ordered refusals of the calls, as number functions: plain values in, a number of RULES 2.1 out, 0
+// where nothing is refused. Each makes the tests of its rules, which are those of crate protocol; a function beside
+// it has their numbers and their order.
 ghost use Prim.Native.Nat.{_+_};
 ghost use mathlib.Core.Path.{_≡_};
 ghost use mathlib.Core.Bool.{not};
@@ -52,7 +53,8 @@ fn early_number(order: bool, unfit: bool, closed: bool, short: bool, over: bool,
     0
 }
 
-// The refusals of an arriving message before its type counts: `len` bytes of it are there, and its header says `size` for its payload.
+// The refusals of an arriving message before its type counts: `len` bytes of it are there, and its header says `size`
+// for its payload.
 pub fn early(
     order: bool,
     room: usize,
@@ -175,7 +177,8 @@ pub fn query(limit: u8, h: Header, ended: bool, known: Lookup) -> u8
     query_number(ended, unfit, known.found, h.hops == 255)
 }
 
-// Payload too short, no TTL, no such query, its line closed since, and for one that goes on: no TTL left, Hops that can't grow.
+// Payload too short, no TTL, no such query, its line closed since, and for one that goes on: no TTL left, Hops that
+// can't grow.
 fn hit_number(short: bool, ttl0: bool, found: bool, gone: bool, ttl1: bool, hops255: bool) -> u8
     ensures { λ r. ⌜ r ≡ firstOf ((short, 6) ∷ (ttl0, 8) ∷ (not found, 10) ∷ (gone, 11) ∷ (ttl1, 8) ∷ (hops255, 12) ∷ []) ⌝ }
 {

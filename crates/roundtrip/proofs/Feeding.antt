@@ -22,7 +22,7 @@ use Rattle.protocol.specs.declared.Report.{Report}
 use Rattle.protocol.specs.Lines.{withTable, partOf}
 use Rattle.protocol.specs.State.{Station, lineAt, heldAt}
 use Rattle.protocol.specs.Outcomes.{Terms, termsOf, Outcome, usedOf}
-use Rattle.protocol.specs.Calls.{messageOutcome, messageReport}
+use Rattle.protocol.specs.Calls.{updateStep, messageOutcome, messageReport}
 use Rattle.protocol.specs.Kept.{Kept}
 use Rattle.protocol.specs.Arrived.{Arrived}
 use Rattle.protocol.proofs.Updates.{by-update}
@@ -101,10 +101,12 @@ module _ (s : Station) (L : ℕ) (area : List ℕ) (w : Listening s L area) wher
     now′ = after (s .room) (heldAt s L area) m
 
     line-then : lineAt (left .state) L ≡ withTable (lineAt s L) (now′ .table)
+    unfolding updateStep
     line-then = line-set s L (withTable (lineAt s L) (now′ .table)) line-below
 
     module _ (n : ℕ) (within : n ≤ s .room) (full : Full n now′) where
       pub held-then : heldAt (left .state) L (left .route) ≡ now′
+      unfolding updateStep
       held-then =
           let x : List ℕ = over (L * s .room) (now′ .entries) area in
           let same : now′ .table .length ≡ length (now′ .entries) = full .table ∙ sym (full .entries) in
@@ -117,6 +119,7 @@ module _ (s : Station) (L : ℕ) (area : List ℕ) (w : Listening s L area) wher
 
       -- the station listens on
       pub listens-on : Terms → Listening (left .state) L (left .route)
+      unfolding updateStep
       listens-on t =
           let t′ : Terms = termsOf (t .clock) (t .own) 4119 in
           let k : Kept s (left .state)
@@ -136,9 +139,11 @@ module _ (s : Station) (L : ℕ) (area : List ℕ) (w : Listening s L area) wher
     -- answered 0: nothing is sent, and the message's bytes are used
     module _ (taken : answerTo (s .room) (heldAt s L area) m ≡ 0) where
       pub left-taken : Taken left
+      unfolding updateStep
       left-taken = (taken, quiet-silent _ _ _)
 
       used-whole : (x : List ℕ) (t : Terms) → 4119 ≤ t .out → messageReport s L (m ++ x) t area .used ≡ length m
+      unfolding updateStep
       used-whole x t h =
           ap (λ (r : Report). r .used) (taken-before m x header .report s L t area)
           ∙ ap (λ a. usedOf a m) (ap (λ (o : Outcome). o .answer) (alone t h) ∙ taken)

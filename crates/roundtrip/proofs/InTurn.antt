@@ -18,6 +18,7 @@ use Rattle.protocol.specs.declared.Line.{Line}
 use Rattle.protocol.specs.Lines.{withTable}
 use Rattle.protocol.specs.State.{Station, stationOf, lineAt, withLine, heldAt}
 use Rattle.protocol.specs.Outcomes.{Terms}
+use Rattle.protocol.specs.Calls.{updateStep}
 use Rattle.protocol.proofs.Outcomes.{stored-again}
 use Rattle.protocol.proofs.ByType.{updateDone}
 use Rattle.protocol.proofs.Matching.{line-set}
@@ -92,7 +93,7 @@ pub feeding : (L n k : ℕ) (t : ℕ → Terms) (s : Station) (area : List ℕ) 
     → length (joined ms) ≤ k
     → ((i : ℕ) → 4119 ≤ t i .out)
     → FedTo s L area (length ms) (length (joined ms)) (afterAll (s .room) h ms) (fedBy k t L s area (joined ms))
-unfolding joined answersTo afterAll
+unfolding joined answersTo afterAll updateStep
 feeding L n k t s area h [] w e within good full answers enough outs = fed-none k t s L area h e
 feeding L n zero t s area h (m ∷ ms) w e within good full answers enough outs =
     let long : length m + length (joined ms) ≤ 0 = rw (length-append m (joined ms)) at enough in

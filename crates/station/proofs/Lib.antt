@@ -1,3 +1,4 @@
 -- Laws of the steps and of the calls.
 pub mod ActionLaws
+pub mod PingLaws
 pub mod CallLaws

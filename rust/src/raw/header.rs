@@ -1,10 +1,12 @@
-//! `include/lunozhar.h` and this module say the same: constants, structs with their layout, functions.
+//! `include/lunozhar.h` and this crate say the same: constants, structs with their layout, the functions of the library, and those that are
+//! defined over them on either side.
 
 use super::*;
 use crate::Refusal;
 
 const HEADER: &str = include_str!("../../../include/lunozhar.h");
 const RAW: &str = include_str!("../raw.rs");
+const BOUNDARY: &str = include_str!("../boundary.rs");
 
 /// The header without comments and preprocessor lines.
 fn code() -> String {
@@ -15,10 +17,23 @@ fn code() -> String {
     code.lines().filter(|line| !line.starts_with('#')).collect::<Vec<_>>().join("\n")
 }
 
-/// A type of C, without `const` and stars, in Rust: `uint8_t` is `u8`, and `lunozhar_table` is `Table`.
+/// The same, cut into what is declared, and the heads of the functions that are defined.
+fn declared_and_defined() -> (String, Vec<String>) {
+    let code = code();
+    let (declared, rest) = code.split_once("static inline ").unwrap();
+    let (mut declared, mut defined) = (declared.to_string(), Vec::new());
+    for function in rest.split("static inline ") {
+        let (head, body) = function.split_once(" {\n").unwrap();
+        defined.push(on_one_line(head));
+        declared.push_str(body.split_once("\n}\n").unwrap().1);
+    }
+    (declared, defined)
+}
+
+/// A type of C, without `const` and stars, in Rust: `uint8_t` is `u8`, and `lunozhar_line_change` is `LineChange`.
 fn rust_type(c: &str) -> String {
     if let Some(name) = c.strip_prefix("lunozhar_") {
-        return name[..1].to_uppercase() + &name[1..];
+        return name.split('_').map(|word| word[..1].to_uppercase() + &word[1..]).collect();
     }
     match c {
         "bool" => "bool".to_string(),
@@ -69,18 +84,20 @@ fn structs_of_rust() -> Vec<String> {
         .collect()
 }
 
+/// A function of C, as Rust has it.
+fn rust_function(c: &str) -> String {
+    let (function, parameters) = c.trim_end_matches(')').split_once('(').unwrap();
+    let parameters: Vec<String> = parameters.split(", ").map(rust_declaration).collect();
+    let function = rust_declaration(function);
+    let (name, result) = function.split_once(": ").unwrap();
+    format!("{name}({}) -> {result}", parameters.join(", ")).replace(" -> void", "")
+}
+
+/// The functions of the library.
 fn functions_of_c() -> Vec<String> {
-    let code = code();
-    let calls = code.split(';').map(on_one_line).filter(|text| text.contains('(') && !text.starts_with("LUNOZHAR_"));
-    calls
-        .map(|text| {
-            let (function, parameters) = text.trim_end_matches(')').split_once('(').unwrap();
-            let parameters: Vec<String> = parameters.split(", ").map(rust_declaration).collect();
-            let function = rust_declaration(function);
-            let (name, result) = function.split_once(": ").unwrap();
-            format!("{name}({}) -> {result}", parameters.join(", ")).replace(" -> void", "")
-        })
-        .collect()
+    let calls = declared_and_defined().0;
+    let calls = calls.split(';').map(on_one_line).filter(|text| text.contains('(') && !text.starts_with("LUNOZHAR_"));
+    calls.map(|text| rust_function(&text)).collect()
 }
 
 fn functions_of_rust() -> Vec<String> {
@@ -88,6 +105,17 @@ fn functions_of_rust() -> Vec<String> {
     let code: Vec<&str> = block.lines().filter(|line| !line.trim().starts_with("///")).collect();
     let functions = code.join("\n");
     functions.split_terminator(';').map(|text| on_one_line(text).replacen("pub fn ", "", 1)).filter(|text| !text.is_empty()).collect()
+}
+
+/// The functions over those of the library that take a station, but for the one that Rust has no use for.
+fn wrappers_of_c() -> Vec<String> {
+    let functions = declared_and_defined().1;
+    functions.iter().map(|text| rust_function(text)).filter(|text| !text.starts_with("lunozhar_lines_of(")).collect()
+}
+
+fn wrappers_of_rust() -> Vec<String> {
+    let functions = BOUNDARY.split("pub unsafe fn ").skip(1).map(|text| text.split_once(" {\n").unwrap().0);
+    functions.map(on_one_line).collect()
 }
 
 #[test]
@@ -100,6 +128,8 @@ fn the_structs_are_the_same() {
 fn the_functions_are_the_same() {
     assert_eq!(functions_of_c(), functions_of_rust());
     assert_eq!(functions_of_rust().len(), 16);
+    assert_eq!(wrappers_of_c(), wrappers_of_rust());
+    assert_eq!(wrappers_of_rust().len(), 6);
 }
 
 #[test]
@@ -111,7 +141,7 @@ fn the_layout_that_is_asserted_is_the_same() {
         .collect();
     let mut listed = Vec::new();
     for (name, size, fields) in LAYOUT {
-        let name = name.to_lowercase();
+        let name = in_capitals(name).to_lowercase();
         listed.push(format!("SIZE {name} {size}"));
         listed.extend(fields.iter().map(|(field, at)| format!("AT {name} {field} {at}")));
     }

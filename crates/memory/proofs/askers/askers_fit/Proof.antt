@@ -49,8 +49,8 @@ returns c =
     let start = first .before .before in
     let a = start .args in
     rw (c .part-fits2 .ensures, c .before .before .part-fits .ensures)
-    (parts-kept (askerFits (λ k. getD (a .live) k false)) (a .asker .now) (a .next) (a .count) (first .below .result) (start .pre .0) (start .pre .1)
-    (first .below .ensures))
+    (parts-kept (askerFits (λ k. getD (a .live) k false)) (a .asker .now) (a .next) (a .count) (first .below .result)
+    (start .pre .0) (start .pre .1) (first .below .ensures))
 
 pub askers-fit-spec : {M : Type 1} → statement M
 askers-fit-spec =

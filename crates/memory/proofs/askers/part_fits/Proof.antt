@@ -1,10 +1,12 @@
 -- `good` is the test of the passes made: nobody, and the lines below k.
 use Prim.Native.Nat.{_-_, _≤_}
-use mathlib.Core.Path.{_≡_, _∙_}
-use mathlib.Core.Bool.{false}
+use mathlib.Core.Path.{_≡_, sym, ap₂, _∙_}
+use mathlib.Core.Bool.{false, _&&_, and-true}
+use mathlib.Core.Logic.{⊎-elim}
 use native.Mathlib.Omega.{arith}
 use lib.ListN.{getD}
 use borrow.Author.Needs.{needs}
+use borrow.Author.Tests.{not-true, not-false}
 use Rattle.laws.specs.Tests.{all}
 use Rattle.memory.proofs.AskerLaws.{fitsTo, pass-none, pass-more, pass-last}
 use Rattle.memory.proofs.askers.part_fits.Statement.{statement}
@@ -24,14 +26,14 @@ loop-holds c =
     let a = c .before .before .args in
     (search needs, c .all-fit-beside .ensures ∙ pass-none (λ j. getD (a .t2) j false) (a .part .now))
 
-array-read-open-or-absent : tie.Need-array-read-open-or-absent Inv-loop μ-loop
-array-read-open-or-absent c = search needs
+array-read-if1 : tie.Need-array-read-if1 Inv-loop μ-loop
+array-read-if1 c = search needs
 
-cast-open-or-absent : tie.Need-cast-open-or-absent Inv-loop μ-loop
-cast-open-or-absent c = search needs
+cast-all-fit-beside : tie.Need-cast-all-fit-beside Inv-loop μ-loop
+cast-all-fit-beside c = search needs
 
-open-or-absent-requires : tie.Need-open-or-absent-requires Inv-loop μ-loop
-open-or-absent-requires c κs = search needs
+all-fit-beside-requires-2 : tie.Need-all-fit-beside-requires-2 Inv-loop μ-loop
+all-fit-beside-requires-2 c κs = search needs
 
 add-k : tie.Need-add-k Inv-loop μ-loop
 add-k c = search needs
@@ -44,7 +46,14 @@ loop-again c =
     let head = c .before .before in
     let a = head .before .before .before .args in
     let l = head .loop in
-    (search needs, rw (l .inv .1, c .open-or-absent .ensures) (pass-more (λ j. getD (a .t2) j false) (a .part .now) (l .k)))
+    let live = getD (a .t2) (l .k) false in
+    let e = pass-more (λ j. getD (a .t2) j false) (a .part .now) (l .k) in (
+      search needs,
+      ⊎-elim
+          (λ w. w .2 ∙ ap₂ _&&_ (l .inv .1) (w .1 .ensures) ∙ rw (not-true live (w .0 .taken)) at e)
+          (λ w. w .1 ∙ l .inv .1 ∙ sym (and-true _) ∙ rw (not-false live (w .0 .left)) at e)
+          (c .if1 .came),
+    )
 
 returns : tie.Need-returns Inv-loop μ-loop
 returns c =
@@ -61,9 +70,9 @@ part-fits-spec =
     μ-loop
     all-fit-beside-requires
     loop-holds
-    array-read-open-or-absent
-    cast-open-or-absent
-    open-or-absent-requires
+    array-read-if1
+    cast-all-fit-beside
+    all-fit-beside-requires-2
     add-k
     loop-less
     loop-again

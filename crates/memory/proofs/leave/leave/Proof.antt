@@ -10,7 +10,8 @@ use Rattle.memory.proofs.leave.leave.Statement.{statement}
 use Rattle.memory.proofs.leave.leave.Tie as tie
 
 abbrev Inv-loop : tie.InvT-loop
-Inv-loop asker₀ line i₀ asker i = (i ≤ length asker₀) × (length asker ≡ length asker₀) × (asker ≡ mapped (left line) asker₀ i)
+Inv-loop asker₀ line i₀ asker i =
+    (i ≤ length asker₀) × (length asker ≡ length asker₀) × (asker ≡ mapped (left line) asker₀ i)
 
 abbrev μ-loop : tie.MeasureT-loop
 μ-loop asker₀ line i₀ asker i = length asker₀ - i
@@ -38,7 +39,8 @@ loop-again c =
     let l = c .before .before .before .loop in
     let a = c .before .before .before .before .before .args in
     let f = left (a .line) in
-    let v = c .left-by .ensures ∙ ap f (ap (λ (x : List ℕ). getD x (l .i) 0) (l .inv .2) ∙ mapped-at f (a .asker .now) (l .i)) in (
+    let u = ap (λ (x : List ℕ). getD x (l .i) 0) (l .inv .2) ∙ mapped-at f (a .asker .now) (l .i) in
+    let v = c .left-by .ensures ∙ ap f u in (
       search needs,
       rw length-set (l .inv .1),
       rw (l .inv .2, v) (mapped-more f (a .asker .now) (l .i) (search needs)),

@@ -17,7 +17,8 @@ returns c =
     let a = c .before .before .before .before .args in
     let n = length (a .lo .now) in
     let ring = memoryOf (a .lo .now) (a .hi .now) (a .asker .now) (a .count) (a .next) in
-    (sym (order-unfit n ring (λ k. getD (a .live) k false) (not-true (ringFits n (a .next) (a .count)) (c .if1 .taken))), λ t. absurd (false≢true t))
+    let f = not-true (ringFits n (a .next) (a .count)) (c .if1 .taken) in
+    (sym (order-unfit n ring (λ k. getD (a .live) k false) f), λ t. absurd (false≢true t))
 
 askers-fit-requires : tie.Need-askers-fit-requires
 askers-fit-requires c κs =
@@ -34,10 +35,10 @@ returns-2 c =
     let n = length (a .lo .now) in
     let ring = memoryOf (a .lo .now) (a .hi .now) (a .asker .now) (a .count) (a .next) in
     let f = not-false (ringFits n (a .next) (a .count)) (tested .if1 .left) in
-    let r = c .before .askers-fit in (
-      sym (order-fit n ring (λ k. getD (a .live) k false) (start .pre .0) f ∙ rw (sym (r .ensures) ∙ not-true (r .result) (c .if2 .taken)) (and-false (noTwice (queriesBefore n ring)))),
-      λ t. absurd (false≢true t),
-    )
+    let r = c .before .askers-fit in
+    let e = sym (r .ensures) ∙ not-true (r .result) (c .if2 .taken) in
+    let o = order-fit n ring (λ k. getD (a .live) k false) (start .pre .0) f in
+    (sym (o ∙ rw e (and-false (noTwice (queriesBefore n ring)))), λ t. absurd (false≢true t))
 
 no-twice-requires : tie.Need-no-twice-requires
 no-twice-requires c κs =
@@ -57,9 +58,11 @@ returns-3 c =
     let ring = memoryOf (a .lo .now) (a .hi .now) (a .asker .now) (a .count) (a .next) in
     let f = not-false (ringFits n (a .next) (a .count)) (tested .if1 .left) in
     let r = asked .askers-fit in
+    let e = sym (r .ensures) ∙ not-false (r .result) (c .before .before .if2 .left) in
+    let o = order-fit n ring (λ k. getD (a .live) k false) (start .pre .0) f in
     let q = c .no-twice in (
       tested-is _ (queriesBefore n ring) (q .result) (q .ensures)
-          ∙ sym (order-fit n ring (λ k. getD (a .live) k false) (start .pre .0) f ∙ rw (sym (r .ensures) ∙ not-false (r .result) (c .before .before .if2 .left)) (and-true (noTwice (queriesBefore n ring)))),
+          ∙ sym (o ∙ rw e (and-true (noTwice (queriesBefore n ring)))),
       λ t. rw (kept-all n ring f) (tested-passed _ (queriesBefore n ring) (q .result) (q .ensures) t),
     )
 

@@ -28,7 +28,8 @@ returns c =
     let e : length (a .lo .now) ≡ 512 = omega arith in
     let known = rw e at (o .ensures .1 (c .before .before .if1 .taken)) in
     let qs = queriesIn capacity (memoryOf (a .lo .now) (a .hi .now) (a .asker .now) (a .count) (a .next)) in
-    (rw e at (o .ensures .0), c .absent .ensures ∙ ap lookupOf (sym (lacks-absent _ qs (a .low) (a .high) known (c .before .if2 .taken))))
+    let none = lacks-absent _ qs (a .low) (a .high) known (c .before .if2 .taken) in
+    (rw e at (o .ensures .0), c .absent .ensures ∙ ap lookupOf (sym none))
 
 find-requires : tie.Need-find-requires
 find-requires c κs = search needs

@@ -19,8 +19,9 @@ unfolding find
 returns c =
     let a = c .before .before .before .before .before .args in
     let n = length (a .lo .now) in
-    c .absent .ensures
-    ∙ rw (kept-none n (memoryOf (a .lo .now) (a .hi .now) (a .asker .now) (a .count) (a .next)) (not-true (ringFits n (a .next) (a .count)) (c .before .if1 .taken)))
+    let ring = memoryOf (a .lo .now) (a .hi .now) (a .asker .now) (a .count) (a .next) in
+    let f = not-true (ringFits n (a .next) (a .count)) (c .before .if1 .taken) in
+    c .absent .ensures ∙ rw (kept-none n ring f)
 
 below-requires : tie.Need-below-requires
 below-requires c κs = search needs
@@ -38,11 +39,11 @@ returns-2 c =
     let a = tested .before .before .before .before .args in
     let n = length (a .lo .now) in
     let f = not-false (ringFits n (a .next) (a .count)) (tested .if1 .left) in
+    let ring = memoryOf (a .lo .now) (a .hi .now) (a .asker .now) (a .count) (a .next) in
     let r = c .before .newest in
-    r .ensures
-    ∙ ap lookupOf
-    (find-first n (memoryOf (a .lo .now) (a .hi .now) (a .asker .now) (a .count) (a .next)) (numberFrom (a .a) (a .b)) (c .before .before .below .result) f
-    (c .before .before .below .ensures) (sym (ap (λ (x : Lookup). x .found) (r .ensures)) ∙ c .if2 .taken))
+    let first = c .before .before .below in
+    let found = sym (ap (λ (x : Lookup). x .found) (r .ensures)) ∙ c .if2 .taken in
+    r .ensures ∙ ap lookupOf (find-first n ring (numberFrom (a .a) (a .b)) (first .result) f (first .ensures) found)
 
 sub-newest : tie.Need-sub-newest
 sub-newest c = search needs
@@ -61,12 +62,12 @@ returns-3 c =
     let a = tested .before .before .before .before .args in
     let n = length (a .lo .now) in
     let f = not-false (ringFits n (a .next) (a .count)) (tested .if1 .left) in
+    let ring = memoryOf (a .lo .now) (a .hi .now) (a .asker .now) (a .count) (a .next) in
     let r = c .before .before .newest in
     let first = c .before .before .before .below in
+    let none = sym (ap (λ (x : Lookup). x .found) (r .ensures)) ∙ c .before .if2 .left in
     c .newest2 .ensures
-    ∙ ap lookupOf
-    (find-rest n (memoryOf (a .lo .now) (a .hi .now) (a .asker .now) (a .count) (a .next)) (numberFrom (a .a) (a .b)) (first .result) f (first .ensures)
-    (sym (ap (λ (x : Lookup). x .found) (r .ensures)) ∙ c .before .if2 .left))
+    ∙ ap lookupOf (find-rest n ring (numberFrom (a .a) (a .b)) (first .result) f (first .ensures) none)
 
 pub find-spec : {M : Type 1} → statement M
 find-spec =

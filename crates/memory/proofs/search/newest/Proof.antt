@@ -51,11 +51,11 @@ returns c =
     let a = head .before .before .before .before .args in
     let l = head .loop in
     let ring = memoryOf (a .lo .now) (a .hi .now) (a .asker .now) 0 0 in
-    let e =
-    sym (l .inv .1)
-    ∙ left-here (queryAt ring) (length (a .lo .now)) (numberFrom (a .a) (a .b)) (a .from) (a .n) (a .passed) (l .i) (search needs) (search needs) (search needs)
-    (rw (eq-eqb _ _ (turn .if1 .taken), eq-eqb _ _ (sym (c .before .before .word-at .ensures) ∙ c .before .if2 .taken))) in
-    rw (e, c .byte-at .ensures)
+    let here =
+    left-here (queryAt ring) (length (a .lo .now)) (numberFrom (a .a) (a .b)) (a .from) (a .n) (a .passed) (l .i)
+    (search needs) (search needs) (search needs) in
+    let same = sym (c .before .before .word-at .ensures) ∙ c .before .if2 .taken in
+    rw (sym (l .inv .1) ∙ here (rw (eq-eqb _ _ (turn .if1 .taken), eq-eqb _ _ same)), c .byte-at .ensures)
 
 add-i : tie.Need-add-i Inv-loop μ-loop
 add-i c = search needs
@@ -69,7 +69,9 @@ loop-again c =
     let a = head .before .before .before .before .args in
     let l = head .loop in
     let ring = memoryOf (a .lo .now) (a .hi .now) (a .asker .now) 0 0 in
-    let on = left-on (queryAt ring) (length (a .lo .now)) (numberFrom (a .a) (a .b)) (a .from) (a .n) (a .passed) (l .i) (search needs) (search needs) (search needs) in (
+    let on =
+    left-on (queryAt ring) (length (a .lo .now)) (numberFrom (a .a) (a .b)) (a .from) (a .n) (a .passed) (l .i)
+    (search needs) (search needs) (search needs) in (
       search needs,
       ⊎-elim
           (λ w. on (rw (eq-eqb _ _ (w .0 .taken), ne-eqb _ _ (λ e. w .2 .left (w .1 .ensures ∙ e)))) ∙ l .inv .1)
@@ -86,7 +88,9 @@ returns-2 c =
     let a = head .before .before .before .before .args in
     let l = head .loop in
     let ring = memoryOf (a .lo .now) (a .hi .now) (a .asker .now) 0 0 in
-    let e = left-end (queryAt ring) (length (a .lo .now)) (numberFrom (a .a) (a .b)) (a .from - l .i) (a .n - l .i) (a .passed + l .i) (omega arith) in
+    let e =
+    left-end (queryAt ring) (length (a .lo .now)) (numberFrom (a .a) (a .b)) (a .from - l .i) (a .n - l .i)
+    (a .passed + l .i) (omega arith) in
     c .absent .ensures ∙ ap lookupOf (sym e ∙ l .inv .1)
 
 pub newest-spec : {M : Type 1} → statement M
