@@ -1,76 +1,97 @@
 -- Laws that join an event's call to the station's calls.
-use Prim.Native.Nat.{ℕ}
+use Prim.Native.Nat.{ℕ, _%_}
 use mathlib.Core.Path.{_≡_, refl, sym, ap, ap₂, _∙_}
 use mathlib.Core.Bool.{Bool, true, false}
 use mathlib.Core.List.{List}
 use lib.Dec.{eqb}
-use lib.ListN.{length}
+use lib.ListN.{length, set}
 use borrow.Author.Tests.{eq-eqb, ne-eqb}
 use Rattle.laws.specs.Tests.{firstOf}
-use Rattle.protocol.specs.declared.Station.{Station}
+use Rattle.protocol.specs.declared.Line.{Line}
 use Rattle.protocol.specs.declared.Own.{Own}
-use Rattle.protocol.specs.declared.Changed.{Changed}
-use Rattle.protocol.specs.declared.Handled.{Handled}
-use Rattle.protocol.specs.Outcomes.{Outcome, nobody, quiet, pickOutcome, handled}
-use Rattle.protocol.specs.Calls.{opening, closing, openingRules, closingRules, changed, messageOutcome, messageResult}
+use Rattle.protocol.specs.declared.Report.{Report}
+use Rattle.protocol.specs.Memory.{Memory}
+use Rattle.protocol.specs.State.{Station, stationOf, lineAt}
+use Rattle.protocol.specs.Order.{inOrder}
+use Rattle.protocol.specs.Outcomes.{Outcome, termsOf, nobody, quiet, pickResult}
+use Rattle.protocol.specs.Calls.{opening, closing, openingRules, closingRules, messageOutcome}
+use Rattle.station.specs.Calls.{Changed, MessageMet}
 use Rattle.transcript.specs.declared.events.Answered.{Answered}
 use Rattle.transcript.specs.Files.{kindOf, lineOf, clockOf, messageOf}
-use Rattle.transcript.specs.Text.{ownPong, outputSize, callOf, answered, outcomeBy, routeBy}
+use Rattle.transcript.specs.Text.{ownPong, outputSize, callOf, handedOn, Answers, outcomeBy, routeBy}
 
 -- ---- opening and closing send nothing
 
-to-nobody : (b : Bool) (n k : ℕ) (s t : Station) (r q : List ℕ) → pickOutcome b (quiet n s r) (quiet k t q) .to ≡ nobody
+to-nobody : (b : Bool) (n k : ℕ) (s t : Station) (r q : List ℕ) → pickResult b (quiet n s r) (quiet k t q) .to ≡ nobody
 to-nobody true n k s t r q = refl
 to-nobody false n k s t r q = refl
 
-changed-answered : (o : Outcome) (r : Changed) → r ≡ changed o → o .to ≡ nobody → _≡_ {A = Answered} (record { state = r .state; answer = r .answer; to = nobody }) (answered o)
-changed-answered o r e f =
-    ap (λ (x : Changed). record { state = x .state; answer = x .answer; to = nobody }) e
-    ∙ ap (λ t. record { state = o .state; answer = o .answer; to = t }) (sym f)
+-- the record of a call's line, put in its place
+module _ {room : ℕ} (lines : List Line) {q : Memory} (line : ℕ) (x : Line) {n : ℕ} {r : Answered} where
+  handed : (o : Outcome) → Changed o n (stationOf room (set lines (line % 8) x) q) → o .to ≡ nobody
+      → r ≡ handedOn lines line x n nobody → Answers o r (stationOf room (r .lines) q)
+  handed o c f e = rw e (record { answer = c .answered; to = sym f; state = c .state })
 
-module _ (s : Station) (l : ℕ) (r : Changed) where
-  pub opened : r ≡ changed (opening s l) → _≡_ {A = Answered} (record { state = r .state; answer = r .answer; to = nobody }) (answered (opening s l))
+  pub opened : (s : Station) → Changed (opening s line) n (stationOf room (set lines (line % 8) x) q)
+      → r ≡ handedOn lines line x n nobody → Answers (opening s line) r (stationOf room (r .lines) q)
   unfolding opening
-  opened e = changed-answered (opening s l) r e (to-nobody (eqb (firstOf (openingRules s l)) 0) _ _ _ _ _ _)
+  opened s c e =
+      let rules = openingRules (inOrder s) line (lineAt s line .live) in
+      handed (opening s line) c (to-nobody (eqb (firstOf rules) 0) _ _ _ _ _ _) e
 
-  pub closed : r ≡ changed (closing s l) → _≡_ {A = Answered} (record { state = r .state; answer = r .answer; to = nobody }) (answered (closing s l))
+  pub closed : (s : Station) → Changed (closing s line) n (stationOf room (set lines (line % 8) x) q)
+      → r ≡ handedOn lines line x n nobody → Answers (closing s line) r (stationOf room (r .lines) q)
   unfolding closing
-  closed e = changed-answered (closing s l) r e (to-nobody (eqb (firstOf (closingRules s l)) 0) _ _ _ _ _ _)
+  closed s c e =
+      let rules = closingRules (inOrder s) line (lineAt s line .live) in
+      handed (closing s line) c (to-nobody (eqb (firstOf rules) 0) _ _ _ _ _ _) e
 
 -- ---- a message
 
-module _ (s : Station) (line clock : ℕ) (own : Own) (m : List ℕ) (n : ℕ) (route : List ℕ) (e : own ≡ ownPong) (f : n ≡ outputSize) where
-  pub message-answered : (r : Handled) → r ≡ messageResult s line clock own m n route
-      → _≡_ {A = Answered} (record { state = r .state; answer = r .answer; to = r .to }) (answered (messageOutcome s line clock ownPong m outputSize route))
-  message-answered r g =
-      ap (λ (x : Handled). record { state = x .state; answer = x .answer; to = x .to }) g
-      ∙ ap₂ (λ o k. answered (messageOutcome s line clock o m k route)) e f
+module _ (s : Station) {room : ℕ} (lines : List Line) {q : Memory} (line clock : ℕ) {own : Own} (m out route : List ℕ)
+    (e : own ≡ ownPong) (f : length out ≡ outputSize) (x : Line) {report : Report} {out′ route′ : List ℕ}
+    (met : MessageMet s line m (termsOf clock own (length out)) route report
+    (stationOf room (set lines (line % 8) x) q) out out′ route′) where
+  same-outcome : messageOutcome s line m (termsOf clock own (length out)) route
+      ≡ messageOutcome s line m (termsOf clock ownPong outputSize) route
+  same-outcome = ap₂ (λ o k. messageOutcome s line m (termsOf clock o k) route) e f
 
-  pub message-route : (after : List ℕ) → after ≡ messageOutcome s line clock own m n route .route → after ≡ messageOutcome s line clock ownPong m outputSize route .route
-  message-route after g = g ∙ ap₂ (λ o k. messageOutcome s line clock o m k route .route) e f
+  pub message-answered : {r : Answered} → r ≡ handedOn lines line x (report .answer) (report .to)
+      → Answers (messageOutcome s line m (termsOf clock ownPong outputSize) route) r (stationOf room (r .lines) q)
+  message-answered g =
+      rw (g, ← same-outcome)
+      (record {
+        answer = ap (λ (y : Report). y .answer) (met .report);
+        to = ap (λ (y : Report). y .to) (met .report);
+        state = met .state;
+      })
+
+  pub message-route : route′ ≡ messageOutcome s line m (termsOf clock ownPong outputSize) route .route
+  message-route = met .area ∙ ap (λ (o : Outcome). o .route) same-outcome
 
 -- ---- by the event's kind
 
-module _ (s : Station) (route e : List ℕ) (l : ℕ) (f : l ≡ lineOf e) (r : Answered) where
-  pub act-open : kindOf e ≡ 0 → r ≡ answered (opening s l) → (r ≡ answered (outcomeBy s route e)) × (route ≡ routeBy s route e)
+module _ (s : Station) (route e : List ℕ) (l : ℕ) (f : l ≡ lineOf e) {r : Answered} {after : Station} where
+  pub act-open : kindOf e ≡ 0 → Answers (opening s l) r after
+      → Answers (outcomeBy s route e) r after × (route ≡ routeBy s route e)
   unfolding callOf
-  act-open k g = (rw (eq-eqb (kindOf e) 0 k) (g ∙ ap (λ x. answered (opening s x)) f), rw (eq-eqb (kindOf e) 0 k))
+  act-open k g = (rw (eq-eqb (kindOf e) 0 k) (rw f at g), rw (eq-eqb (kindOf e) 0 k))
 
   module _ (h : kindOf e ≡ 0 → ⊥) where
-    pub act-close : kindOf e ≡ 1 → r ≡ answered (closing s l) → (r ≡ answered (outcomeBy s route e)) × (route ≡ routeBy s route e)
+    pub act-close : kindOf e ≡ 1 → Answers (closing s l) r after
+        → Answers (outcomeBy s route e) r after × (route ≡ routeBy s route e)
     unfolding callOf
     act-close k g = (
-      rw (ne-eqb (kindOf e) 0 h, eq-eqb (kindOf e) 1 k) (g ∙ ap (λ x. answered (closing s x)) f),
+      rw (ne-eqb (kindOf e) 0 h, eq-eqb (kindOf e) 1 k) (rw f at g),
       rw (ne-eqb (kindOf e) 0 h, eq-eqb (kindOf e) 1 k),
     )
 
-    pub act-message : (kindOf e ≡ 1 → ⊥) → (clock : ℕ) (m after : List ℕ) → clock ≡ clockOf e → m ≡ messageOf e
-        → r ≡ answered (messageOutcome s l clock ownPong m outputSize route) → after ≡ messageOutcome s l clock ownPong m outputSize route .route
-        → (r ≡ answered (outcomeBy s route e)) × (after ≡ routeBy s route e)
+    pub act-message : (kindOf e ≡ 1 → ⊥) → {clock : ℕ} {m route′ : List ℕ} → clock ≡ clockOf e → m ≡ messageOf e
+        → Answers (messageOutcome s l m (termsOf clock ownPong outputSize) route) r after
+        → route′ ≡ messageOutcome s l m (termsOf clock ownPong outputSize) route .route
+        → Answers (outcomeBy s route e) r after × (route′ ≡ routeBy s route e)
     unfolding callOf
-    act-message k clock m after g i p q =
-        let same : messageOutcome s l clock ownPong m outputSize route ≡ messageOutcome s (lineOf e) (clockOf e) ownPong (messageOf e) outputSize route =
-        ap (λ x. messageOutcome s x clock ownPong m outputSize route) f ∙ ap₂ (λ x y. messageOutcome s (lineOf e) x ownPong y outputSize route) g i in (
-          rw (ne-eqb (kindOf e) 0 h, ne-eqb (kindOf e) 1 k) (p ∙ ap answered same),
-          rw (ne-eqb (kindOf e) 0 h, ne-eqb (kindOf e) 1 k) (q ∙ ap (λ (o : Outcome). o .route) same),
-        )
+    act-message k g i p q = (
+      rw (ne-eqb (kindOf e) 0 h, ne-eqb (kindOf e) 1 k) (rw (f, g, i) at p),
+      rw (ne-eqb (kindOf e) 0 h, ne-eqb (kindOf e) 1 k) (rw (f, g, i) at q),
+    )

@@ -24,8 +24,8 @@ logRows (d ∷ ds) = logRows ds ++ rowText (length ds) (d .outcome .answer) (d .
 unlogged : (w : World) (c : Call) → outcomeOf w c ≡ outcomeOf (start (w .state) (w .area)) c
 unlogged w (Open l) = refl
 unlogged w (Close l) = refl
-unlogged w (Message l clock own m out a) = refl
-unlogged w (Ask n text out a) = refl
+unlogged w (Message l m t a) = refl
+unlogged w (Ask n text t a) = refl
 
 module _ (file : List ℕ) where
   rows-logged : (k i : ℕ) (w : World) → length (w .log) ≡ i

@@ -13,15 +13,14 @@ use Rattle.keywords.specs.Keywords.{isSeparator, keywordsOf, pieces, filled}
 use Rattle.keywords.specs.Hash.{xor32, hashOf, word}
 use Rattle.tables.specs.Tables.{goodLength, tableInOrder}
 use Rattle.tables.specs.Patch.{numbers, added, allFit}
-use Rattle.tables.specs.Updates.{updateAnswer, updated, goodReset, goodPatch, inTurn, inRange, resetBy, movedOn, patchBy, brokenBy}
+use Rattle.tables.specs.Updates.{updateAnswer, updated, goodReset, goodPatch, inTurn, inRange, resetBy, movedOn}
+use Rattle.tables.specs.Updates.{patchBy, brokenBy}
 use Rattle.tables.specs.Admission.{withholds}
-use Rattle.protocol.specs.Memory.{remembered, find, remember, noTwice}
+use Rattle.protocol.specs.Memory.{queriesIn, find, remember, noTwice, memoryInOrder}
 use Rattle.protocol.specs.Lines.{storedPongs}
 use Rattle.protocol.specs.Order.{lineInOrder, inOrder}
-use Rattle.protocol.specs.Queries.{untilZero, queryOutcome}
-use Rattle.protocol.specs.Hits.{hitOutcome}
-use Rattle.protocol.specs.Pings.{walk, pingOutcome, pongOutcome}
-use Rattle.protocol.specs.Calls.{fresh, opening, closing, early, updateOutcome, byType, arriving, asking}
+use Rattle.protocol.specs.Queries.{untilZero, queryStep}
+use Rattle.protocol.specs.Calls.{fresh, opening, closing, early, updateStep, byType, arriving}
 use Rattle.digits.specs.Decimal.{decimal}
 use Rattle.transcript.specs.Files.{goodOffsets, goodEvent}
 use Rattle.transcript.specs.Rows.{sentText, rowText}
@@ -59,7 +58,11 @@ sixEvents =
     ∷ []
 
 six : sessionText (fileOf sixEvents) ≡ codes "event answer to\n0 0 -\n1 0 -\n2 0 -\n3 0 -\n4 0 1\n5 9 -\n"
-unfolding event offsets joined fileOf q1 update sixEvents goodOffsets goodEvent decimal sentText rowText callOf rowsFrom allRows sessionText keptPlaces message isSeparator lower keywordsOf pieces filled xor32 hashOf word goodLength tableInOrder numbers added allFit updateAnswer updated goodReset goodPatch inTurn inRange resetBy movedOn patchBy brokenBy withholds remembered find remember noTwice storedPongs lineInOrder inOrder untilZero queryOutcome hitOutcome walk pingOutcome pongOutcome fresh opening closing early updateOutcome byType arriving asking
+unfolding event offsets joined fileOf q1 update sixEvents goodOffsets goodEvent decimal sentText rowText callOf
+    rowsFrom allRows sessionText keptPlaces message isSeparator lower keywordsOf pieces filled xor32 hashOf word
+    goodLength tableInOrder numbers added allFit updateAnswer updated goodReset goodPatch inTurn inRange resetBy
+    movedOn patchBy brokenBy withholds queriesIn find remember noTwice memoryInOrder storedPongs lineInOrder inOrder
+    untilZero queryStep fresh opening closing early updateStep byType arriving
 six = refl
 
 -- no event: the heading alone
@@ -79,5 +82,7 @@ other-kind = refl
 
 -- what stands behind an opening's clock is not read
 longer : sessionText (fileOf (event 0 0 (5 ∷ 6 ∷ []) ∷ event 1 9 [] ∷ [])) ≡ codes "event answer to\n0 0 -\n1 3 -\n"
-unfolding event offsets joined fileOf goodOffsets goodEvent decimal sentText rowText callOf rowsFrom allRows sessionText keptPlaces noTwice remembered lineInOrder inOrder tableInOrder goodLength storedPongs fresh opening closing
+unfolding event offsets joined fileOf goodOffsets goodEvent decimal sentText rowText callOf rowsFrom allRows
+    sessionText keptPlaces noTwice queriesIn memoryInOrder lineInOrder inOrder tableInOrder goodLength storedPongs
+    fresh opening closing
 longer = refl

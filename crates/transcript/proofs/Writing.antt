@@ -11,14 +11,14 @@ use lib.ListN.{length, take, drop, replicate, length-append, length-take, length
 use Rattle.laws.specs.Tests.{every, all}
 use Rattle.laws.specs.Parts.{over}
 use Rattle.laws.proofs.Refusals.{and-fst, and-snd}
-use Rattle.protocol.specs.declared.Station.{Station}
+use Rattle.protocol.specs.State.{Station}
 use Rattle.protocol.specs.Calls.{fresh}
 use Rattle.transcript.specs.declared.Written.{Written}
 use Rattle.transcript.specs.declared.events.Answered.{Answered}
 use Rattle.transcript.specs.Files.{countOf, offsetOf, eventAt, kindOf, countFrom, longest, goodOffsets, goodEvent, goodFile}
 use Rattle.transcript.specs.Rows.{rowText}
 use Rattle.transcript.specs.Put.{Put}
-use Rattle.transcript.specs.Text.{RowsFit, routeSize, outputSize, answered, outcomeBy, routeBy, rowsFrom, allRows, heading, badFile, textRoom, sessionText, writtenOf, areaOf}
+use Rattle.transcript.specs.Text.{RowsFit, routeSize, outputSize, Answers, outcomeBy, routeBy, rowsFrom, allRows, heading, badFile, textRoom, sessionText, writtenOf, areaOf}
 use Rattle.transcript.proofs.Putting.{put-then, Left, left-on, left-end}
 use Rattle.transcript.proofs.Reading.{count-next, count-end, offsets-fit, offsets-room, offsets-first, offsets-last}
 
@@ -37,7 +37,8 @@ module _ (file : List ℕ) (i : ℕ) (e : goodEvent file i ≡ true) where
       (and-fst (leb (offsetOf file (i + 1)) (length file)) _ (and-snd (leb (offsetOf file i + 6) (offsetOf file (i + 1))) _ tests))
 
 -- the rows from event i on are still to be written
-pub record Rows (file : List ℕ) (n at : ℕ) (s₀ : Station) (route₀ before : List ℕ) (area route out : List ℕ) (s : Station) (next i : ℕ) : Type 0 where
+pub record Rows (file : List ℕ) (n at : ℕ) (s₀ : Station) (route₀ before : List ℕ) (area route out : List ℕ) (s : Station)
+    (next i : ℕ) : Type 0 where
   pub within : i ≤ n
   pub near : next ≤ at + 30 * i
   pub output : length area ≡ outputSize
@@ -67,30 +68,31 @@ module _ {file : List ℕ} {n at : ℕ} {s₀ : Station} {route₀ before : List
   pub here-good : i < n → goodEvent file i ≡ true
   here-good h = and-fst (goodEvent file i) _ (both h)
 
-  rows-next : i < n → (a : Answered) (after : List ℕ) → a ≡ answered (outcomeBy s route (eventAt file i)) → after ≡ routeBy s route (eventAt file i)
-      → rowsFrom file s route (countFrom i (n - i)) ≡ rowText i (a .answer) (a .to) ++ rowsFrom file (a .state) after (countFrom (i + 1) (n - (i + 1)))
-  unfolding rowsFrom
-  rows-next h a after e f =
-      ap (rowsFrom file s route) (count-next i n h)
-      ∙ ap₂ (λ (x : Answered) q. rowText i (x .answer) (x .to) ++ rowsFrom file (x .state) q (countFrom (i + 1) (n - (i + 1)))) (sym e) (sym f)
+  module _ (h : i < n) {a : Answered} {t : Station} {after : List ℕ} (e : Answers (outcomeBy s route (eventAt file i)) a t)
+      (f : after ≡ routeBy s route (eventAt file i)) where
+    rows-next : rowsFrom file s route (countFrom i (n - i))
+        ≡ rowText i (a .answer) (a .to) ++ rowsFrom file t after (countFrom (i + 1) (n - (i + 1)))
+    unfolding rowsFrom
+    rows-next = rw (count-next i n h, e .answer, e .to, e .state, f)
 
-  pub rows-on : i < n → (a : Answered) (used after written : List ℕ) (j : ℕ) → length used ≡ length area → length after ≡ length route
-      → a ≡ answered (outcomeBy s route (eventAt file i)) → after ≡ routeBy s route (eventAt file i)
-      → Put next (rowText i (a .answer) (a .to)) out written j → j ≤ next + 30 → at + 30 * n ≤ length before
-      → Rows file n at s₀ route₀ before used after written (a .state) j (i + 1)
-  rows-on h a used after written j u k e f p b room =
-      let z : Left at (rowsFrom file s₀ route₀ (countFrom 0 n)) before next (rowText i (a .answer) (a .to) ++ rowsFrom file (a .state) after (countFrom (i + 1) (n - (i + 1)))) out = rw (rows-next h a after e f) at (r .rest) in
-      let m = p .moved in
-      let size = r .rest .size in
-      let w = r .near in
-      record {
-        within = omega arith;
-        near = omega arith;
-        output = u ∙ r .output;
-        kept = k ∙ r .kept;
-        good = and-snd (goodEvent file i) _ (both h);
-        rest = left-on (rowText i (a .answer) (a .to)) (rowsFrom file (a .state) after (countFrom (i + 1) (n - (i + 1)))) z p (omega arith);
-      }
+    pub rows-on : {used written : List ℕ} {j : ℕ} → length used ≡ length area → length after ≡ length route
+        → Put next (rowText i (a .answer) (a .to)) out written j → j ≤ next + 30 → at + 30 * n ≤ length before
+        → Rows file n at s₀ route₀ before used after written t j (i + 1)
+    rows-on u k p b room =
+        let z : Left at (rowsFrom file s₀ route₀ (countFrom 0 n)) before next
+        (rowText i (a .answer) (a .to) ++ rowsFrom file t after (countFrom (i + 1) (n - (i + 1)))) out = rw rows-next at (r .rest) in
+        let m = p .moved in
+        let size = r .rest .size in
+        let w = r .near in
+        record {
+          within = omega arith;
+          near = omega arith;
+          output = u ∙ r .output;
+          kept = k ∙ r .kept;
+          good = and-snd (goodEvent file i) _ (both h);
+          rest = left-on (rowText i (a .answer) (a .to)) (rowsFrom file t after (countFrom (i + 1) (n - (i + 1)))) z p
+              (omega arith);
+        }
 
   pub rows-end : n ≤ i → Put at (rowsFrom file s₀ route₀ (countFrom 0 n)) before out next
   unfolding rowsFrom
@@ -146,11 +148,12 @@ module _ (file : List ℕ) (e : goodFile file ≡ true) where
       }
 
 -- the heading and the rows
-pub session-put : (file : List ℕ) (n : ℕ) (s : Station) (route out mid after : List ℕ) (at next : ℕ) → n ≡ countOf file → s ≡ fresh routeSize .state
-    → route ≡ replicate routeSize 0 → textRoom ≤ length out → Put 0 heading out mid at → Put at (rowsFrom file s route (countFrom 0 n)) mid after next
+pub session-put : (file : List ℕ) {n : ℕ} {s : Station} {route out mid after : List ℕ} {at next : ℕ} → n ≡ countOf file
+    → s ≡ fresh routeSize .state → route ≡ replicate routeSize 0 → textRoom ≤ length out → Put 0 heading out mid at
+    → Put at (rowsFrom file s route (countFrom 0 n)) mid after next
     → Put 0 (heading ++ allRows file) out after next
 unfolding allRows
-session-put file n s route out mid after at next e f g room p q =
+session-put file {at = at} e f g room p q =
     let m : at ≡ 16 = p .moved in
     put-then p (rw (e, f, g) at q) (omega arith)
 

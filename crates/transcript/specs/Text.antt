@@ -1,16 +1,17 @@
 -- The text of a session, from the bytes of its event file.
-use Prim.Native.Nat.{ℕ, _+_, _*_, _≤_}
+use Prim.Native.Nat.{ℕ, _+_, _*_, _%_, _≤_}
 use mathlib.Core.Path.{_≡_}
 use mathlib.Core.Bool.{Bool, true, false, cond}
 use mathlib.Core.List.{List, [], _∷_, _++_}
 use lib.Dec.{eqb, leb}
-use lib.ListN.{length, replicate}
+use lib.ListN.{length, replicate, set}
 use Rattle.laws.specs.Tests.{all}
 use Rattle.laws.specs.Parts.{over}
 use Rattle.laws.specs.Text.{codes}
-use Rattle.protocol.specs.declared.Station.{Station}
+use Rattle.protocol.specs.declared.Line.{Line}
 use Rattle.protocol.specs.declared.Own.{Own}
-use Rattle.protocol.specs.Outcomes.{Outcome}
+use Rattle.protocol.specs.State.{Station}
+use Rattle.protocol.specs.Outcomes.{Outcome, termsOf}
 use Rattle.protocol.specs.Calls.{fresh}
 use Rattle.protocol.specs.Runs.{Call, Open, Close, Message, Same, outcomeOf, areaAfter, start}
 use Rattle.transcript.specs.declared.events.Answered.{Answered}
@@ -38,7 +39,7 @@ unfoldable pub callOf : List ℕ → Call
 callOf e =
     pickCall (eqb (kindOf e) 0) (Open (lineOf e))
     (pickCall (eqb (kindOf e) 1) (Close (lineOf e))
-    (Message (lineOf e) (clockOf e) ownPong (messageOf e) outputSize Same))
+    (Message (lineOf e) (messageOf e) (termsOf (clockOf e) ownPong outputSize) Same))
 
 -- what an event's call leaves of a state and a route area
 abbrev pub outcomeBy : Station → List ℕ → List ℕ → Outcome
@@ -47,9 +48,15 @@ outcomeBy s route e = outcomeOf (start s route) (callOf e)
 abbrev pub routeBy : Station → List ℕ → List ℕ → List ℕ
 routeBy s route e = areaAfter (callOf e) route (outcomeBy s route e .route)
 
--- of which the code hands on the state, the answer and the lines sent to
-abbrev pub answered : Outcome → Answered
-answered o = record { state = o .state; answer = o .answer; to = o .to }
+-- what the code hands on of a call on a line, whose record after it is x: the state but for the ring, the answer and the lines sent to
+abbrev pub handedOn : List Line → ℕ → Line → ℕ → List Bool → Answered
+handedOn lines line x answer to = record { lines = set lines (line % 8) x; answer = answer; to = to }
+
+-- what is handed on, and the state after, are an outcome's
+pub record Answers (o : Outcome) (r : Answered) (after : Station) : Type 0 where
+  pub answer : r .answer ≡ o .answer
+  pub to : r .to ≡ o .to
+  pub state : after ≡ o .state
 
 -- a row for each of these events, each call made on what the one before it left
 unfoldable pub rowsFrom : List ℕ → Station → List ℕ → List ℕ → List ℕ

@@ -6,19 +6,27 @@ use crate::file::good_file;
 use crate::file::offset;
 use crate::put::put_text;
 use crate::rows::put_row;
-use protocol::Station;
+use protocol::Line;
 ghost use mathlib.Core.Path.{_≡_};
 ghost use mathlib.Core.Bool.{true};
 ghost use mathlib.Core.List.{_++_};
 ghost use Prim.Native.Nat.{_≤_};
 ghost use lib.ListN.{length};
+ghost use Rattle.protocol.specs.Memory.{memoryOf};
+ghost use Rattle.protocol.specs.State.{stationOf};
 ghost use Rattle.transcript.specs.Files.{countFrom, goodFile};
 ghost use Rattle.transcript.specs.Put.{Put};
 ghost use Rattle.transcript.specs.Text.{RowsFit, rowsFrom, allRows, heading, textRoom, sessionText, writtenOf, areaOf};
 
 // A row for each of the n events, each acted on where the one before it left the state and the route area.
 fn put_rows(
-    mut s: Station,
+    lo: &mut [u64; 512],
+    hi: &mut [u64; 512],
+    asker: &mut [u8; 512],
+    count: &mut usize,
+    next: &mut usize,
+    room: usize,
+    mut lines: [Line; 8],
     file: &[u8],
     n: usize,
     area: &mut [u8],
@@ -27,20 +35,34 @@ fn put_rows(
     at: usize,
 ) -> usize
     requires { ⌜ RowsFit (now file) n (length (now area)) (length (now out)) at ⌝ }
-    ensures { λ r. ⌜ Put at (rowsFrom (now (file .entry)) s (now (route .entry)) (countFrom 0 n)) (now (out .entry)) (now (out .exit)) r ⌝ }
+    ensures { λ r.
+        let s = stationOf room lines
+        (memoryOf (now (lo .entry)) (now (hi .entry)) (now (asker .entry)) (now (count .entry)) (now (next .entry))) in
+        ⌜ Put at (rowsFrom (now (file .entry)) s (now (route .entry)) (countFrom 0 n)) (now (out .entry)) (now (out .exit)) r ⌝ }
 {
-    let mut next = at;
+    let mut end = at;
     let mut i: usize = 0;
     while i < n {
         let from = offset(file, i);
         let to = offset(file, i + 1);
-        let done = act(s, &file[from..to], area, route);
-        let lines = done.to;
-        next = put_row(out, next, i as u16, done.answer, lines);
-        s = done.state;
+        let done = act(
+            lo,
+            hi,
+            asker,
+            count,
+            next,
+            room,
+            lines,
+            &file[from..to],
+            area,
+            route,
+        );
+        let sent = done.to;
+        end = put_row(out, end, i as u16, done.answer, sent);
+        lines = done.lines;
         i += 1;
     }
-    next
+    end
 }
 
 // The text of a good file.
@@ -50,11 +72,37 @@ fn put_session(file: &[u8], out: &mut [u8]) -> usize
 {
     let mut route = [0u8; 16384];
     let mut area = [0u8; 4119];
-    let begun = station::changes::fresh(&route);
-    let state = begun.state;
+    let mut lo = [0u64; 512];
+    let mut hi = [0u64; 512];
+    let mut asker = [0u8; 512];
+    let mut remembered: usize = 0;
+    let mut next: usize = 0;
+    let begun = station::changes::fresh_over(
+        &mut lo,
+        &mut hi,
+        &mut asker,
+        &mut remembered,
+        &mut next,
+        route.len(),
+    );
+    let lines = begun.lines;
     let at = put_text(out, 0, b"event answer to\n");
     let n = count(file);
-    put_rows(state, file, n, &mut area, &mut route, out, at)
+    put_rows(
+        &mut lo,
+        &mut hi,
+        &mut asker,
+        &mut remembered,
+        &mut next,
+        begun.room,
+        lines,
+        file,
+        n,
+        &mut area,
+        &mut route,
+        out,
+        at,
+    )
 }
 
 // The text of a session, from the bytes of its event file. An area that is too short for some text is left as it is.

@@ -1,4 +1,7 @@
+-- By the event's kind.
 use Rattle.laws.proofs.Parts.{part-tail}
+use Rattle.protocol.specs.Memory.{memoryOf}
+use Rattle.protocol.specs.State.{stationOf}
 use Rattle.transcript.proofs.Acting.{act-open, act-close, act-message}
 use borrow.Author.Needs.{needs}
 use Rattle.transcript.proofs.events.act.Statement.{statement}
@@ -15,23 +18,27 @@ open-event-requires c κs = search needs
 
 returns : tie.Need-returns
 returns c =
-    let at-if1 = c .before in
-    let at-line-of = at-if1 .before .before in
-    let start = at-line-of .before .before .before .before in
-    act-open (start .args .s) (start .args .route .now) (start .args .event .now) (at-line-of .line-of .result)
-    (at-line-of .line-of .ensures) (c .open-event .result) (at-if1 .if1 .taken) (c .open-event .ensures)
+    let at-if1 = c .before .before .before .before in
+    let at-line-of = at-if1 .before .before .before .before in
+    let a = at-line-of .before .before .before .before .args in
+    let q = memoryOf (a .lo .now) (a .hi .now) (a .asker .now) (a .count .now) (a .next .now) in
+    let s = stationOf (a .room) (a .lines) q in
+    act-open s (a .route .now) (a .event .now) (at-line-of .line-of .result) (at-line-of .line-of .ensures)
+    (at-if1 .if1 .taken) (c .open-event .ensures)
 
 close-event-requires : tie.Need-close-event-requires
 close-event-requires c κs = search needs
 
 returns-2 : tie.Need-returns-2
 returns-2 c =
-    let at-if2 = c .before in
+    let at-if2 = c .before .before .before .before in
     let at-if1 = at-if2 .before in
-    let at-line-of = at-if1 .before .before in
-    let start = at-line-of .before .before .before .before in
-    act-close (start .args .s) (start .args .route .now) (start .args .event .now) (at-line-of .line-of .result)
-    (at-line-of .line-of .ensures) (c .close-event .result) (at-if1 .if1 .left) (at-if2 .if2 .taken) (c .close-event .ensures)
+    let at-line-of = at-if1 .before .before .before .before in
+    let a = at-line-of .before .before .before .before .args in
+    let q = memoryOf (a .lo .now) (a .hi .now) (a .asker .now) (a .count .now) (a .next .now) in
+    let s = stationOf (a .room) (a .lines) q in
+    act-close s (a .route .now) (a .event .now) (at-line-of .line-of .result) (at-line-of .line-of .ensures)
+    (at-if1 .if1 .left) (at-if2 .if2 .taken) (c .close-event .ensures)
 
 sub-little4 : tie.Need-sub-little4
 sub-little4 c = search needs
@@ -66,14 +73,15 @@ same-length-2 c = search needs
 returns-3 : tie.Need-returns-3
 returns-3 c =
     let at-message-event = c .before .before .before .before in
-    let at-little4 = at-message-event .before .before .before .before in
+    let at-little4 = at-message-event .before .before .before .before .before .before .before .before .before in
     let at-if2 = at-little4 .before .before in
     let at-if1 = at-if2 .before in
-    let at-line-of = at-if1 .before .before in
-    let start = at-line-of .before .before .before .before in
-    act-message (start .args .s) (start .args .route .now) (start .args .event .now) (at-line-of .line-of .result)
-    (at-line-of .line-of .ensures) (at-message-event .message-event .result) (at-if1 .if1 .left) (at-if2 .if2 .left)
-    (at-little4 .little4 .result) _ _ (rw part-tail at (at-little4 .little4 .ensures)) (part-tail 6 (start .args .event .now))
+    let at-line-of = at-if1 .before .before .before .before in
+    let a = at-line-of .before .before .before .before .args in
+    let q = memoryOf (a .lo .now) (a .hi .now) (a .asker .now) (a .count .now) (a .next .now) in
+    let s = stationOf (a .room) (a .lines) q in
+    act-message s (a .route .now) (a .event .now) (at-line-of .line-of .result) (at-line-of .line-of .ensures)
+    (at-if1 .if1 .left) (at-if2 .if2 .left) (rw part-tail at (at-little4 .little4 .ensures)) (part-tail 6 (a .event .now))
     (at-message-event .message-event .ensures .0) (at-message-event .message-event .ensures .1)
 
 pub act-spec : {M : Type 1} → statement M

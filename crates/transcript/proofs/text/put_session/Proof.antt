@@ -1,18 +1,13 @@
+-- The heading, and the rows from a fresh state.
+use mathlib.Core.Path.{refl}
 use native.Mathlib.Omega.{arith}
-use mathlib.Core.Path.{refl, ap}
-use lib.ListN.{replicate}
-use Rattle.transcript.specs.Text.{routeSize}
-use Rattle.protocol.specs.declared.Changed.{Changed}
 use Rattle.transcript.proofs.Writing.{rows-fit, session-put}
 use borrow.Author.Needs.{needs}
 use Rattle.transcript.proofs.text.put_session.Statement.{statement}
 use Rattle.transcript.proofs.text.put_session.Tie as tie
 
-slice-aggregate-fresh : tie.Need-slice-aggregate-fresh
-slice-aggregate-fresh c = search needs
-
-fresh-requires : tie.Need-fresh-requires
-fresh-requires c κs = search needs
+fresh-over-requires : tie.Need-fresh-over-requires
+fresh-over-requires c κs = search needs
 
 slice-aggregate-put-text : tie.Need-slice-aggregate-put-text
 slice-aggregate-put-text c = search needs
@@ -30,20 +25,33 @@ slice-aggregate-put-rows-2 : tie.Need-slice-aggregate-put-rows-2
 slice-aggregate-put-rows-2 c = search needs
 
 put-rows-requires : tie.Need-put-rows-requires
-put-rows-requires c κs = rows-fit (c .before .before .before .before .before .before .before .before .before .before .before .before .before .before .args .file .now) (c .before .before .before .before .before .before .before .before .before .before .before .before .before .before .pre .0) (c .before .before .before .count .result) _ _ (c .before .before .before .before .before .before .put-text .result) (c .before .before .before .count .ensures .0) refl (omega (arith, c .before .before .before .before .before .before .before .before .before .before .before .before .before .before .pre .1, c .before .before .before .before .before .before .put-text .kept .0)) (omega (arith, c .before .before .before .before .before .before .put-text .ensures .moved))
+put-rows-requires c κs =
+    let at-count = c .before .before .before .before .before .before .before .before in
+    let at-text = at-count .before .before .before in
+    let at-fresh = at-text .before .before .before .before in
+    let start = at-fresh .before .before .before .before .before .before .before .before in
+    rows-fit (start .args .file .now) (start .pre .0) (at-count .count .result) _ _ (at-text .put-text .result)
+    (at-count .count .ensures .0) refl
+    (omega (arith, start .pre .1, at-text .put-text .kept .0)) (omega (arith, at-text .put-text .ensures .moved))
 
 same-length : tie.Need-same-length
 same-length c = search needs
 
 returns : tie.Need-returns
-returns c = session-put (c .before .before .before .before .before .before .before .before .before .before .before .before .before .before .before .before .before .before .before .args .file .now) (c .before .before .before .before .before .before .before .before .count .result) (c .before .before .before .before .before .before .before .before .before .before .before .before .before .before .before .fresh .result .state) (replicate routeSize 0) (c .before .before .before .before .before .before .before .before .before .before .before .before .before .before .before .before .before .before .before .args .out .now) (c .before .before .before .before .before .before .before .before .before .before .before .put-text .last .0) (c .before .before .before .before .put-rows .last .1 .1 .1 .1 .1 .0) (c .before .before .before .before .before .before .before .before .before .before .before .put-text .result) (c .before .before .before .before .put-rows .result) (c .before .before .before .before .before .before .before .before .count .ensures .0) (ap (λ (x : Changed). x .state) (c .before .before .before .before .before .before .before .before .before .before .before .before .before .before .before .fresh .ensures)) refl (c .before .before .before .before .before .before .before .before .before .before .before .before .before .before .before .before .before .before .before .pre .1) (c .before .before .before .before .before .before .before .before .before .before .before .put-text .ensures) (c .before .before .before .before .put-rows .ensures)
+returns c =
+    let at-rows = c .before .before .before .before in
+    let at-count = at-rows .before .before .before .before .before .before .before .before .before in
+    let at-text = at-count .before .before .before in
+    let at-fresh = at-text .before .before .before .before in
+    let start = at-fresh .before .before .before .before .before .before .before .before in
+    session-put (start .args .file .now) (at-count .count .ensures .0) (at-fresh .fresh-over .ensures .state) refl
+    (start .pre .1) (at-text .put-text .ensures) (at-rows .put-rows .ensures)
 
 pub put-session-spec : {M : Type 1} → statement M
 put-session-spec =
     tie.close
     (tie.spec
-    slice-aggregate-fresh
-    fresh-requires
+    fresh-over-requires
     slice-aggregate-put-text
     put-text-requires
     count-requires
