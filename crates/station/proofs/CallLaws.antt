@@ -259,6 +259,13 @@ pub survey-order : (room : ℕ) (lines : List Line) (q : Memory) (l : ℕ) {v : 
 survey-order room lines q l {v} ev e =
     order-is room lines q (e ∙ ap (λ (v : View). memoryInOrder capacity (λ k. getD (v .live) k false) q && v .order) ev)
 
+pub line-is : (lines : List Line) (room l : ℕ) {v : View} → v ≡ viewOf lines room l → v .line ≡ lineIn lines l
+line-is lines room l ev = ap (λ (v : View). v .line) ev
+
+pub hit-line : {x y : Line} → x ≡ y → (k : Lookup) (m : List ℕ) {a : Action} {out out′ : List ℕ}
+    → ((area : List ℕ) → Does (hitStep x k m area) a out out′) → (area : List ℕ) → Does (hitStep y k m area) a out out′
+hit-line e k m {a} {out} {out′} d area = subst (λ (x : Line). Does (hitStep x k m area) a out out′) e (d area)
+
 -- the number of a message by its header
 module _ (m : List ℕ) {h : Header} (eh : h ≡ headerIn m) (q : Memory) where
   pub known-is : {k : Lookup} → k ≡ lookupOf (find (queriesIn capacity q) (numberFrom (h .lo) (h .hi)))
@@ -268,6 +275,26 @@ module _ (m : List ℕ) {h : Header} (eh : h ≡ headerIn m) (q : Memory) where
   pub ring-after : (taken : Bool) (who : ℕ) {q′ : Memory} → q′ ≡ rememberIf taken capacity q (numberFrom (h .lo) (h .hi)) who
       → q′ ≡ rememberIf taken capacity q (numberIn m) who
   ring-after taken who e = e ∙ ap (λ (h : Header). rememberIf taken capacity q (numberFrom (h .lo) (h .hi)) who) eh
+
+-- the first refusal of a message, and what it does, from what the survey and the header say
+module _ (room : ℕ) (lines : List Line) (q : Memory) (line : ℕ) {v : View} (ev : v ≡ viewOf lines room (line % 8)) {h : Header} (m : List ℕ)
+    (eh : h ≡ headerIn m) where
+  live-at : getD (v .live) (line % 8) false ≡ lineIn lines (line % 8) .live
+  live-at =
+      ap (λ (v : View). getD (v .live) (line % 8) false) ev ∙ eachLine-at (λ k. lineIn lines k .live) (line % 8) (omega arith)
+
+  pub first-is : (out route : ℕ) {n : ℕ} {order : Bool} → order ≡ (memoryInOrder capacity (λ k. getD (v .live) k false) q && v .order)
+      → n ≡ firstOf (earlyRules order room out route line (getD (v .live) (line % 8) false) (length m) (h .size))
+      → n ≡ early (state room lines q) line m out route
+  first-is out route eo en =
+      early-is room lines q line m out route (survey-order room lines q (line % 8) ev eo) live-at (ap (λ (h : Header). h .size) eh) en
+
+  pub acted-is : (t : Terms) (route out : List ℕ) (n : ℕ) (a : Action) (out′ route′ : List ℕ) {known : Lookup}
+      → known ≡ lookupOf (find (queriesIn capacity q) (numberFrom (h .lo) (h .hi)))
+      → Done room lines (line % 8) known m t route out n a out′ route′
+      → Done room lines (line % 8) (lookedUp (state room lines q) (numberIn m)) m t route out n a out′ route′
+  acted-is t route out n a out′ route′ ek d =
+      subst (λ (k : Lookup). Done room lines (line % 8) k m t route out n a out′ route′) (known-is m eh q ek) d
 
 -- ---- an arriving message
 
