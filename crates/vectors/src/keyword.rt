@@ -1,67 +1,53 @@
-// `place BITS KEYWORD`, `keywords TEXT` and `casehash LABEL KEYWORD`
-use crate::decode;
+// `place BITS KEYWORD`, `casehash LABEL KEYWORD` and `keywords TEXT`
 use crate::print;
+use crate::rows;
 use crate::words;
+use keywords::cut::Cut;
 
-pub(crate) fn place(line: &[u8]) {
-    let bits = words::number(line, 1);
-    let mut area = [0u8; 256];
-    let n = decode::bytes(line, 2, &mut area);
-    print::start(line);
-    print::same(line, 2);
-    print::number(keywords::hash::place(&area[..n], bits) as u64);
-    print::end();
+pub(crate) fn place(keyword: &[u8], bits: u32) {
+    let n = keywords::hash::place(keyword, bits);
+    print::number(n as u64);
 }
 
-// The place at 13 bits.
-pub(crate) fn case(line: &[u8]) {
-    let mut area = [0u8; 256];
-    let n = decode::bytes(line, 2, &mut area);
-    print::start_as(b"case", line);
-    print::number(keywords::hash::place(&area[..n], 13) as u64);
-    print::end();
+// The first keyword from a place on.
+fn next(text: &[u8], at: usize) -> Cut {
+    let cut = keywords::cut::first_keyword(words::part(text, at, text.len()));
+    Cut {
+        start: at % 4096 + cut.start % 4096,
+        end: at % 4096 + cut.end % 4096,
+    }
 }
 
-// Goes from keyword to keyword; where `show` is set, writes where each starts, with commas.
-fn each(text: &[u8], show: bool) -> u64 {
+// Where each keyword of the text starts, as a byte of the area; how many there are.
+fn starts(text: &[u8], area: &mut [u8]) -> usize {
+    let mut count: usize = 0;
     let mut at: usize = 0;
-    let mut count: u64 = 0;
-    while at < text.len() {
-        let cut = keywords::cut::first_keyword(&text[at..]);
-        let start = cut.start;
-        let end = cut.end;
-        if end <= start {
-            return count;
-        }
-        if text.len() - at < end {
-            return count;
-        }
-        if show {
-            print::between(0 < count);
-            io::print_decimal(1, (at + start) as u64);
-        }
-        if count < 1000 {
-            count += 1;
-        }
-        at += end;
+    let mut i: usize = 0;
+    while i < 256 {
+        let cut = next(text, at);
+        count = print::noted(
+            cut.start < cut.end,
+            &mut *area,
+            count,
+            (cut.start % 256) as u8,
+        );
+        at = cut.end;
+        i += 1;
     }
     count
 }
 
 fn cuts(text: &[u8]) {
-    let count = each(text, false);
-    print::number(count);
-    if count == 0 {
-        print::word(b"");
-        return;
-    }
-    each(text, true);
+    let mut area = [0u8; 256];
+    let n = starts(text, &mut area);
+    print::number(n as u64);
+    print::list(&area, n, b',');
 }
 
-pub(crate) fn keywords(line: &[u8]) {
-    let mut area = [0u8; 256];
-    let n = decode::bytes(line, 1, &mut area);
-    print::start(line);
-    cuts(&area[..n]);
-    print::end();
+pub(crate) fn values(kind: usize, row: &[u8]) {
+    match kind {
+        0 => place(rows::word(row, 0, 1), rows::number(row, 0, 0)),
+        1 => cuts(rows::word(row, 0, 0)),
+        _ => place(rows::word(row, 0, 0), 13),
+    }
 }

@@ -1,16 +1,14 @@
 // Words, numbers and lists of a row, on standard output, each with a space before it.
+use crate::decode;
 use crate::words;
 
-pub(crate) fn word(text: &[u8]) {
-    io::write_all(1, b" ");
-    if text.len() == 0 {
-        io::write_all(1, b"-");
-    }
-    io::write_all(1, text);
+pub(crate) fn mark(b: u8) {
+    let text = [b];
+    io::write_all(1, &text);
 }
 
 pub(crate) fn number(n: u64) {
-    io::write_all(1, b" ");
+    mark(b' ');
     io::print_decimal(1, n);
 }
 
@@ -18,50 +16,6 @@ pub(crate) fn number(n: u64) {
 pub(crate) fn answer(n: u8, size: usize) {
     number(n as u64);
     number(size as u64);
-}
-
-pub(crate) fn end() {
-    io::write_all(1, b"\n");
-}
-
-pub(crate) fn wide(b: u8) -> u64 {
-    b as u64
-}
-
-// What stands before an item of a list: a comma, or a space before the first.
-pub(crate) fn between(later: bool) {
-    if later {
-        io::write_all(1, b",");
-    } else {
-        io::write_all(1, b" ");
-    }
-}
-
-// The bytes as numbers, with commas.
-pub(crate) fn list(bytes: &[u8]) {
-    let mut i = 0;
-    while i < bytes.len() {
-        between(0 < i);
-        io::print_decimal(1, wide(bytes[i]));
-        i += 1;
-    }
-}
-
-// The first n bytes in hexadecimal, or `-` for none.
-pub(crate) fn hex(bytes: &[u8], n: usize) {
-    if n == 0 {
-        word(b"");
-        return;
-    }
-    io::write_all(1, b" ");
-    let mut i = 0;
-    while i < bytes.len() {
-        if n <= i {
-            return;
-        }
-        io::print_hex(1, wide(bytes[i]), 2);
-        i += 1;
-    }
 }
 
 pub(crate) fn flag(set: bool) {
@@ -72,36 +26,56 @@ pub(crate) fn flag(set: bool) {
     }
 }
 
-// The numbers of the flags that are set, with commas, or `-` for none.
+// What stands before a list of so many items: `-` for none.
+pub(crate) fn start(size: usize) {
+    mark(b' ');
+    if size == 0 {
+        mark(b'-');
+    }
+}
+
+// A byte of a list: two digits with nothing between, or a number behind a separator.
+pub(crate) fn item(i: usize, b: u8, separator: u8) {
+    if separator == 0 {
+        io::print_hex(1, b as u64, 2);
+        return;
+    }
+    if 0 < i {
+        mark(separator);
+    }
+    io::print_decimal(1, b as u64);
+}
+
+pub(crate) fn joined(bytes: &[u8], separator: u8) {
+    let mut i = 0;
+    while i < bytes.len() {
+        item(i, bytes[i], separator);
+        i += 1;
+    }
+}
+
+// The first n bytes, in hexadecimal where the separator is 0.
+pub(crate) fn list(bytes: &[u8], n: usize, separator: u8) {
+    start(n);
+    joined(words::part(bytes, 0, n), separator);
+}
+
+// One byte more in the area, or none.
+pub(crate) fn noted(some: bool, area: &mut [u8], at: usize, b: u8) -> usize {
+    if some {
+        return decode::put(area, at, b);
+    }
+    at
+}
+
+// The numbers of the flags that are set.
 pub(crate) fn flags(set: [bool; 8]) {
-    let mut some = false;
+    let mut places = [0u8; 8];
+    let mut n: usize = 0;
     let mut k: usize = 0;
     while k < 8 {
-        if set[k] {
-            between(some);
-            io::print_decimal(1, k as u64);
-            some = true;
-        }
+        n = noted(set[k], &mut places, n, k as u8);
         k += 1;
     }
-    if !some {
-        word(b"");
-    }
-}
-
-// The line's word of this number.
-pub(crate) fn same(line: &[u8], n: usize) {
-    word(words::word(line, n));
-}
-
-// The row's kind and its label, which are the line's first two words.
-pub(crate) fn start(line: &[u8]) {
-    io::write_all(1, words::word(line, 0));
-    same(line, 1);
-}
-
-// The same with another kind.
-pub(crate) fn start_as(kind: &[u8], line: &[u8]) {
-    io::write_all(1, kind);
-    same(line, 1);
+    list(&places, n, b',');
 }

@@ -1,65 +1,90 @@
-// A row for each line of the input: its first word says which kind.
-use crate::events;
-use crate::handshakes;
-use crate::keyword;
-use crate::print;
-use crate::sessions;
-use crate::updates;
+// The words of a row as bytes, put into an area as an event file is: how many there are, where each begins and the last
+// one ends, and the bytes.
+ghost use Prim.Native.Nat.{_≤_, _<_};
+use crate::decode;
 use crate::words;
-use crate::writing;
 
-// A line of no kind is shown, unless it is empty or begins with `#`.
-fn unread(line: &[u8]) {
-    if line.len() == 0 {
-        return;
-    }
-    if line[0] == b'#' {
-        return;
-    }
-    io::write_all(1, b"unread");
-    print::word(line);
-    print::end();
+// The number that four bytes are, that many numbers on.
+fn offset(row: &[u8], i: usize) -> usize {
+    wire::little4(words::part(row, i % 4096 * 4, row.len())) as usize
 }
 
-// The rows of calls on a station.
-fn later(kind: usize, line: &[u8]) {
-    match kind {
-        10 => events::case(line),
-        11 => keyword::case(line),
-        12 => sessions::session(line),
-        13 => sessions::file(line),
-        14 => events::calls(line),
-        15 => events::order(line),
-        _ => unread(line),
-    }
+pub(crate) fn count(row: &[u8]) -> usize
+    ensures { λ r. ⌜ r < 4096 ⌝ }
+{
+    offset(row, 0) % 4096
 }
 
-fn row(line: &[u8]) {
-    let kind = words::name(
-        b"place keywords update withheld table run group field try written case casehash session file calls order",
-        line,
-        0,
-    );
-    match kind {
-        0 => keyword::place(line),
-        1 => keyword::keywords(line),
-        2 => updates::update(line),
-        3 => updates::withheld(line),
-        4 => writing::table(line),
-        5 => writing::run(line),
-        6 => handshakes::group(line),
-        7 => handshakes::field(line),
-        8 => handshakes::try_hosts(line),
-        9 => handshakes::written(line),
-        _ => later(kind, line),
-    }
+// The bytes of word j behind word k.
+pub(crate) fn word(row: &[u8], k: usize, j: usize) -> &[u8] {
+    let i = k % 2048 + j % 16;
+    words::part(row, offset(row, i + 1), offset(row, i + 2))
 }
 
-pub(crate) fn all(input: &[u8]) {
-    let mut at = 0;
-    while at < input.len() {
-        let end = words::word_end(input, at, b'\n');
-        row(&input[at..end]);
-        at = end + 1;
+// What a digit adds to a number; modulo 2 to the power 32.
+fn more(n: u32, digit: u8) -> u32 {
+    let d = (digit % 16) as u64;
+    (((n as u64) * 10 + d) % 4294967296) as u32
+}
+
+fn decimal(text: &[u8]) -> u32 {
+    let mut n: u32 = 0;
+    let mut i = 0;
+    while i < text.len() {
+        n = more(n, text[i]);
+        i += 1;
     }
+    n
+}
+
+// The same word as a number in decimal.
+pub(crate) fn number(row: &[u8], k: usize, j: usize) -> u32 {
+    decimal(word(row, k, j))
+}
+
+pub(crate) fn size(row: &[u8], k: usize, j: usize) -> usize {
+    number(row, k, j) as usize
+}
+
+pub(crate) fn byte(row: &[u8], k: usize, j: usize) -> u8 {
+    (number(row, k, j) % 256) as u8
+}
+
+// How many spaces the text has, one before each of its words.
+fn spaces(text: &[u8]) -> usize
+    ensures { λ r. ⌜ r < 4096 ⌝ }
+{
+    let mut n: usize = 0;
+    let mut i = 0;
+    while i < text.len() {
+        if text[i] == b' ' {
+            n = n % 4095 + 1;
+        }
+        i += 1;
+    }
+    n % 4096
+}
+
+// The bytes of each word of the text, and where each ends.
+fn put_words(text: &[u8], area: &mut [u8], first: usize) -> usize {
+    let mut end = first;
+    let mut slot: usize = 8;
+    let mut at: usize = 0;
+    while at < text.len() {
+        let next = words::word_end(text, at + 1, b' ');
+        end = decode::bytes(&text[at + 1..next], &mut *area, end);
+        decode::put_number(&mut *area, slot, end);
+        slot = slot % 16384 + 4;
+        at = next;
+    }
+    end
+}
+
+// The row of a text with a space before each word; where it ends.
+pub(crate) fn read(text: &[u8], area: &mut [u8]) -> usize {
+    let n = spaces(text);
+    let first = 8 + 4 * n;
+    decode::put_number(&mut *area, 0, n);
+    decode::put_number(&mut *area, 4, first);
+    put_words(text, area, first)
 }

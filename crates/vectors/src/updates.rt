@@ -1,8 +1,10 @@
 // `update LABEL TTL HOPS PAYLOAD ..` and `withheld LABEL TTL TEXT PAYLOAD ..`: updates on a part of eight bytes that
 // holds 7 everywhere at first. TTL and Hops are the last update's, those before it have TTL 1 and Hops 0.
-use crate::decode;
+// `table LABEL HAD OLD WAS NEW INFINITY SIZE AREA`, and `run ENTRIES BITS SIZE` with the same words behind these.
 use crate::print;
+use crate::rows;
 use crate::words;
+use tablemessages::Written;
 use tables::Table;
 use tables::Updated;
 
@@ -19,30 +21,23 @@ fn none() -> Updated {
     Updated { answer: 0, table }
 }
 
-fn step(table: Table, ttl: u8, hops: u8, line: &[u8], n: usize, part: &mut [u8]) -> Updated {
-    let mut area = [0u8; 512];
-    let size = decode::bytes(line, n, &mut area);
-    tablereader::updates::update(table, ttl, hops, &area[..size], part)
-}
-
 fn pick(first: bool, a: u8, b: u8) -> u8 {
     if first { a } else { b }
 }
 
-// The updates that the line's words from this number on are, the last with this TTL and these Hops.
-fn run(line: &[u8], from: usize, ttl: u8, hops: u8, part: &mut [u8]) -> Updated {
-    let count = words::count(line);
+// The updates that the words from the third on are, the last with this TTL and these Hops.
+fn updated(row: &[u8], ttl: u8, hops: u8, part: &mut [u8]) -> Updated {
+    let count = rows::count(row);
     let mut u = none();
-    let mut n = from;
+    let mut n: usize = 2;
     while n < count {
         let table = u.table;
         let last = n + 1 == count;
-        u = step(
+        u = tablereader::updates::update(
             table,
             pick(last, ttl, 1),
             pick(last, hops, 0),
-            line,
-            n,
+            rows::word(row, n, 0),
             &mut *part,
         );
         n += 1;
@@ -50,59 +45,60 @@ fn run(line: &[u8], from: usize, ttl: u8, hops: u8, part: &mut [u8]) -> Updated 
     u
 }
 
-fn run_position(t: Table) {
-    print::number(t.nextplace as u64);
-    print::number(t.runsize as u64);
-    print::number(t.runbits as u64);
+fn table_words(t: Table) {
+    print::answer(t.mark, t.length as usize);
+    print::answer(t.infinity, t.nextplace as usize);
+    print::answer(t.runsize, t.runbits as usize);
     print::number(t.nextentry as u64);
 }
 
-fn table_words(t: Table) {
-    print::number(t.mark as u64);
-    print::number(t.length as u64);
-    print::number(t.infinity as u64);
-    run_position(t);
-}
-
-fn update_words(line: &[u8], answer: u8, t: Table, part: &[u8]) {
-    print::start(line);
-    print::number(answer as u64);
-    table_words(t);
-    print::list(part);
-    print::end();
-}
-
-pub(crate) fn update(line: &[u8]) {
+fn update(row: &[u8]) {
     let mut part = [7u8; 8];
-    let u = run(
-        line,
-        4,
-        words::byte(line, 2),
-        words::byte(line, 3),
-        &mut part,
-    );
+    let u = updated(row, rows::byte(row, 0, 0), rows::byte(row, 0, 1), &mut part);
+    print::number(u.answer as u64);
     let table = u.table;
-    update_words(line, u.answer, table, &part);
+    table_words(table);
+    print::list(&part, 8, b',');
 }
 
-fn held_back(line: &[u8], table: Table, part: &[u8]) -> bool {
-    let mut text = [0u8; 256];
-    let n = decode::bytes(line, 3, &mut text);
-    let ttl = words::byte(line, 2);
-    tablereader::admission::withheld(table, part, ttl, &text[..n])
-}
-
-fn withheld_words(line: &[u8], answer: bool) {
-    print::start(line);
-    print::same(line, 2);
-    print::same(line, 3);
-    print::flag(answer);
-    print::end();
-}
-
-pub(crate) fn withheld(line: &[u8]) {
+fn withheld(row: &[u8]) {
     let mut part = [7u8; 8];
-    let u = run(line, 4, 1, 0, &mut part);
+    let u = updated(row, 1, 0, &mut part);
     let table = u.table;
-    withheld_words(line, held_back(line, table, &part));
+    print::flag(tablereader::admission::withheld(
+        table,
+        &part,
+        rows::byte(row, 0, 0),
+        rows::word(row, 0, 1),
+    ));
+}
+
+// The update from the old table, or from none where HAD is 0, to the new one.
+fn written(row: &[u8], out: &mut [u8]) -> Written {
+    tablewriter::write_table(
+        [0, 1, 2, 3, 4, 5, 6, 7, 8, 9, 10, 11, 12, 13, 14, 15],
+        rows::size(row, 0, 0) != 0,
+        rows::word(row, 0, 1),
+        rows::byte(row, 0, 2),
+        rows::word(row, 0, 3),
+        rows::byte(row, 0, 4),
+        rows::size(row, 0, 5),
+        words::front(out, rows::size(row, 0, 6)),
+    )
+}
+
+fn table(kind: usize, row: &[u8], out: &mut [u8]) {
+    let r = written(row, &mut *out);
+    print::answer(r.answer, r.written);
+    if kind == 4 {
+        print::list(out, r.written, 0);
+    }
+}
+
+pub(crate) fn values(kind: usize, row: &[u8], out: &mut [u8]) {
+    match kind {
+        2 => update(row),
+        3 => withheld(row),
+        _ => table(kind, row, out),
+    }
 }

@@ -1,35 +1,15 @@
--- Sixteen names are tried at most.
-use Prim.Native.Nat.{_-_, _≤_}
+-- No more names than bytes.
+use Prim.Native.Nat.{_-_, _≤_, _+_}
+use lib.ListN.{length}
 use borrow.Author.Needs.{needs}
 use Rattle.vectors.proofs.words.index.Statement.{statement}
 use Rattle.vectors.proofs.words.index.Tie as tie
 
 abbrev Inv-loop : tie.InvT-loop
-Inv-loop names text i₀ i = i ≤ 16
+Inv-loop names text n₀ at₀ n at = (n ≤ at) × (at ≤ length names + 1)
 
 abbrev μ-loop : tie.MeasureT-loop
-μ-loop names text i₀ i = 16 - i
-
-loop-holds : tie.Need-loop-holds Inv-loop μ-loop
-loop-holds c = search needs
-
-is-name-requires : tie.Need-is-name-requires Inv-loop μ-loop
-is-name-requires c κs = search needs
-
-returns : tie.Need-returns Inv-loop μ-loop
-returns c = search needs
-
-add-i : tie.Need-add-i Inv-loop μ-loop
-add-i c = search needs
-
-loop-less : tie.Need-loop-less Inv-loop μ-loop
-loop-less c = search needs
-
-loop-again : tie.Need-loop-again Inv-loop μ-loop
-loop-again c = search needs
-
-returns-2 : tie.Need-returns-2 Inv-loop μ-loop
-returns-2 c = search needs
+μ-loop names text n₀ at₀ n at = (length names + 1) - at
 
 pub index-spec : {M : Type 1} → statement M
 index-spec =
@@ -37,10 +17,15 @@ index-spec =
     (tie.spec
     Inv-loop
     μ-loop
-    loop-holds
-    is-name-requires
-    returns
-    add-i
-    loop-less
-    loop-again
-    returns-2)
+    (λ c. search needs)
+    (λ c κs. search needs)
+    (λ c. search needs)
+    (λ c. search needs)
+    (λ c. search needs)
+    (λ c κs. search needs)
+    (λ c. search needs)
+    (λ c. search needs)
+    (λ c. search needs)
+    (λ c. search needs)
+    (λ c. search needs)
+    (λ c. search needs))
