@@ -1,2 +1,2 @@
--- Laws of the fields of an update.
+pub mod UnpackLaws
 pub mod FieldLaws

@@ -3,6 +3,7 @@
 pub mod admission;
 pub mod bounds;
 mod fields;
+mod numbers;
 pub mod order;
 mod turns;
 pub mod updates;

@@ -1,2 +1,0 @@
--- Laws of unpacked numbers.
-pub mod UnpackLaws
