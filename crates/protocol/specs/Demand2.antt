@@ -18,7 +18,7 @@ use Rattle.protocol.specs.State.{Station, remembered, lineAt, heldAt}
 use Rattle.protocol.specs.Memory.{capacity, here, gone, Number, numberIn, sameNumber, Query, noTwice}
 use Rattle.protocol.specs.Order.{inOrder}
 use Rattle.protocol.specs.Outcomes.{Terms, Outcome, nobody, onlyTo}
-use Rattle.protocol.specs.Queries.{usualLimit, textIn}
+use Rattle.protocol.specs.Queries.{textIn}
 use Rattle.protocol.specs.Calls.{fresh}
 use Rattle.protocol.specs.Runs.{Area, Call, Open, Close, Message, Ask, Made, World, lent, outcomeOf, step, run, start}
 use Rattle.protocol.specs.Periods.{lifeLeft}
@@ -250,7 +250,7 @@ Demand2 =
     (s : Station) (area : List ℕ) (cs : List Call)
     → Sized s
     → inOrder s ≡ true
-    → AllRouted usualLimit capacity (remembered s) (start s area) cs
+    → AllRouted 7 capacity (remembered s) (start s area) cs
 
 -- Gone stays gone: after any list, no later list makes a line or here of it; it only leaves, as one among those remembered no more
 abbrev pub GoneForever : Type 0
@@ -289,4 +289,4 @@ BackOnly n w =
     → (lineAt (w .state) k .live ≡ true) × Brought n (w .log) (numberIn m) k (openings k (w .log))
 
 abbrev pub AnswersBack : Type 0
-AnswersBack = (n : ℕ) (area : List ℕ) (cs : List Call) → BackOnly capacity (run (start (fresh n .state) area) cs)
+AnswersBack = (n : ℕ) (area : List ℕ) (cs : List Call) → BackOnly 512 (run (start (fresh n .state) area) cs)

@@ -32,7 +32,7 @@ use Rattle.tables.specs.Answers.{Sent, Answers}
 use Rattle.protocol.specs.State.{Station, lineAt}
 use Rattle.protocol.specs.Order.{inOrder}
 use Rattle.protocol.specs.Outcomes.{Outcome}
-use Rattle.protocol.specs.Queries.{usualLimit, textIn}
+use Rattle.protocol.specs.Queries.{textIn}
 use Rattle.protocol.specs.Runs.{Call, Open, Close, Message, Ask, World, unsent, outcomeOf, run, start, Fair}
 use Rattle.protocol.specs.Expected.{Expected, expected, expectedAnswer, isUpdateOf}
 use Rattle.protocol.specs.History.{Update, updatesOf, sumAt, beforeReset, beforeRun, insideRun, spoiled, speaks}
@@ -141,4 +141,4 @@ Demand3 =
     → L ≤ 7
     → lineAt s L .live ≡ false
     → Fair (s .room) cs
-    → Claimed usualLimit s area L cs
+    → Claimed 7 s area L cs

@@ -9,7 +9,7 @@ use lib.ListN.{length, getD}
 use Rattle.wire.specs.Header.{kindOf, payloadOf}
 use Rattle.protocol.specs.State.{Station, lineAt}
 use Rattle.protocol.specs.Order.{inOrder}
-use Rattle.protocol.specs.Queries.{usualLimit, textIn}
+use Rattle.protocol.specs.Queries.{textIn}
 use Rattle.protocol.specs.Outcomes.{Terms}
 use Rattle.protocol.specs.Calls.{messageOutcome, ownOutcome}
 use Rattle.protocol.specs.Runs.{Call, World, run, start, Fair}
@@ -48,4 +48,4 @@ QuietPeriods =
     → L ≤ 7
     → lineAt s L .live ≡ false
     → Fair (s .room) cs
-    → Forwards usualLimit (run (start s area) cs) L
+    → Forwards 7 (run (start s area) cs) L
