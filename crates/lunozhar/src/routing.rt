@@ -17,8 +17,11 @@ pub extern "C" fn lunozhar_write_table<'a>(
     size: usize,
     out: &mut [u8],
 ) -> Written
-    ensures result { λ r. ⌜ r ≡ writerResult (number .bytes) had (now (old .entry)) «old_infinity» (now (new .entry)) infinity size (now (out .entry)) ⌝ }
-    ensures bytes { λ _. ⌜ now (out .exit) ≡ writerOut (number .bytes) had (now (old .entry)) «old_infinity» (now (new .entry)) infinity size (now (out .entry)) ⌝ }
+    ensures result { λ r.
+      ⌜ r ≡ writerResult (number .bytes) had (now (old .entry)) «old_infinity» (now (new .entry)) infinity size (now (out .entry)) ⌝ }
+    ensures bytes { λ _.
+      ⌜ now (out .exit)
+        ≡ writerOut (number .bytes) had (now (old .entry)) «old_infinity» (now (new .entry)) infinity size (now (out .entry)) ⌝ }
 {
     let n = number.bytes;
     tablewriter::write_table(n, had, old, old_infinity, new, infinity, size, out)

@@ -167,7 +167,9 @@ fn put_stored(
     part: &mut [u8],
 ) -> usize
     requires { ⌜ 370 ≤ length (now part) ⌝ }
-    ensures { λ r. ⌜ PongsPut (length (storedSent lines line clock)) (storedBytes number pinghops (storedSent lines line clock)) (now (part .entry)) (now (part .exit)) r ⌝ }
+    ensures { λ r.
+      let sent = storedSent lines line clock in
+      ⌜ PongsPut (length sent) (storedBytes number pinghops sent) (now (part .entry)) (now (part .exit)) r ⌝ }
     ensures few { λ r. ⌜ r ≤ 10 ⌝ }
 {
     let counts = counts_in(lines);
