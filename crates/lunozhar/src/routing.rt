@@ -18,9 +18,9 @@ pub extern "C" fn lunozhar_write_table<'a>(
     out: &mut [u8],
 ) -> Written
     ensures result { λ r.
-      ⌜ r ≡ writerResult (number .bytes) had (now (old .entry)) «old_infinity» (now (new .entry)) infinity size (now (out .entry)) ⌝ }
+        ⌜ r ≡ writerResult (number .bytes) had (now (old .entry)) «old_infinity» (now (new .entry)) infinity size (now (out .entry)) ⌝ }
     ensures bytes { λ _.
-      ⌜ now (out .exit)
+        ⌜ now (out .exit)
         ≡ writerOut (number .bytes) had (now (old .entry)) «old_infinity» (now (new .entry)) infinity size (now (out .entry)) ⌝ }
 {
     let n = number.bytes;

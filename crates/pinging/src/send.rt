@@ -168,8 +168,8 @@ fn put_stored(
 ) -> usize
     requires { ⌜ 370 ≤ length (now part) ⌝ }
     ensures { λ r.
-      let sent = storedSent lines line clock in
-      ⌜ PongsPut (length sent) (storedBytes number pinghops sent) (now (part .entry)) (now (part .exit)) r ⌝ }
+        let sent = storedSent lines line clock in
+        ⌜ PongsPut (length sent) (storedBytes number pinghops sent) (now (part .entry)) (now (part .exit)) r ⌝ }
     ensures few { λ r. ⌜ r ≤ 10 ⌝ }
 {
     let counts = counts_in(lines);
