@@ -15,7 +15,8 @@ use Rattle.ascii.specs.Text.{run, leading, compared, same, digitOf, deci
 
 module _ (f : List ℕ → Bool) (s : List ℕ) where
   -- a turn of a loop that counts a run: the byte at i is in it
-  pub run-on : (i n : ℕ) → i < length s → f (drop i s) ≡ true → i + run f (drop i s) ≡ n → (i + 1) + run f (drop (i + 1) s) ≡ n
+  pub run-on : (i n : ℕ) → i < length s → f (drop i s) ≡ true → i + run f (drop i s) ≡ n → (i + 1) + run f
+      (drop (i + 1) s) ≡ n
   run-on i n h t e =
       let u = rw (drop-cons s i 0 h) at t in
       let e′ = rw (drop-cons s i 0 h, u) at e in
@@ -55,7 +56,8 @@ module _ (f : ℕ → Bool) where
   leading-passes [] i h = absurd (omega arith)
   leading-passes (b ∷ bs) i h = passes-case (f b) b bs refl (leading-passes bs) i h
 
-  stops-case : (t : Bool) (b : ℕ) (bs : List ℕ) → f b ≡ t → (leading f bs < length bs → f (getD bs (leading f bs) 0) ≡ false)
+  stops-case : (t : Bool) (b : ℕ) (bs : List ℕ) → f b ≡ t → (leading f bs < length bs → f (getD bs (leading f bs) 0)
+      ≡ false)
       → cond t (suc (leading f bs)) 0 < length (b ∷ bs) → f (getD (b ∷ bs) (cond t (suc (leading f bs)) 0) 0) ≡ false
   stops-case true b bs e rec h = rec (omega arith)
   stops-case false b bs e rec h = e
@@ -65,7 +67,8 @@ module _ (f : ℕ → Bool) where
   leading-stops (b ∷ bs) h = stops-case (f b) b bs refl (leading-stops bs) h
 
   -- so many pass, and the next one fails
-  pub leading-is : (s : List ℕ) (k : ℕ) → ((i : ℕ) → i < k → f (getD s i 0) ≡ true) → k < length s → f (getD s k 0) ≡ false
+  pub leading-is : (s : List ℕ) (k : ℕ) → ((i : ℕ) → i < k → f (getD s i 0) ≡ true) → k < length s
+      → f (getD s k 0) ≡ false
       → leading f s ≡ k
   leading-is [] k h n e = absurd (omega arith)
   leading-is (b ∷ bs) zero h n e = rw e
@@ -91,7 +94,8 @@ module _ (fold : Bool) (a b : List ℕ) where
   same-on i h k e = rw (add-one, drop-cons a i 0 h, drop-cons b i 0 k, eq-eqb _ _ e)
 
   -- they are not
-  pub same-not : (i : ℕ) → i < length a → i < length b → (compared fold (getD a i 0) ≡ compared fold (getD b i 0) → ⊥) → same fold (drop i a) (drop i b) ≡ false
+  pub same-not : (i : ℕ) → i < length a → i < length b → (compared fold (getD a i 0) ≡ compared fold (getD b i 0) → ⊥)
+      → same fold (drop i a) (drop i b) ≡ false
   same-not i h k e = rw (drop-cons a i 0 h, drop-cons b i 0 k, ne-eqb _ _ e)
 
   pub same-end : (i : ℕ) → length a ≤ i → length b ≤ i → same fold (drop i a) (drop i b) ≡ true
@@ -112,7 +116,8 @@ digit-small b = digit-case b (isDigit b) refl
 
 module _ (s : List ℕ) where
   -- a turn of reading a number
-  pub decimal-on : (n i : ℕ) → i < length s → decimalFrom n (drop i s) ≡ decimalFrom (n * 10 + digitOf (getD s i 0)) (drop (i + 1) s)
+  pub decimal-on : (n i : ℕ) → i < length s → decimalFrom n (drop i s) ≡ decimalFrom (n * 10 + digitOf (getD s i 0))
+      (drop (i + 1) s)
   decimal-on n i h = rw (add-one, drop-cons s i 0 h)
 
   pub decimal-end : (n i : ℕ) → length s ≤ i → decimalFrom n (drop i s) ≡ n

@@ -10,7 +10,8 @@ use lib.ListN.{length, getD}
 use borrow.Author.Tests.{eq-eqb, ne-eqb, eqb-true, eqb-false, le-leb, lt-leb, leb-true, not-true}
 use Rattle.laws.proofs.Refusals.{clash, and-fst, and-snd, or-fst, or-snd, or-split, or-left, or-right}
 use Rattle.ascii.specs.Text.{isBlank, isText, lower, compared, sameName}
-use Rattle.ascii.specs.Words.{TwoCases, SameByte, SameBytes, NamesSame, OthersApart, Blank, BlankExactly, TextExactly}
+use Rattle.ascii.specs.Words.{TwoCases, SameByte, SameBytes, NamesSame, OthersApart, Blank, BlankExactly}
+use Rattle.ascii.specs.Words.{TextExactly}
 
 -- ---- names
 
@@ -65,7 +66,8 @@ pub names-same : NamesSame
 names-same a b = (names-forth a b, names-back a b)
 
 pub others-apart : OthersApart
-others-apart a b h e = ⊎-elim (λ q. q) (λ q. absurd (⊎-elim upper lower q)) (names-forth (a ∷ []) (b ∷ []) e .1 0 (omega arith))
+others-apart a b h e = ⊎-elim (λ q. q) (λ q. absurd (⊎-elim upper lower q))
+    (names-forth (a ∷ []) (b ∷ []) e .1 0 (omega arith))
   where
     upper : TwoCases a b → ⊥
     upper q = ⊎-elim (λ k. omega arith) (λ k. ⊎-elim (λ k. omega arith) (λ k. omega arith) k) h

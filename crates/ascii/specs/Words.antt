@@ -1,5 +1,5 @@
--- Letters, blanks and text once more, in words over the values of bytes: what is proved of the definitions that contracts cite. A definition
--- that took another byte for a letter, a blank or the end of a line would not have these.
+-- Letters, blanks and text once more, in words over the values of bytes: what is proved of the definitions that
+-- contracts cite. A definition that took another byte for a letter, a blank or the end of a line would not have these.
 use Prim.Native.Nat.{ℕ, _+_, _≤_, _<_}
 use mathlib.Core.Path.{_≡_}
 use mathlib.Core.Logic.{_↔_, _⊎_}

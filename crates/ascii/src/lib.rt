@@ -2,7 +2,8 @@
 ghost use mathlib.Core.Path.{_≡_};
 ghost use Prim.Native.Nat.{_≤_};
 ghost use lib.ListN.{length, getD, take, drop};
-ghost use Rattle.ascii.specs.Text.{isBlank, isName, isText, isDigit, inClass, leading, lower, compared, same, startsWith, digitOf, decimalFrom, numberOf};
+ghost use Rattle.ascii.specs.Text.{isBlank, isName, isText, isDigit, inClass, leading, lower, compared, same};
+ghost use Rattle.ascii.specs.Text.{startsWith, digitOf, decimalFrom, numberOf};
 
 // The classes of bytes: blanks, bytes of a name, bytes of a line, digits.
 pub const BLANK: u8 = 0;

@@ -13,7 +13,8 @@ use Rattle.digits.specs.Decimal.{digitsOf, decimal}
 -- more digits than n has are not used
 digits-enough : (k n : ℕ) → n < 10 ^ suc k → digitsOf (suc (suc k)) n ≡ digitsOf (suc k) n
 digits-enough zero n h = rw (lt-ltb n 10 h)
-digits-enough (suc k) n h = ap (λ x. cond (ltb n 10) ((48 + n) ∷ []) (x ++ ((48 + n % 10) ∷ []))) (digits-enough k (n / 10) (tenth-below (suc k) n h))
+digits-enough (suc k) n h = ap (λ x. cond (ltb n 10) ((48 + n) ∷ []) (x ++ ((48 + n % 10) ∷ [])))
+    (digits-enough k (n / 10) (tenth-below (suc k) n h))
 
 -- the digits of a number: one, or those of a tenth of it and the last one
 pub decimal-one : (n : ℕ) → n < 10 → decimal n ≡ (48 + n) ∷ []
@@ -41,7 +42,8 @@ pub size-three : (n : ℕ) → 100 ≤ n → n < 1000 → length (decimal n) ≡
 size-three n h b = omega (arith, size-more n (omega arith) (omega arith), size-two (n / 10) (omega arith) (omega arith))
 
 pub size-four : (n : ℕ) → 1000 ≤ n → n < 10000 → length (decimal n) ≡ 4
-size-four n h b = omega (arith, size-more n (omega arith) (omega arith), size-three (n / 10) (omega arith) (omega arith))
+size-four n h b =
+    omega (arith, size-more n (omega arith) (omega arith), size-three (n / 10) (omega arith) (omega arith))
 
 pub size-five : (n : ℕ) → 10000 ≤ n → n < 100000 → length (decimal n) ≡ 5
 size-five n h b = omega (arith, size-more n (omega arith) (omega arith), size-four (n / 10) (omega arith) (omega arith))

@@ -20,7 +20,8 @@ pub record Spelling (before : List ℕ) (n : ℕ) (area : List ℕ) (m i : ℕ) 
   pub room : i ≤ length area
   pub left : over 0 (decimal m) area ≡ over 0 (decimal n) before
 
-pub spelling-start : (area : List ℕ) (n i : ℕ) → n < 100000 → i ≡ length (decimal n) → i ≤ length area → Spelling area n area n i
+pub spelling-start : (area : List ℕ) (n i : ℕ) → n < 100000 → i ≡ length (decimal n) → i ≤ length area
+    → Spelling area n area n i
 spelling-start area n i b e h = record { small = b; place = e; size = refl; room = h; left = refl }
 
 module _ {before : List ℕ} {n : ℕ} {area : List ℕ} {m i : ℕ} (s : Spelling before n area m i) where

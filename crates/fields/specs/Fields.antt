@@ -1,4 +1,5 @@
--- The fields of a group: lines of a name, a colon and a value, with the lines that go on with a value, and the value of a name.
+-- The fields of a group: lines of a name, a colon and a value, with the lines that go on with a value, and the value of
+-- a name.
 use Prim.Native.Nat.{ℕ, _+_}
 use mathlib.Core.Bool.{Bool, true, false, cond, _&&_, _||_}
 use mathlib.Core.List.{List, [], _∷_, _++_}

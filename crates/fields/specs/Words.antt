@@ -1,5 +1,5 @@
--- Fields (RULES 15.6, 15.7) once more, in words over the values of bytes: what is proved of the definitions that the contracts
--- cite. A definition that took another byte for a name's, or a value from elsewhere, would not have these.
+-- Fields (RULES 15.6, 15.7) once more, in words over the values of bytes: what is proved of the definitions that the
+-- contracts cite. A definition that took another byte for a name's, or a value from elsewhere, would not have these.
 use Prim.Native.Nat.{ℕ, _+_, _<_}
 use mathlib.Core.Path.{_≡_}
 use mathlib.Core.Logic.{_↔_}

@@ -19,7 +19,8 @@ ghost use Rattle.laws.specs.Parts.{over};
 ghost use Rattle.ascii.specs.Text.{sameName};
 ghost use Rattle.groups.specs.Lines.{linesOf};
 ghost use Rattle.fields.specs.Fields.{continues, isField, nameLength, nameOf, fieldOk, valueFor};
-ghost use Rattle.fields.specs.Step.{passed, valueStart, stepOf, separated, noFields, foundIn, fitsIn, writtenIn};
+ghost use Rattle.fields.specs.Step.{passed, valueStart, stepOf, separated, noFields, foundIn, fitsIn, WholeFrom};
+ghost use Rattle.fields.specs.Step.{writtenIn};
 
 // A line that begins with a blank goes on with the value before it.
 fn continues(line: &[u8]) -> bool
@@ -54,8 +55,8 @@ fn field_ok(before: bool, line: &[u8], n: usize) -> bool
     false
 }
 
-// What a line adds to the value of a name: a separator, unless that is 0, and the line from a place on. `mine`: the last field has the
-// name; `found`: a field of the name was met.
+// What a line adds to the value of a name: a separator, unless that is 0, and the line from a place on. `mine`: the
+// last field has the name; `found`: a field of the name was met.
 pub struct Step {
     pub mine: bool,
     pub found: bool,
@@ -98,8 +99,8 @@ fn value_start(line: &[u8], n: usize) -> usize
     colon + leading(after(line, colon), BLANK)
 }
 
-// A line that goes on adds to the value where the last field has the name, behind a space; a field of the name does, behind a comma where
-// it is not the first.
+// A line that goes on adds to the value where the last field has the name, behind a space; a field of the name does,
+// behind a comma where it is not the first.
 fn line_step(name: &[u8], mine: bool, found: bool, line: &[u8], n: usize) -> Step
     requires { ⌜ n ≡ nameLength (now line) ⌝ }
     ensures { λ r. ⌜ r ≡ stepOf (now (name .entry)) mine found (now (line .entry)) ⌝ }
@@ -126,20 +127,30 @@ fn line_step(name: &[u8], mine: bool, found: bool, line: &[u8], n: usize) -> Ste
     passed(found, line.len())
 }
 
-// Whether all lines are fields, each with the lines that go on with it; then whether one of the name is there, and how long its value is.
+// Whether all lines are fields, each with the lines that go on with it; then whether one of the name is there, and how
+// long its value is.
 pub struct Found {
     pub good: bool,
     pub there: bool,
     pub length: usize,
 }
 
-fn no_fields() -> Found
-    ensures { λ r. ⌜ r ≡ noFields ⌝ }
+// What was found, and a place from which on the lines have the whole value: the first of the name, where there is one.
+struct Searched {
+    found: Found,
+    first: usize,
+}
+
+fn no_fields() -> Searched
+    ensures { λ r. ⌜ (r .found ≡ noFields) × (r .first ≡ 0) ⌝ }
 {
-    Found {
-        good: false,
-        there: false,
-        length: 0,
+    Searched {
+        found: Found {
+            good: false,
+            there: false,
+            length: 0,
+        },
+        first: 0,
     }
 }
 
@@ -150,14 +161,23 @@ fn separator_length(separator: u8) -> usize
     if separator == 0 { 0 } else { 1 }
 }
 
+// Where the name was not met yet, its first line is no earlier than the next.
+fn first_place(there: bool, first: usize, next: usize) -> usize
+    ensures { λ r. ⌜ r ≡ cond there first next ⌝ }
+{
+    if there { first } else { next }
+}
+
 // A line is looked at once: its text ends where the line does.
-pub fn find(s: &[u8], name: &[u8]) -> Found
-    ensures { λ r. ⌜ r ≡ foundIn (now (name .entry)) (linesOf (now (s .entry))) ⌝ }
+fn search(s: &[u8], name: &[u8]) -> Searched
+    ensures { λ r. ⌜ r .found ≡ foundIn (now (name .entry)) (linesOf (now (s .entry))) ⌝ }
+    ensures { λ r. ⌜ WholeFrom (now (name .entry)) (now (s .entry)) (r .first) ⌝ }
 {
     let mut next: usize = 0;
     let mut before = false;
     let mut mine = false;
     let mut there = false;
+    let mut first: usize = 0;
     let mut total: usize = 0;
     while next < s.len() {
         let rest = after(s, next);
@@ -170,6 +190,7 @@ pub fn find(s: &[u8], name: &[u8]) -> Found
         if !field_ok(before, line, n) {
             return no_fields();
         }
+        first = first_place(there, first, next);
         let added = line_step(name, mine, there, line, n);
         let part = after(line, added.from);
         total = total + separator_length(added.separator) + part.len();
@@ -178,11 +199,21 @@ pub fn find(s: &[u8], name: &[u8]) -> Found
         there = added.found;
         next = next + line.len() + 2;
     }
-    Found {
-        good: true,
-        there,
-        length: total,
+    Searched {
+        found: Found {
+            good: true,
+            there,
+            length: total,
+        },
+        first,
     }
+}
+
+pub fn find(s: &[u8], name: &[u8]) -> Found
+    ensures { λ r. ⌜ r ≡ foundIn (now (name .entry)) (linesOf (now (s .entry))) ⌝ }
+{
+    let searched = search(s, name);
+    searched.found
 }
 
 fn fits(found: Found, room: usize) -> bool
@@ -197,7 +228,8 @@ fn fits(found: Found, room: usize) -> bool
     found.length <= room
 }
 
-// The separator, where there is one, and the part are written from place `at` on. What is handed back is the place behind them.
+// The separator, where there is one, and the part are written from place `at` on. What is handed back is the place
+// behind them.
 fn put(out: &mut [u8], at: usize, separator: u8, part: &[u8]) -> usize
     requires { ⌜ at + length (separated separator ++ now part) ≤ length (now out) ⌝ }
     ensures { λ r. ⌜ r ≡ at + length (separated separator ++ now (part .entry)) ⌝ }
@@ -213,12 +245,14 @@ fn put(out: &mut [u8], at: usize, separator: u8, part: &[u8]) -> usize
     from + part.len()
 }
 
-// The value of the name, of `long` bytes, is written to the front of `out`. Lines behind its last byte are not looked at.
-fn put_value(s: &[u8], name: &[u8], long: usize, out: &mut [u8])
+// The value of the name, of `long` bytes, is written to the front of `out`. The lines from place `first` on have all
+// of it, and lines behind its last byte are not looked at.
+fn put_value(s: &[u8], name: &[u8], first: usize, long: usize, out: &mut [u8])
+    requires { ⌜ WholeFrom (now name) (now s) first ⌝ }
     requires { ⌜ (long ≡ length (valueFor (now name) (linesOf (now s)))) × (long ≤ length (now out)) ⌝ }
     ensures { λ r. ⌜ now (out .exit) ≡ over 0 (valueFor (now (name .entry)) (linesOf (now (s .entry)))) (now (out .entry)) ⌝ }
 {
-    let mut next: usize = 0;
+    let mut next = first;
     let mut mine = false;
     let mut there = false;
     let mut at: usize = 0;
@@ -233,15 +267,17 @@ fn put_value(s: &[u8], name: &[u8], long: usize, out: &mut [u8])
     }
 }
 
-// The value of the name is written to the front of `out` where the lines are fields, one of them has the name, and there is room.
+// The value of the name is written to the front of `out` where the lines are fields, one of them has the name, and
+// there is room.
 pub fn write_value(s: &[u8], name: &[u8], out: &mut [u8]) -> Found
     ensures { λ r. ⌜ r ≡ foundIn (now (name .entry)) (linesOf (now (s .entry))) ⌝ }
     ensures { λ r. ⌜ now (out .exit) ≡ writtenIn (now (name .entry)) (linesOf (now (s .entry))) (now (out .entry)) ⌝ }
 {
-    let found = find(s, name);
+    let searched = search(s, name);
+    let found = searched.found;
     let long = found.length;
     if fits(found, out.len()) {
-        put_value(s, name, long, out);
+        put_value(s, name, searched.first, long, out);
         return found;
     }
     found

@@ -1,16 +1,17 @@
 -- Laws of the flags of lines: one keyword more clears those of the lines that it stops, and the last keyword leaves
 -- what passes; and of the lines that a query goes on to.
-use Prim.Native.Nat.{ℕ, zero, suc, _+_, _*_, _-_, _≤_, _<_, min}
-use mathlib.Core.Path.{_≡_, refl, sym, ap, _∙_}
+use Prim.Native.Nat.{ℕ, _+_, _*_, _-_, _≤_, _<_, min}
+use mathlib.Core.Path.{_≡_, refl, sym, ap, ap₂, _∙_}
 use mathlib.Core.Bool.{Bool, false, not, _&&_, and-true, and-false, and-assoc}
-use mathlib.Core.List.{List}
+use mathlib.Core.List.{List, _++_, map}
 use native.Mathlib.Nat.{suc-mul}
 use native.Mathlib.Numerals.{add-one}
 use native.Mathlib.Omega.{arith}
-use lib.ListN.{length, getD, take, drop}
+use lib.ListN.{length, getD, set, take, drop}
 use lib.Seq.{drop-drop, ext-getD}
 use borrow.Author.Tests.{le-leb, lt-leb}
 use Rattle.laws.proofs.Parts.{part-tail}
+use Rattle.laws.proofs.Rings.{map-getD}
 use Rattle.keywords.specs.declared.cut.Cut.{Cut}
 use Rattle.keywords.specs.Keywords.{keywordsOf, cutOf}
 use Rattle.keywords.specs.Hash.{hashOf}
@@ -18,24 +19,30 @@ use Rattle.tables.specs.declared.Table.{Table}
 use Rattle.tables.specs.Tables.{Held, heldIn, noTable}
 use Rattle.tables.specs.Admission.{stops, withholds}
 use Rattle.tables.proofs.AdmissionLaws.{withholds-end, withholds-on}
-use Rattle.protocol.specs.Lines.{partOf, eachLine, isOther}
+use Rattle.protocol.specs.Lines.{lineNumbers, partOf, eachLine, isOther}
 use Rattle.protocol.specs.Outcomes.{nobody}
+use Rattle.protocol.proofs.Outcomes.{numbers-at, eachLine-at}
 use Rattle.protocol.specs.Queries.{passes, goesOn, ownTo, queryTo}
 use Rattle.forwarding.specs.Passing.{heldOf, leftBy}
-use Rattle.laws.proofs.Passing.{take-within, drop-within, and-neither}
+use Rattle.laws.proofs.Passing.{take-within, drop-within, and-neither, element-next, element-last}
+
+-- ---- what is made for each of the eight lines
+
+-- line by line it takes the place of what stood there
+module _ {A : Type 0} (f : ℕ → A) (old : List A) (n : length old ≡ 8) (k : ℕ) where
+  pub each-next : k < 8 → (made : List A) (x : A) → made ≡ take k (map f lineNumbers) ++ drop k old → x ≡ f k
+      → set made k x ≡ take (k + 1) (map f lineNumbers) ++ drop (k + 1) old
+  each-next h made x e ex =
+      ap₂ (λ l y. set l k y) e (ex ∙ sym (map-getD f lineNumbers k 0 (f 0) h ∙ ap f (numbers-at k h)))
+      ∙ element-next (map f lineNumbers) old k (f 0) h (omega arith)
+
+  pub each-last : 8 ≤ k → take k (map f lineNumbers) ++ drop k old ≡ map f lineNumbers
+  each-last h = element-last (map f lineNumbers) old k h (omega arith)
 
 -- ---- eight flags
 
 pub flag-of : (f : ℕ → Bool) (k : ℕ) → k < 8 → getD (eachLine f) k false ≡ f k
-flag-of f zero h = refl
-flag-of f (suc zero) h = refl
-flag-of f (suc (suc zero)) h = refl
-flag-of f (suc (suc (suc zero))) h = refl
-flag-of f (suc (suc (suc (suc zero)))) h = refl
-flag-of f (suc (suc (suc (suc (suc zero))))) h = refl
-flag-of f (suc (suc (suc (suc (suc (suc zero)))))) h = refl
-flag-of f (suc (suc (suc (suc (suc (suc (suc zero))))))) h = refl
-flag-of f (suc (suc (suc (suc (suc (suc (suc (suc k)))))))) h = absurd (omega arith)
+flag-of f k h = eachLine-at f k (omega arith)
 
 flags-are : (f : ℕ → Bool) (l : List Bool) → length l ≡ 8 → ((k : ℕ) → k < 8 → f k ≡ getD l k false)
     → eachLine f ≡ l
@@ -82,16 +89,19 @@ module _ (flags : List Bool) (tables : ℕ → Held) (ttl : ℕ) where
   unfolding leftBy
   left-length hash = refl
 
+-- the flag that a keyword leaves line k
+abbrev pub leftAt : List Bool → (ℕ → Held) → ℕ → ℕ → ℕ → Bool
+leftAt flags tables ttl hash k = getD flags k false && not (stops (tables k) ttl hash)
+
 -- line k, whose part stands at the front of what is left of the area
 module _ (flags : List Bool) (tables : List Table) (room : ℕ) (route : List ℕ) (k n : ℕ) (area : List ℕ) (b : k < 8)
     (ea : area ≡ drop (k * room) route) (en : n ≡ min room (length area)) where
-  pub flag-left : (ttl hash : ℕ) → getD (leftBy flags (heldOf tables room route) ttl hash) k false
-      ≡ (getD flags k false && not (stops (heldIn (getD tables k noTable) (take n area)) ttl hash))
-  unfolding leftBy
+  pub flag-left : (ttl hash : ℕ)
+      → (getD flags k false && not (stops (heldIn (getD tables k noTable) (take n area)) ttl hash))
+      ≡ leftAt flags (heldOf tables room route) ttl hash k
   flag-left ttl hash =
       let part : take n area ≡ partOf room k route = rw en (take-within room area ∙ ap (take room) ea) in
-      flag-of (λ j. getD flags j false && not (stops (heldOf tables room route j) ttl hash)) k b
-      ∙ ap (λ p. getD flags k false && not (stops (heldIn (getD tables k noTable) p) ttl hash)) (sym part)
+      ap (λ p. getD flags k false && not (stops (heldIn (getD tables k noTable) p) ttl hash)) part
 
   pub area-next : take (length area - n) (drop n area) ≡ drop ((k + 1) * room) route
   area-next =

@@ -108,16 +108,13 @@ fn is_open_other(line: u32, k: u32, live: bool) -> bool
 fn open_others(live: [bool; 8], line: u32) -> [bool; 8]
     ensures { λ r. ⌜ r ≡ eachLine (λ k. isOther line k && getD live k false) ⌝ }
 {
-    [
-        is_open_other(line, 0, live[0]),
-        is_open_other(line, 1, live[1]),
-        is_open_other(line, 2, live[2]),
-        is_open_other(line, 3, live[3]),
-        is_open_other(line, 4, live[4]),
-        is_open_other(line, 5, live[5]),
-        is_open_other(line, 6, live[6]),
-        is_open_other(line, 7, live[7]),
-    ]
+    let mut others = live;
+    let mut k = 0;
+    while k < 8 {
+        others[k] = is_open_other(line, k as u32, live[k]);
+        k += 1;
+    }
+    others
 }
 
 // The lines that a query with this life and text goes on to that came by line l (RULES 7.5).

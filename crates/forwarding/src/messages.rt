@@ -4,6 +4,7 @@ ghost use mathlib.Core.Bool.{cond};
 ghost use Prim.Native.Nat.{_+_};
 ghost use lib.ListN.{length};
 ghost use Rattle.forwarding.specs.Messages.{passable, passedInto, sendable, ownInto, countIf};
+use protocol::LARGEST_TEXT;
 use wire::HEADER_SIZE;
 use wire::QUERY;
 use wire::copy_onto;
@@ -48,7 +49,7 @@ pub fn own_query(number: [u8; 16], limit: u8, text: &[u8], out: &mut [u8]) -> us
     ensures bytes { λ _. ⌜ now (out .exit) ≡ ownInto number limit (now (text .entry)) (now (out .entry)) ⌝ }
 {
     let n = text.len();
-    if 4093 < n {
+    if LARGEST_TEXT < n {
         return 0;
     }
     if out.len() < 26 + n {

@@ -41,11 +41,18 @@ module _ (f : ℕ → Bool) where
   found-none zero i p e j a b t = omega arith
   found-none (suc k) i p e j a b t = none-case (f i) k i refl p e (found-none k (i + 1) (omega arith)) j a b t
 
-  some-case : (t : Bool) (k i n : ℕ) → f i ≡ t → cond t i (firstFrom f k (i + 1)) ≡ n → (firstFrom f k (i + 1) ≡ n → Found k (i + 1) n) → Found (suc k) i n
-  some-case true k i n u e rec = record { from = omega arith; below = omega arith; passes = ap f (sym e) ∙ u; first = λ j a b t. omega arith }
+  some-case : (t : Bool) (k i n : ℕ) → f i ≡ t → cond t i (firstFrom f k (i + 1)) ≡ n
+      → (firstFrom f k (i + 1) ≡ n → Found k (i + 1) n) → Found (suc k) i n
+  some-case true k i n u e rec =
+      record { from = omega arith; below = omega arith; passes = ap f (sym e) ∙ u; first = λ j a b t. omega arith }
   some-case false k i n u e rec =
       let h = rec e in
-      record { from = omega (arith, h .from); below = omega (arith, h .below); passes = h .passes; first = λ j a b t. not-here i n j u (h .first) a b t }
+      record {
+        from = omega (arith, h .from);
+        below = omega (arith, h .below);
+        passes = h .passes;
+        first = λ j a b t. not-here i n j u (h .first) a b t;
+      }
 
   pub found-some : (k i n : ℕ) → 0 < n → firstFrom f k i ≡ n → Found k i n
   found-some zero i n p e = absurd (no-zero e)
@@ -54,7 +61,8 @@ module _ (f : ℕ → Bool) where
       no-zero e = omega arith
   found-some (suc k) i n p e = some-case (f i) k i n refl e (found-some k (i + 1) n p)
 
-  is-case : (t : Bool) (k i n : ℕ) → f i ≡ t → Found (suc k) i n → (Found k (i + 1) n → firstFrom f k (i + 1) ≡ n) → cond t i (firstFrom f k (i + 1)) ≡ n
+  is-case : (t : Bool) (k i n : ℕ) → f i ≡ t → Found (suc k) i n → (Found k (i + 1) n → firstFrom f k (i + 1) ≡ n)
+      → cond t i (firstFrom f k (i + 1)) ≡ n
   is-case true k i n u h rec = here (decLt i n)
     where
       here : Dec (i < n) → i ≡ n
@@ -77,7 +85,8 @@ module _ (f : ℕ → Bool) where
 
   pub none-is : (k i : ℕ) → ((j : ℕ) → i ≤ j → j < i + k → f j ≡ true → ⊥) → firstFrom f k i ≡ 0
   none-is zero i h = refl
-  none-is (suc k) i h = rw (no-true (f i) (h i (omega arith) (omega arith))) (none-is k (i + 1) (λ j a b t. h j (omega arith) (omega arith) t))
+  none-is (suc k) i h = rw (no-true (f i) (h i (omega arith) (omega arith)))
+      (none-is k (i + 1) (λ j a b t. h j (omega arith) (omega arith) t))
     where
       no-true : (t : Bool) → (t ≡ true → ⊥) → t ≡ false
       no-true false g = refl
@@ -109,7 +118,8 @@ ends-true m p e =
     at-start : eqb (p + 2) 2 ≡ true → (p ≡ 0) ⊎ ((2 ≤ p) × (getD m (p - 2) 0 ≡ 13) × (getD m (p - 1) 0 ≡ 10))
     at-start t = inl (omega (arith, eqb-true (p + 2) 2 t))
 
-    behind : (leb 4 (p + 2) && pairAt m (p - 2)) ≡ true → (p ≡ 0) ⊎ ((2 ≤ p) × (getD m (p - 2) 0 ≡ 13) × (getD m (p - 1) 0 ≡ 10))
+    behind : (leb 4 (p + 2) && pairAt m (p - 2)) ≡ true → (p ≡ 0)
+        ⊎ ((2 ≤ p) × (getD m (p - 2) 0 ≡ 13) × (getD m (p - 1) 0 ≡ 10))
     behind t =
         let h = and-true (leb 4 (p + 2)) (pairAt m (p - 2)) t in
         let l : 2 ≤ p = omega (arith, leb-true 4 (p + 2) (h .0)) in
@@ -131,7 +141,8 @@ true-ends m p h =
     or-true true = refl
     or-true false = refl
 
-    behind : (2 ≤ p) × (getD m (p - 2) 0 ≡ 13) × (getD m (p - 1) 0 ≡ 10) → (eqb (p + 2) 2 || (leb 4 (p + 2) && pairAt m (p - 2))) ≡ true
+    behind : (2 ≤ p) × (getD m (p - 2) 0 ≡ 13) × (getD m (p - 1) 0 ≡ 10)
+        → (eqb (p + 2) 2 || (leb 4 (p + 2) && pairAt m (p - 2))) ≡ true
     behind q =
         let g : p - 1 ≡ p - 2 + 1 = omega (arith, q .0) in
         rw (le-leb 4 (p + 2) (omega (arith, q .0)), is-pair m (p - 2) (q .1) (rw g at (q .2))) (or-true (eqb (p + 2) 2))
@@ -142,8 +153,10 @@ end-is-first m p = (forth, back)
   where
     forth : groupLength m ≡ p + 2 → EndsIn m p × ((k : ℕ) → k < p → EmptyLineAt m k → ⊥)
     forth e =
-        let h = found-some (endsAt m) (min (length m) 4096 - 1) 2 (p + 2) (omega arith) e in
-        ((omega (arith, h .below), omega (arith, h .below), ends-true m p (h .passes)), λ k q l. h .first (k + 2) (omega arith) (omega arith) (true-ends m k l))
+        let h = found-some (endsAt m) (min (length m) 4096 - 1) 2 (p + 2) (omega arith) e in (
+          (omega (arith, h .below), omega (arith, h .below), ends-true m p (h .passes)),
+          λ k q l. h .first (k + 2) (omega arith) (omega arith) (true-ends m k l),
+        )
 
     back : EndsIn m p × ((k : ℕ) → k < p → EmptyLineAt m k → ⊥) → groupLength m ≡ p + 2
     back h =
@@ -151,7 +164,8 @@ end-is-first m p = (forth, back)
           from = omega arith;
           below = omega (arith, h .0);
           passes = true-ends m p (h .0 .2);
-          first = λ j a b t. (let g : j ≡ j - 2 + 2 = omega arith in h .1 (j - 2) (omega arith) (ends-true m (j - 2) (rw g at t)));
+          first = λ j a b t. (let g : j ≡ j - 2 + 2 = omega arith in
+              h .1 (j - 2) (omega arith) (ends-true m (j - 2) (rw g at t)));
         })
 
 pub no-end : NoEnd
@@ -159,9 +173,11 @@ unfolding groupLength
 no-end m = (forth, back)
   where
     forth : groupLength m ≡ 0 → (p : ℕ) → EndsIn m p → ⊥
-    forth e p h = found-none (endsAt m) (min (length m) 4096 - 1) 2 (omega arith) e (p + 2) (omega arith) (omega (arith, h)) (true-ends m p (h .2))
+    forth e p h = found-none (endsAt m) (min (length m) 4096 - 1) 2 (omega arith) e (p + 2) (omega arith)
+        (omega (arith, h)) (true-ends m p (h .2))
 
     back : ((p : ℕ) → EndsIn m p → ⊥) → groupLength m ≡ 0
     back h =
         none-is (endsAt m) (min (length m) 4096 - 1) 2
-        (λ j a b t. (let g : j ≡ j - 2 + 2 = omega arith in h (j - 2) (omega arith, omega arith, ends-true m (j - 2) (rw g at t))))
+        (λ j a b t. (let g : j ≡ j - 2 + 2 = omega arith in
+        h (j - 2) (omega arith, omega arith, ends-true m (j - 2) (rw g at t))))

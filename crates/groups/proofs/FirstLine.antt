@@ -9,17 +9,22 @@ use native.Mathlib.Decide.{decLt}
 use native.Mathlib.Nat.{zero-add}
 use native.Mathlib.Numerals.{add-one}
 use lib.Dec.{eqb, leb}
-use lib.ListN.{length, getD, take, drop, take-append-drop, length-append, length-take, drop-of-length-le, List·getD-eq-default}
-use lib.Seq.{length-take-le, getD-append-add, take-all, take-suc, take-add, getD-take, getD-drop, getD-append-seam, drop-append-add, drop-append-seam}
+use lib.ListN.{length, getD, take, drop, take-append-drop, length-append, length-take, drop-of-length-le}
+use lib.ListN.{List·getD-eq-default}
+use lib.Seq.{length-take-le, getD-append-add, take-all, take-suc, take-add, getD-take, getD-drop, getD-append-seam}
+use lib.Seq.{drop-append-add, drop-append-seam}
 use borrow.Author.Tests.{eq-eqb, ne-eqb, eqb-true, eqb-false, le-leb, leb-true, not-true}
 use Rattle.laws.specs.Tests.{every}
 use Rattle.laws.proofs.Refusals.{clash, and-fst, and-snd, or-split, or-left, or-right, and-intro, Each, each}
 use Rattle.groups.specs.declared.start.Version.{Version}
 use Rattle.groups.specs.declared.start.Start.{Start}
 use Rattle.ascii.specs.Text.{isDigit, leading, compared, same, startsWith, digitOf, decimalFrom, digitCount, digitValue}
-use Rattle.groups.specs.Start.{greetingText, replyText, oneToThree, atLeast06, versionLength, behindDot, versionOf, statusOk, isStatus, noStart, greetingFrom, greetingOf, replyFrom, behindVersion, replyOf, startOf}
+use Rattle.groups.specs.Start.{greetingText, replyText, oneToThree, atLeast06, versionLength, behindDot}
+use Rattle.groups.specs.Start.{versionOf, statusOk, isStatus, noStart, greetingFrom, greetingOf, replyFrom}
+use Rattle.groups.specs.Start.{behindVersion, replyOf, startOf}
 use Rattle.ascii.proofs.TextLaws.{run-length, leading-passes}
-use Rattle.groups.specs.Words.{Digit, Number, one, two, three, Versioned, Greeting, GreetingExactly, Status, Reply, ReplyExactly, GreetingOrReply, NoOtherKind}
+use Rattle.groups.specs.Words.{Digit, Number, one, two, three, Versioned, Greeting, GreetingExactly, Status}
+use Rattle.groups.specs.Words.{Reply, ReplyExactly, GreetingOrReply, NoOtherKind}
 
 -- ---- numbers
 
@@ -204,7 +209,18 @@ module _ (text t : List ℕ) (major minor : ℕ) (v : Versioned text major minor
   length-is : versionOf (v .left ++ (46 ∷ rest)) .length ≡ length text
   unfolding versionLength
   length-is =
-      rw (behind-is, count₁, value₁, count₂, value₂, getD-append-seam, few-is (length (v .left)) (number-length (v .is-major)), few-is (length (v .right)) (number-length (v .is-minor)), least-is (v .least))
+      rw (
+        behind-is,
+        count₁,
+        value₁,
+        count₂,
+        value₂,
+        getD-append-seam,
+        few-is (length (v .left)) (number-length (v .is-major)),
+        few-is (length (v .right))
+            (number-length (v .is-minor)),
+        least-is (v .least),
+      )
       (omega (arith, ap length (v .whole), length-append (v .left) (46 ∷ v .right)))
 
   version-is : versionOf (text ++ t) ≡ record { length = length text; major = major; minor = minor }
@@ -320,7 +336,8 @@ status-forth (x ∷ s) e =
       text = drop 3 s;
       is-code = rw n at (front-number s (omega arith) (omega arith));
       three-digits = length-take-le 3 s (omega (arith, digits-within s));
-      ending = ⊎-elim (λ u. inl (none-left u)) (λ u. inr (getD-drop 3 s 0 0 ∙ eqb-true _ 32 u)) (or-split few space (k .1 .1 .0));
+      ending = ⊎-elim (λ u. inl (none-left u)) (λ u. inr (getD-drop 3 s 0 0 ∙ eqb-true _ 32 u))
+          (or-split few space (k .1 .1 .0));
       whole = ap₂ (λ u v. u ∷ v) (eqb-true x 32 (k .0)) (sym (take-append-drop 3 s));
     }
   where
@@ -357,7 +374,11 @@ module _ {status : List ℕ} {code : ℕ} (h : Status status code) where
   unfolding statusOk
   status-back =
       ap isStatus (h .whole)
-      ∙ rw (number-count (h .text) no-more (h .is-code), h .three-digits, ends-well (h .digits) (h .text) (h .three-digits) (h .ending))
+      ∙ rw (
+        number-count (h .text) no-more (h .is-code),
+        h .three-digits,
+        ends-well (h .digits) (h .text) (h .three-digits) (h .ending),
+      )
 
   code-back : digitValue (drop 1 status) ≡ code
   code-back = ap (λ s. digitValue (drop 1 s)) (h .whole) ∙ number-value (h .text) no-more (h .is-code)
@@ -367,7 +388,8 @@ module _ {status : List ℕ} {code : ℕ} (h : Status status code) where
 
 module _ (s : List ℕ) (major minor code : ℕ) where
   reply-forth : replyOf s ≡ reply major minor code
-      → (version : List ℕ) × (status : List ℕ) × Versioned version major minor × Status status code × (s ≡ version ++ status)
+      → (version : List ℕ) × (status : List ℕ) × Versioned version major minor × Status status code
+      × (s ≡ version ++ status)
   unfolding replyFrom
   reply-forth e =
       let v = versionOf s in

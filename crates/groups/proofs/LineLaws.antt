@@ -11,7 +11,8 @@ use lib.Seq.{drop-cons, drop-drop, getD-drop, length-take-le}
 use borrow.Author.Tests.{ne-eqb, leb-true, leb-false}
 use Rattle.laws.specs.Tests.{all}
 use Rattle.ascii.specs.Text.{run, leading, isText, onto}
-use Rattle.groups.specs.Lines.{pairAt, endsAt, inLine, firstFrom, lineLength, lineEnds, lineAt, linesOf, firstLine, otherLines}
+use Rattle.groups.specs.Lines.{pairAt, endsAt, inLine, firstFrom, lineLength, lineEnds, lineAt, linesOf}
+use Rattle.groups.specs.Lines.{firstLine, otherLines}
 use Rattle.ascii.proofs.TextLaws.{run-length}
 
 -- CR and LF at the front of what is left stand at that place of the whole
@@ -93,19 +94,26 @@ module _ (m : List ℕ) (n : ℕ) (h : 2 ≤ n) (t : isText (getD m (n - 1) 0) �
       rw e (lf-not (eqb (getD m (n - 2) 0) 13) (getD m (n - 1) 0) t)
 
   -- the last byte of n is text: no group ends with it or with one of the next three
-  pub ends-not : (endsAt m n ≡ false) × (endsAt m (n + 1) ≡ false) × (endsAt m (n + 2) ≡ false) × (endsAt m (n + 3) ≡ false)
+  pub ends-not : (endsAt m n ≡ false) × (endsAt m (n + 1) ≡ false) × (endsAt m (n + 2) ≡ false)
+      × (endsAt m (n + 3) ≡ false)
   ends-not =
       let e1 : n + 1 - 2 ≡ n - 1 = omega arith in
       let e2 : n + 2 - 4 ≡ n - 2 = omega arith in
-      let e3 : n + 3 - 4 ≡ n - 1 = omega arith in
-      (late-not m n no-lf, late-not m (n + 1) (rw e1 (no-cr m (n - 1) t)), early-not m (n + 2) (λ k. omega arith) (rw e2 no-lf), early-not m (n + 3) (λ k. omega arith) (rw e3 (no-cr m (n - 1) t)))
+      let e3 : n + 3 - 4 ≡ n - 1 = omega arith in (
+        late-not m n no-lf,
+        late-not m (n + 1) (rw e1 (no-cr m (n - 1) t)),
+        early-not m (n + 2) (λ k. omega arith) (rw e2 no-lf),
+        early-not m (n + 3) (λ k. omega arith)
+            (rw e3 (no-cr m (n - 1) t)),
+      )
 
 -- the lines are the first line and those of what stands behind its end
 pub lines-step : (s : List ℕ) → 0 < length s → linesOf s ≡ take (lineLength s) s ∷ linesOf (drop (lineLength s + 2) s)
 lines-step [] h = let z : _≡_ {A = ℕ} 0 1 = omega arith in cc
 lines-step (a ∷ []) h = one (eqb a 13)
   where
-    one : (t : Bool) → (a ∷ []) ∷ [] ≡ take (cond (not (t && eqb 0 10)) 1 0) (a ∷ []) ∷ linesOf (drop (cond (not (t && eqb 0 10)) 1 0 + 2) (a ∷ []))
+    one : (t : Bool) → (a ∷ []) ∷ [] ≡ take (cond (not (t && eqb 0 10)) 1 0) (a ∷ [])
+        ∷ linesOf (drop (cond (not (t && eqb 0 10)) 1 0 + 2) (a ∷ []))
     one true = refl
     one false = refl
 lines-step (a ∷ (b ∷ bs)) h = more (eqb a 13 && eqb b 10) (run inLine (b ∷ bs)) (lines-step (b ∷ bs) (omega arith))
@@ -133,7 +141,8 @@ pub leading-all : (f : ℕ → Bool) (s : List ℕ) → all f (take (leading f s
 leading-all f [] = refl
 leading-all f (b ∷ bs) = one (f b) refl (leading-all f bs)
   where
-    one : (t : Bool) → f b ≡ t → all f (take (leading f bs) bs) ≡ true → all f (take (cond t (suc (leading f bs)) 0) (b ∷ bs)) ≡ true
+    one : (t : Bool) → f b ≡ t → all f (take (leading f bs) bs) ≡ true → all f
+        (take (cond t (suc (leading f bs)) 0) (b ∷ bs)) ≡ true
     one true e h = rw e h
     one false e h = refl
 
@@ -147,7 +156,8 @@ text-line [] h = refl
 text-line (b ∷ bs) h = one (isText b) refl (text-line bs) h
   where
     one : (t : Bool) → isText b ≡ t → (textEnds bs ≡ true → leading isText bs ≡ lineLength bs)
-        → lineEnds (drop (cond t (suc (leading isText bs)) 0) (b ∷ bs)) ≡ true → cond t (suc (leading isText bs)) 0 ≡ lineLength (b ∷ bs)
+        → lineEnds (drop (cond t (suc (leading isText bs)) 0) (b ∷ bs)) ≡ true → cond t (suc (leading isText bs)) 0
+        ≡ lineLength (b ∷ bs)
     one true e f k = rw (text-not-pair b (eqb (getD bs 0 0) 10) e, f k)
     one false e f k = rw k
 
@@ -157,7 +167,8 @@ text-broken [] h = let z : _≡_ {A = Bool} true false = h in cc
 text-broken (b ∷ bs) h = one (isText b) refl (text-broken bs) h
   where
     one : (t : Bool) → isText b ≡ t → (textEnds bs ≡ false → all isText (take (lineLength bs) bs) ≡ false)
-        → lineEnds (drop (cond t (suc (leading isText bs)) 0) (b ∷ bs)) ≡ false → all isText (take (lineLength (b ∷ bs)) (b ∷ bs)) ≡ false
+        → lineEnds (drop (cond t (suc (leading isText bs)) 0) (b ∷ bs)) ≡ false → all isText
+        (take (lineLength (b ∷ bs)) (b ∷ bs)) ≡ false
     one true e f k = rw (text-not-pair b (eqb (getD bs 0 0) 10) e, e) (f k)
     one false e f k = rw (k, e)
 
@@ -171,7 +182,8 @@ line-size s at = length-take-le (lineLength (drop at s)) (drop at s) (run-length
 pub line-fits : (s : List ℕ) (at : ℕ) → at ≤ length s → at + length (lineAt s at) ≤ length s
 line-fits s at h = omega (arith, line-size s at, run-length inLine (drop at s), length-drop at s)
 
-pub line-next : (s : List ℕ) (at : ℕ) → at < length s → linesOf (drop at s) ≡ lineAt s at ∷ linesOf (drop (at + length (lineAt s at) + 2) s)
+pub line-next : (s : List ℕ) (at : ℕ) → at < length s → linesOf (drop at s)
+    ≡ lineAt s at ∷ linesOf (drop (at + length (lineAt s at) + 2) s)
 unfolding lineAt
 line-next s at h =
     lines-step (drop at s) (simp length-drop (omega arith))

@@ -90,7 +90,8 @@ module _ (l r : List ℕ) (some : 1 ≤ length l) (t : all isText l ≡ true) wh
           let c : getD whole k 0 ≡ 10 = ap (λ n. getD whole n 0) z ∙ at-lf in
           omega (arith, e .0)
 
-  rest-place : (j : ℕ) → EmptyLineAt whole (length l + 2 + j) → (j ≡ 0) ⊎ ((2 ≤ j) × (getD r (j - 2) 0 ≡ 13) × (getD r (j - 1) 0 ≡ 10))
+  rest-place : (j : ℕ) → EmptyLineAt whole (length l + 2 + j) → (j ≡ 0)
+      ⊎ ((2 ≤ j) × (getD r (j - 2) 0 ≡ 13) × (getD r (j - 1) 0 ≡ 10))
   rest-place zero e = inl refl
   rest-place (suc zero) e =
       ⊎-elim
@@ -103,14 +104,23 @@ module _ (l r : List ℕ) (some : 1 ≤ length l) (t : all isText l ≡ true) wh
   rest-place (suc (suc i)) e =
       ⊎-elim
       (λ w. absurd (omega arith))
-      (λ w. inr (omega arith, sym (at-rest (length l + 2 + suc (suc i) - 2) (suc (suc i) - 2) (omega arith)) ∙ w .1, sym (at-rest (length l + 2 + suc (suc i) - 1) (suc (suc i) - 1) (omega arith)) ∙ w .2))
+      (λ w. inr (
+        omega arith,
+        sym (at-rest (length l + 2 + suc (suc i) - 2) (suc (suc i) - 2) (omega arith)) ∙ w .1,
+        sym (at-rest (length l + 2 + suc (suc i) - 1) (suc (suc i) - 1) (omega arith)) ∙ w .2,
+      ))
       (e .2)
 
   rest-empty : (j : ℕ) → EmptyLineAt whole (length l + 2 + j) → EmptyLineAt r j
-  rest-empty j e = (sym (at-rest (length l + 2 + j) j refl) ∙ e .0, sym (at-rest (length l + 2 + j + 1) (j + 1) (omega arith)) ∙ e .1, rest-place j e)
+  rest-empty j e = (
+    sym (at-rest (length l + 2 + j) j refl) ∙ e .0,
+    sym (at-rest (length l + 2 + j + 1) (j + 1) (omega arith)) ∙ e .1,
+    rest-place j e,
+  )
 
 -- none stands before the end of the lines
-none-before : (ls : List (List ℕ)) → all isLine ls ≡ true → (k : ℕ) → k < length (rows ls) → EmptyLineAt (rows ls ++ (13 ∷ 10 ∷ [])) k → ⊥
+none-before : (ls : List (List ℕ)) → all isLine ls ≡ true → (k : ℕ) → k < length (rows ls)
+    → EmptyLineAt (rows ls ++ (13 ∷ 10 ∷ [])) k → ⊥
 none-before [] h k b e = omega arith
 none-before (l ∷ ls) h k b e = go (ltb k (length l + 2)) refl (none-before ls (and-snd (isLine l) (all isLine ls) h))
   where
@@ -126,12 +136,15 @@ none-before (l ∷ ls) h k b e = go (ltb k (length l + 2)) refl (none-before ls 
     split : rows (l ∷ ls) ++ (13 ∷ 10 ∷ []) ≡ l ++ (13 ∷ 10 ∷ (rows ls ++ (13 ∷ 10 ∷ [])))
     split = append-assoc l (13 ∷ 10 ∷ rows ls) (13 ∷ 10 ∷ [])
 
-    go : (t : Bool) → ltb k (length l + 2) ≡ t → ((j : ℕ) → j < length (rows ls) → EmptyLineAt (rows ls ++ (13 ∷ 10 ∷ [])) j → ⊥) → ⊥
+    go : (t : Bool) → ltb k (length l + 2) ≡ t → ((j : ℕ) → j < length (rows ls)
+        → EmptyLineAt (rows ls ++ (13 ∷ 10 ∷ [])) j → ⊥) → ⊥
     go true p f = line-empty l (rows ls ++ (13 ∷ 10 ∷ [])) some text k (ltb-true k (length l + 2) p) (rw split at e)
     go false p f =
         let a = ltb-false k (length l + 2) p in
         let z : k ≡ length l + 2 + (k - (length l + 2)) = omega arith in
-        f (k - (length l + 2)) (omega (arith, length-append l (13 ∷ 10 ∷ rows ls))) (rest-empty l (rows ls ++ (13 ∷ 10 ∷ [])) some text (k - (length l + 2)) (subst (λ n. EmptyLineAt (l ++ (13 ∷ 10 ∷ (rows ls ++ (13 ∷ 10 ∷ [])))) n) z (rw split at e)))
+        f (k - (length l + 2)) (omega (arith, length-append l (13 ∷ 10 ∷ rows ls)))
+        (rest-empty l (rows ls ++ (13 ∷ 10 ∷ [])) some text (k - (length l + 2))
+        (subst (λ n. EmptyLineAt (l ++ (13 ∷ 10 ∷ (rows ls ++ (13 ∷ 10 ∷ [])))) n) z (rw split at e)))
 
 -- ---- the group ends with the lines
 
@@ -140,16 +153,24 @@ rows-end [] = inl refl
 rows-end (l ∷ ls) =
     ⊎-elim
     (λ e. inr (l, ap (λ y. l ++ (13 ∷ 10 ∷ y)) e))
-    (λ w. inr (l ++ (13 ∷ 10 ∷ w .0), ap (λ y. l ++ (13 ∷ 10 ∷ y)) (w .1) ∙ sym (append-assoc l (13 ∷ 10 ∷ w .0) (13 ∷ 10 ∷ []))))
+    (λ w. inr (
+      l ++ (13 ∷ 10 ∷ w .0),
+      ap (λ y. l ++ (13 ∷ 10 ∷ y)) (w .1) ∙ sym (append-assoc l (13 ∷ 10 ∷ w .0) (13 ∷ 10 ∷ [])),
+    ))
     (rows-end ls)
 
-tail-pair : (y x : List ℕ) → y ≡ x ++ (13 ∷ 10 ∷ []) → (2 ≤ length y) × (getD (y ++ (13 ∷ 10 ∷ [])) (length y - 2) 0 ≡ 13) × (getD (y ++ (13 ∷ 10 ∷ [])) (length y - 1) 0 ≡ 10)
+tail-pair : (y x : List ℕ) → y ≡ x ++ (13 ∷ 10 ∷ []) → (2 ≤ length y)
+    × (getD (y ++ (13 ∷ 10 ∷ [])) (length y - 2) 0 ≡ 13) × (getD (y ++ (13 ∷ 10 ∷ [])) (length y - 1) 0 ≡ 10)
 tail-pair y x e =
     let n : length y ≡ length x + 2 = ap length e ∙ length-append x (13 ∷ 10 ∷ []) in
-    let w : y ++ (13 ∷ 10 ∷ []) ≡ x ++ (13 ∷ 10 ∷ (13 ∷ 10 ∷ [])) = ap (λ z. z ++ (13 ∷ 10 ∷ [])) e ∙ append-assoc x (13 ∷ 10 ∷ []) (13 ∷ 10 ∷ []) in
+    let w : y ++ (13 ∷ 10 ∷ []) ≡ x ++ (13 ∷ 10 ∷ (13 ∷ 10 ∷ [])) = ap (λ z. z ++ (13 ∷ 10 ∷ [])) e
+    ∙ append-assoc x (13 ∷ 10 ∷ []) (13 ∷ 10 ∷ []) in
     let a : length y - 2 ≡ length x + 0 = omega arith in
-    let b : length y - 1 ≡ length x + 1 = omega arith in
-    (omega arith, ap₂ (λ z k. getD z k 0) w a ∙ getD-append-add x (13 ∷ 10 ∷ (13 ∷ 10 ∷ [])) 0 0, ap₂ (λ z k. getD z k 0) w b ∙ getD-append-add x (13 ∷ 10 ∷ (13 ∷ 10 ∷ [])) 1 0)
+    let b : length y - 1 ≡ length x + 1 = omega arith in (
+      omega arith,
+      ap₂ (λ z k. getD z k 0) w a ∙ getD-append-add x (13 ∷ 10 ∷ (13 ∷ 10 ∷ [])) 0 0,
+      ap₂ (λ z k. getD z k 0) w b ∙ getD-append-add x (13 ∷ 10 ∷ (13 ∷ 10 ∷ [])) 1 0,
+    )
 
 last-pair : (ls : List (List ℕ)) → EmptyLineAt (rows ls ++ (13 ∷ 10 ∷ [])) (length (rows ls))
 last-pair ls = (
@@ -158,7 +179,8 @@ last-pair ls = (
   ⊎-elim (λ e. inl (ap length e)) (λ w. inr (tail-pair (rows ls) (w .0) (w .1))) (rows-end ls),
 )
 
-pub ends-there : (ls : List (List ℕ)) → all isLine ls ≡ true → length (rows ls) + 2 ≤ 4096 → groupLength (rows ls ++ (13 ∷ 10 ∷ [])) ≡ length (rows ls) + 2
+pub ends-there : (ls : List (List ℕ)) → all isLine ls ≡ true → length (rows ls) + 2 ≤ 4096
+    → groupLength (rows ls ++ (13 ∷ 10 ∷ [])) ≡ length (rows ls) + 2
 ends-there ls h b =
     end-is-first (rows ls ++ (13 ∷ 10 ∷ [])) (length (rows ls)) .1
     ((omega (arith, length-append (rows ls) (13 ∷ 10 ∷ [])), b, last-pair ls), none-before ls h)

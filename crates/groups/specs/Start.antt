@@ -26,7 +26,8 @@ atLeast06 major minor = leb 1 major || leb 6 minor
 -- how long a version is, of so many digits, this byte for the dot, and so many digits: 0 where it is none
 unfoldable pub versionLength : ℕ → ℕ → ℕ → ℕ → ℕ → ℕ
 versionLength before dot behind major minor =
-    cond (every (oneToThree before ∷ eqb dot 46 ∷ oneToThree behind ∷ atLeast06 major minor ∷ [])) (before + 1 + behind) 0
+    cond (every (oneToThree before ∷ eqb dot 46 ∷ oneToThree behind ∷ atLeast06 major minor ∷ []))
+    (before + 1 + behind) 0
 
 -- what stands behind the dot
 abbrev pub behindDot : List ℕ → List ℕ
@@ -35,7 +36,8 @@ behindDot s = drop (digitCount s + 1) s
 -- the version at the front: one to three digits on each side of a dot
 abbrev pub versionOf : List ℕ → Version
 versionOf s = record {
-  length = versionLength (digitCount s) (getD s (digitCount s) 0) (digitCount (behindDot s)) (digitValue s) (digitValue (behindDot s));
+  length = versionLength (digitCount s) (getD s (digitCount s) 0) (digitCount (behindDot s)) (digitValue s)
+      (digitValue (behindDot s));
   major = digitValue s;
   minor = digitValue (behindDot s);
 }
@@ -54,7 +56,8 @@ noStart = record { kind = 0; major = 0; minor = 0; code = 0 }
 -- kind 1: a greeting is its version and nothing more
 unfoldable pub greetingFrom : Version → ℕ → Start
 greetingFrom v size =
-    cond (every (not (eqb (v .length) 0) ∷ eqb (v .length) size ∷ [])) (record { kind = 1; major = v .major; minor = v .minor; code = 0 }) noStart
+    cond (every (not (eqb (v .length) 0) ∷ eqb (v .length) size ∷ []))
+    (record { kind = 1; major = v .major; minor = v .minor; code = 0 }) noStart
 
 abbrev pub greetingOf : List ℕ → Start
 greetingOf s = greetingFrom (versionOf s) (length s)
@@ -62,7 +65,8 @@ greetingOf s = greetingFrom (versionOf s) (length s)
 -- kind 2: a reply has a status behind its version
 unfoldable pub replyFrom : Version → Bool → ℕ → Start
 replyFrom v status code =
-    cond (every (not (eqb (v .length) 0) ∷ status ∷ [])) (record { kind = 2; major = v .major; minor = v .minor; code = code }) noStart
+    cond (every (not (eqb (v .length) 0) ∷ status ∷ []))
+    (record { kind = 2; major = v .major; minor = v .minor; code = code }) noStart
 
 -- what stands behind the version
 abbrev pub behindVersion : List ℕ → List ℕ

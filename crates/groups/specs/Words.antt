@@ -1,5 +1,6 @@
--- The first line of a group (RULES 15.4, 15.5) once more, in words over the values of bytes: what is proved of the definitions
--- that the contracts cite. A definition that took a version or a status of another shape would not have these.
+-- The first line of a group (RULES 15.4, 15.5) once more, in words over the values of bytes: what is proved of the
+-- definitions that the contracts cite. A definition that took a version or a status of another shape would not have
+-- these.
 use Prim.Native.Nat.{ℕ, _+_, _-_, _*_, _≤_}
 use mathlib.Core.Path.{_≡_}
 use mathlib.Core.Logic.{_↔_, _⊎_}

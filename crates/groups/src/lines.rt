@@ -48,8 +48,8 @@ fn searched(n: usize) -> usize
     if n < 4096 { n } else { 4096 }
 }
 
-// How long the group is, with the empty line that ends it: 0 where no end stands in the first 4,096 bytes. Behind a byte of text no end
-// stands before the fourth byte, so that most bytes are passed by.
+// How long the group is, with the empty line that ends it: 0 where no end stands in the first 4,096 bytes. Behind a
+// byte of text no end stands before the fourth byte, so that most bytes are passed by.
 pub fn group_length(m: &[u8]) -> usize
     ensures { λ r. ⌜ r ≡ groupLength (now (m .entry)) ⌝ }
 {

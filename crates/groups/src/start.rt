@@ -5,7 +5,8 @@ use ascii::leading_number;
 use ascii::starts_with;
 ghost use mathlib.Core.Path.{_≡_};
 ghost use Prim.Native.Nat.{_≤_};
-ghost use Rattle.groups.specs.Start.{versionLength, versionOf, statusOk, isStatus, noStart, greetingFrom, replyFrom, greetingOf, replyOf, startOf};
+ghost use Rattle.groups.specs.Start.{versionLength, versionOf, statusOk, isStatus, noStart, greetingFrom};
+ghost use Rattle.groups.specs.Start.{replyFrom, greetingOf, replyOf, startOf};
 
 // A version at the front of a text: how long it is, 0 where there is none, and its two numbers.
 pub struct Version {

@@ -13,7 +13,8 @@ use Rattle.laws.specs.Tests.{firstOf}
 use Rattle.groups.specs.Lines.{pairAt, endsAt, groupLength, linesOf, lineLength, firstLine, otherLines}
 use Rattle.groups.specs.Start.{startOf}
 use Rattle.fields.specs.Fields.{linesOk, valueFor, isAbsent}
-use Rattle.handshake.specs.Group.{linesIn, fieldsIn, isStart, understood, groupNumber, readNumber, groupFrom, readGroup, valueIn, askedFrom, askedNumber}
+use Rattle.handshake.specs.Group.{linesIn, fieldsIn, isStart, understood, groupNumber, readNumber, groupFrom}
+use Rattle.handshake.specs.Group.{readGroup, valueIn, askedFrom, askedNumber}
 use Rattle.handshake.specs.Claims.{SameAnswers, NotReadBehind, GroupAlone, RoomEnough}
 use Rattle.groups.proofs.LineLaws.{lines-others}
 use Rattle.fields.proofs.FieldLaws.{value-short}
@@ -21,7 +22,8 @@ use Rattle.groups.proofs.Ends.{found-some, found-is}
 use Rattle.handshake.proofs.Order.{not-two}
 
 -- the group's length is in the bytes and at most 4,096
-pub length-in : (m : List ℕ) → 0 < groupLength m → (2 ≤ groupLength m) × (groupLength m ≤ length m) × (groupLength m ≤ 4096)
+pub length-in : (m : List ℕ) → 0 < groupLength m → (2 ≤ groupLength m) × (groupLength m ≤ length m)
+    × (groupLength m ≤ 4096)
 unfolding groupLength
 length-in m h =
     let f = found-some (endsAt m) (min (length m) 4096 - 1) 2 (groupLength m) h refl in
@@ -38,7 +40,8 @@ module _ (a b : List ℕ) (n : ℕ) (same : take n a ≡ take n b) where
   -- end alike up to there
   ends-same : (j : ℕ) → 2 ≤ j → j ≤ n → endsAt a j ≡ endsAt b j
   unfolding endsAt
-  ends-same j p q = rw (pair-same (j - 2) (omega arith)) (ap (λ t. pairAt b (j - 2) && (eqb j 2 || t)) (guarded (leb 4 j) refl))
+  ends-same j p q = rw (pair-same (j - 2) (omega arith)) (ap (λ t. pairAt b (j - 2) && (eqb j 2 || t))
+      (guarded (leb 4 j) refl))
     where
       guarded : (t : Bool) → leb 4 j ≡ t → (t && pairAt a (j - 4)) ≡ (t && pairAt b (j - 4))
       guarded false e = refl
@@ -91,7 +94,8 @@ module _ (m b : List ℕ) (g : SameGroup m b) where
 
   pub understood-same : understood b (groupLength m) ≡ understood m (groupLength m)
   unfolding understood
-  understood-same = ap (λ ls. isStart (firstLine ls) (startOf (firstLine ls) .kind) && linesOk false (otherLines ls)) lines-same
+  understood-same = ap (λ ls. isStart (firstLine ls) (startOf (firstLine ls) .kind) && linesOk false (otherLines ls))
+      lines-same
 
   -- where a group is whole, how much stands behind it does not count
   number-size : (x y : ℕ) (ok : Bool) → groupNumber (groupLength m) x ok ≡ groupNumber (groupLength m) y ok
@@ -102,7 +106,8 @@ module _ (m b : List ℕ) (g : SameGroup m b) where
   refusal-same = rw (length-same, understood-same) (number-size (length b) (length m) (understood m (groupLength m)))
 
   read-same : readGroup b ≡ readGroup m
-  read-same = rw (refusal-same, length-same) (ap (λ ls. groupFrom (readNumber m) (groupLength m) (startOf (firstLine ls))) lines-same)
+  read-same = rw (refusal-same, length-same)
+      (ap (λ ls. groupFrom (readNumber m) (groupLength m) (startOf (firstLine ls))) lines-same)
 
   pub value-same : (name : List ℕ) → valueIn b name ≡ valueIn m name
   value-same name = rw length-same (ap (λ ls. valueFor name (otherLines ls)) lines-same)
@@ -153,8 +158,10 @@ room-enough m name room h =
     let v = value-most m name in
     let n = groupLength m in
     let r = readNumber m in
-    let f : ltb room (length (valueIn m name)) ≡ false = le-ltb room (length (valueIn m name)) (omega arith) in
-    (omega arith, λ e. go r (eqb r 0) (isAbsent name (fieldsIn m n)) (not-two n (length m) (understood m n)) (rw f at e))
+    let f : ltb room (length (valueIn m name)) ≡ false = le-ltb room (length (valueIn m name)) (omega arith) in (
+      omega arith,
+      λ e. go r (eqb r 0) (isAbsent name (fieldsIn m n)) (not-two n (length m) (understood m n)) (rw f at e),
+    )
   where
     go : (r : ℕ) (t absent : Bool) → eqb r 2 ≡ false → firstOf ((not t, r) ∷ (absent, 10) ∷ (false, 2) ∷ []) ≡ 2 → ⊥
     go r false absent k e = eqb-false r 2 k e

@@ -19,7 +19,9 @@ use Rattle.fields.specs.Fields.{linesOk, isAbsent, valueFor}
 use Rattle.fields.specs.Step.{noFields, foundIn, fitsIn, writtenIn}
 use Rattle.handshake.specs.declared.Group.{Group}
 use Rattle.handshake.specs.declared.Asked.{Asked}
-use Rattle.handshake.specs.Group.{linesIn, startIn, fieldsIn, isStart, understood, groupNumber, readNumber, groupFrom, readGroup, valueIn, askedFrom, askedNumber, askedWith, askField, askedOut}
+use Rattle.handshake.specs.Group.{linesIn, startIn, fieldsIn, isStart, understood, groupNumber, readNumber}
+use Rattle.handshake.specs.Group.{groupFrom, readGroup, valueIn, askedFrom, askedNumber, askedWith, askField}
+use Rattle.handshake.specs.Group.{askedOut}
 
 -- the group's length, its first line with what that says, and what stands behind it
 pub record Front (m : List ℕ) (n : ℕ) (first fields : List ℕ) (start : Start) : Type 0 where
@@ -28,7 +30,8 @@ pub record Front (m : List ℕ) (n : ℕ) (first fields : List ℕ) (start : Sta
   pub is-start : start ≡ startOf first
   pub are-fields : linesOf fields ≡ fieldsIn m n
 
-pub front-of : (m lines first fields : List ℕ) (n : ℕ) (start : Start) → n ≡ groupLength m → lines ≡ take (n - 2) m → first ≡ lineAt lines 0
+pub front-of : (m lines first fields : List ℕ) (n : ℕ) (start : Start) → n ≡ groupLength m → lines ≡ take (n - 2) m
+    → first ≡ lineAt lines 0
     → start ≡ startOf first → fields ≡ drop (length first + 2) lines → Front m n first fields start
 front-of m lines first fields n start e p f s g =
     record {
@@ -51,14 +54,16 @@ module _ {m : List ℕ} {n : ℕ} {first fields : List ℕ} {start : Start} (h :
   unfolding understood
   understood-is = rw (start-is, h .is-first, h .are-fields)
 
-  pub read-is : (ok : Bool) (number : ℕ) (g : Group) → ok ≡ (isStart first (start .kind) && linesOk false (linesOf fields))
+  pub read-is : (ok : Bool) (number : ℕ) (g : Group)
+      → ok ≡ (isStart first (start .kind) && linesOk false (linesOf fields))
       → number ≡ groupNumber n (length m) ok → g ≡ groupFrom number n start → g ≡ readGroup m
   read-is ok number g o e f = f ∙ rw (e, o, ← understood-is, start-is, h .is-length)
 
   -- where the first line is understood there is a group
   whole : isStart first (start .kind) ≡ true → n ≡ 0 → ⊥
   whole s z =
-      let kind : start .kind ≡ 0 = ap (λ (x : Start). x .kind) start-is ∙ ap (λ k. startIn m k .kind) z ∙ none-start m in
+      let kind : start .kind ≡ 0 = ap (λ (x : Start). x .kind) start-is ∙ ap (λ k. startIn m k .kind) z
+      ∙ none-start m in
       clash (and-snd (all isText first) (not (eqb (start .kind) 0)) s) (rw (eq-eqb (start .kind) 0 kind))
 
   module _ (name out : List ℕ) where
@@ -75,13 +80,15 @@ module _ {m : List ℕ} {n : ℕ} {first fields : List ℕ} {start : Start} (h :
     not-zero = ne-eqb _ 0 refused-some
 
     -- where not all is understood
-    refused : understood m n ≡ false → (askedWith (groupNumber n (length m) false) n 0 ≡ askField m name (length out)) × (out ≡ askedOut m name out)
+    refused : understood m n ≡ false → (askedWith (groupNumber n (length m) false) n 0 ≡ askField m name (length out))
+        × (out ≡ askedOut m name out)
     unfolding askedFrom askedWith
     refused u =
         let read : readNumber m ≡ groupNumber n (length m) false = rw (← h .is-length, u) in
         (rw (read, not-zero, not-zero, ← h .is-length), rw (read, not-zero, not-zero))
 
-    pub field-not : isStart first (start .kind) ≡ false → (number : ℕ) (r : Asked) → number ≡ groupNumber n (length m) false → r ≡ askedWith number n 0
+    pub field-not : isStart first (start .kind) ≡ false → (number : ℕ) (r : Asked) → number ≡ groupNumber n (length m)
+        false → r ≡ askedWith number n 0
         → (r ≡ askField m name (length out)) × (out ≡ askedOut m name out)
     field-not s number r e f =
         let k = refused (understood-is ∙ rw s) in
@@ -111,16 +118,22 @@ module _ {m : List ℕ} {n : ℕ} {first fields : List ℕ} {start : Start} (h :
 
     -- what was found of the name, by whether the lines are fields
     abbrev found : Bool → Found
-    found t = cond t (record { good = true; there = not (isAbsent name (linesOf fields)); length = length (valueFor name (linesOf fields)) }) noFields
+    found t = cond t (record {
+      good = true;
+      there = not (isAbsent name (linesOf fields));
+      length = length (valueFor name (linesOf fields));
+    }) noFields
 
-    found-is : (f : Found) (t : Bool) → f ≡ foundIn name (linesOf fields) → linesOk false (linesOf fields) ≡ t → f ≡ found t
+    found-is : (f : Found) (t : Bool) → f ≡ foundIn name (linesOf fields) → linesOk false (linesOf fields) ≡ t
+        → f ≡ found t
     unfolding foundIn
     found-is f t e v = e ∙ rw v
 
     same-fields : linesOf fields ≡ fieldsIn m (groupLength m)
     same-fields = h .are-fields ∙ ap (fieldsIn m) (h .is-length)
 
-    pub field-done : isStart first (start .kind) ≡ true → (f : Found) (after : List ℕ) (read a : ℕ) (r : Asked) → f ≡ foundIn name (linesOf fields)
+    pub field-done : isStart first (start .kind) ≡ true → (f : Found) (after : List ℕ) (read a : ℕ) (r : Asked)
+        → f ≡ foundIn name (linesOf fields)
         → after ≡ writtenIn name (linesOf fields) out → read ≡ groupNumber n (length m) (f .good)
         → a ≡ askedFrom read (not (f .there)) (f .length) (length out) → r ≡ askedWith a n (f .length)
         → (r ≡ askField m name (length out)) × (after ≡ askedOut m name out)
@@ -129,7 +142,8 @@ module _ {m : List ℕ} {n : ℕ} {first fields : List ℕ} {start : Start} (h :
         u : understood m n ≡ linesOk false (linesOf fields)
         u = understood-is ∙ rw s
 
-        go : (t : Bool) → linesOk false (linesOf fields) ≡ t → (r ≡ askField m name (length out)) × (after ≡ askedOut m name out)
+        go : (t : Bool) → linesOk false (linesOf fields) ≡ t → (r ≡ askField m name (length out))
+            × (after ≡ askedOut m name out)
         go true v =
             let g = found-is f true e v in
             let z = zero-read s in
@@ -144,5 +158,6 @@ module _ {m : List ℕ} {n : ℕ} {first fields : List ℕ} {start : Start} (h :
             let g = found-is f false e v in
             let both = refused (u ∙ v) in
             let number : a ≡ groupNumber n (length m) false = q ∙ rw (p, g) refused-number in
-            let fits : fitsIn (foundIn name (linesOf fields)) (length out) ≡ false = ap (λ (x : Found). fitsIn x (length out)) (sym e ∙ g) in
+            let fits : fitsIn (foundIn name (linesOf fields)) (length out) ≡ false =
+            ap (λ (x : Found). fitsIn x (length out)) (sym e ∙ g) in
             (k ∙ rw (number, g) (both .0), w ∙ rw fits (both .1))

@@ -23,7 +23,8 @@ busyAlone : busyBytes [] ≡ codes "GNUTELLA/0.6 503 Busy\r\n\r\n"
 unfolding busyBytes tryLine
 busyAlone = refl
 
-busyWithTwo : busyBytes (host 1 2 3 4 1234 ∷ host 10 0 255 13 20 ∷ []) ≡ codes "GNUTELLA/0.6 503 Busy\r\nX-Try: 1.2.3.4:1234,10.0.255.13:20\r\n\r\n"
+busyWithTwo : busyBytes (host 1 2 3 4 1234 ∷ host 10 0 255 13 20 ∷ [])
+    ≡ codes "GNUTELLA/0.6 503 Busy\r\nX-Try: 1.2.3.4:1234,10.0.255.13:20\r\n\r\n"
 unfolding busyBytes tryLine pairsText pairText decimal
 busyWithTwo = refl
 
@@ -56,5 +57,7 @@ groups =
     ∷ []
 
 groups-asked : map (λ g. asked (g .0)) groups ≡ map (λ g. g .1) groups
-unfolding groupLength endsAt lower compared digitOf digitValue versionLength statusOk greetingFrom replyFrom startOf isAbsent valueFor understood groupNumber groupTried groupAnswer pairsFrom pairsOf itemsOf pieces bare filled goodPair pairIn upTo past
+unfolding groupLength endsAt lower compared digitOf digitValue versionLength statusOk greetingFrom replyFrom startOf
+    isAbsent valueFor understood groupNumber groupTried groupAnswer pairsFrom pairsOf itemsOf pieces bare filled
+    goodPair pairIn upTo past
 groups-asked = refl

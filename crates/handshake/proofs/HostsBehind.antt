@@ -31,7 +31,8 @@ pub hosts-alone : HostsAlone
 hosts-alone m h = hosts-same m (take (groupLength m) m) (same-alone m h)
 
 -- one of the first three refusals comes before a bad pair
-pub refused-hosts : (m : List ℕ) → (readNumber m ≡ 0 → ⊥) → groupTried m ≡ record { answer = readNumber m; used = 0; pairs = pairsFrom [] }
+pub refused-hosts : (m : List ℕ) → (readNumber m ≡ 0 → ⊥) → groupTried m
+    ≡ record { answer = readNumber m; used = 0; pairs = pairsFrom [] }
 unfolding groupTried groupAnswer
 refused-hosts m h =
     let some : eqb (readNumber m) 0 ≡ false = ne-eqb (readNumber m) 0 h in

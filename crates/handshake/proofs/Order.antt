@@ -11,7 +11,8 @@ use Rattle.laws.proofs.Refusals.{no-refusal, answer-in}
 use Rattle.groups.specs.Lines.{groupLength}
 use Rattle.groups.proofs.Ends.{no-end}
 use Rattle.handshake.specs.declared.Group.{Group}
-use Rattle.handshake.specs.Group.{groupRules, groupNumber, readNumber, refusedGroup, groupFrom, readGroup, askedFrom, askedWith, understood}
+use Rattle.handshake.specs.Group.{groupRules, groupNumber, readNumber, refusedGroup, groupFrom, readGroup}
+use Rattle.handshake.specs.Group.{askedFrom, askedWith, understood}
 use Rattle.handshake.specs.Claims.{EndFirst, AskedAsRead}
 
 pub end-first : EndFirst

@@ -21,11 +21,13 @@ use Rattle.xtry.specs.Writing.{octetOf, pairText, pairsText, pairsIn, canWrite}
 use Rattle.xtry.specs.Claims.{isHost}
 use Rattle.xtry.specs.declared.Pair.{Pair}
 use Rattle.xtry.specs.declared.Pairs.{Pairs}
-use Rattle.xtry.proofs.ReadBack.{clean, digit-clean, pairs-clean, Host, host-first, below-thousand, part, behind₁, pair-split, decimal-all, pairs-items, pairs-good, pairs-same, pairs-small}
+use Rattle.xtry.proofs.ReadBack.{clean, digit-clean, pairs-clean, Host, host-first, below-thousand, part, behind₁}
+use Rattle.xtry.proofs.ReadBack.{pair-split, decimal-all, pairs-items, pairs-good, pairs-same, pairs-small}
 use Rattle.xtry.proofs.Listing.{can-few}
 use Rattle.handshake.specs.Group.{linesIn, startIn, isStart, understood, groupNumber, groupFrom, readGroup}
 use Rattle.handshake.specs.Tried.{tryValue, groupAnswer, groupTried}
-use Rattle.handshake.specs.Groups.{crlf, busyLine, tryFront, tryName, tryLine, greetingBytes, okBytes, busyBytes, textAnswer, busyAnswer, wroteOf, areaOf}
+use Rattle.handshake.specs.Groups.{crlf, busyLine, tryFront, tryName, tryLine, greetingBytes, okBytes, busyBytes}
+use Rattle.handshake.specs.Groups.{textAnswer, busyAnswer, wroteOf, areaOf}
 use Rattle.handshake.specs.Hosts.{ReadAs, TextReadAs, GroupsReadBack, AreaReadAs, AreasReadBack}
 use Rattle.handshake.specs.declared.Group.{Group}
 use Rattle.handshake.proofs.Behind.{not-read-behind}
@@ -37,21 +39,30 @@ use Rattle.handshake.proofs.HostsBehind.{hosts-not-behind}
 text-from : (xs : List ℕ) → clean 13 xs ≡ true → clean 10 xs ≡ true → all isText xs ≡ true
 text-from [] a b = refl
 text-from (x ∷ xs) a b =
-    rw (not-true (eqb x 13) (and-fst (not (eqb x 13)) (clean 13 xs) a), not-true (eqb x 10) (and-fst (not (eqb x 10)) (clean 10 xs) b))
+    rw (
+      not-true (eqb x 13) (and-fst (not (eqb x 13)) (clean 13 xs) a),
+      not-true (eqb x 10) (and-fst (not (eqb x 10)) (clean 10 xs) b),
+    )
     (text-from xs (and-snd (not (eqb x 13)) (clean 13 xs) a) (and-snd (not (eqb x 10)) (clean 10 xs) b))
 
 pairs-are-text : (ps : List Pair) → all isText (pairsText ps) ≡ true
-pairs-are-text ps = text-from (pairsText ps) (pairs-clean 13 refl refl refl refl ps) (pairs-clean 10 refl refl refl refl ps)
+pairs-are-text ps = text-from (pairsText ps) (pairs-clean 13 refl refl refl refl ps)
+    (pairs-clean 10 refl refl refl refl ps)
 
 -- no blank stands at the front
 no-blank : (xs ys : List ℕ) → 1 ≤ length xs → all isDigit xs ≡ true → leading isBlank (xs ++ ys) ≡ 0
 no-blank [] ys n h = absurd (omega arith)
 no-blank (x ∷ xs) ys n h =
-    rw (not-true (eqb x 32) (and-fst (not (eqb x 32)) (clean 32 xs) (digit-clean 32 refl (x ∷ xs) h)), not-true (eqb x 9) (and-fst (not (eqb x 9)) (clean 9 xs) (digit-clean 9 refl (x ∷ xs) h)))
+    rw (
+      not-true (eqb x 32) (and-fst (not (eqb x 32)) (clean 32 xs) (digit-clean 32 refl (x ∷ xs) h)),
+      not-true (eqb x 9) (and-fst (not (eqb x 9)) (clean 9 xs) (digit-clean 9 refl (x ∷ xs) h)),
+    )
 
 -- ---- a group of two lines
 
-module _ (first second : List ℕ) (h : all isLine (first ∷ second ∷ []) ≡ true) (b : length (rows (first ∷ second ∷ [])) + 2 ≤ 4096) (s : Start) (k : startOf first ≡ s) (z : eqb (s .kind) 0 ≡ false) (ok : linesOk false (second ∷ []) ≡ true) where
+module _ (first second : List ℕ) (h : all isLine (first ∷ second ∷ []) ≡ true)
+    (b : length (rows (first ∷ second ∷ [])) + 2 ≤ 4096) (s : Start) (k : startOf first ≡ s)
+    (z : eqb (s .kind) 0 ≡ false) (ok : linesOk false (second ∷ []) ≡ true) where
   abbrev body : List ℕ
   body = rows (first ∷ second ∷ [])
 
@@ -71,7 +82,8 @@ module _ (first second : List ℕ) (h : all isLine (first ∷ second ∷ []) ≡
 
   understood-is : understood text (length body + 2) ≡ true
   unfolding understood
-  understood-is = ap (λ ls. isStart (firstLine ls) (startOf (firstLine ls) .kind) && linesOk false (otherLines ls)) lines-are ∙ rw (first-text, k, z, ok)
+  understood-is = ap (λ ls. isStart (firstLine ls) (startOf (firstLine ls) .kind) && linesOk false (otherLines ls))
+      lines-are ∙ rw (first-text, k, z, ok)
 
   start-is : startIn text (length body + 2) ≡ s
   start-is = ap (λ ls. startOf (firstLine ls)) lines-are ∙ k
@@ -82,13 +94,15 @@ module _ (first second : List ℕ) (h : all isLine (first ∷ second ∷ []) ≡
   group-is : groupLength text ≡ length body + 2
   group-is = ends-there (first ∷ second ∷ []) h b
 
-  read-two : readGroup text ≡ record { answer = 0; used = length text; kind = s .kind; major = s .major; minor = s .minor; code = s .code }
+  read-two : readGroup text
+      ≡ record { answer = 0; used = length text; kind = s .kind; major = s .major; minor = s .minor; code = s .code }
   unfolding groupFrom groupNumber
   read-two = rw (group-is, understood-is, start-is, some-there, size)
 
   module _ (v : List ℕ) (w : valueFor tryName (second ∷ []) ≡ v) (g : all goodPair (itemsOf v) ≡ true) where
     value-is : tryValue text ≡ v
-    value-is = ap (λ n. valueFor tryName (otherLines (linesIn text n))) group-is ∙ ap (λ ls. valueFor tryName (otherLines ls)) lines-are ∙ w
+    value-is = ap (λ n. valueFor tryName (otherLines (linesIn text n))) group-is
+        ∙ ap (λ ls. valueFor tryName (otherLines ls)) lines-are ∙ w
 
     answer-is : groupAnswer text ≡ 0
     unfolding groupAnswer groupNumber
@@ -101,15 +115,21 @@ module _ (first second : List ℕ) (h : all isLine (first ∷ second ∷ []) ≡
 -- ---- the three groups
 
 greeting-alone : ReadAs greetingBytes (length greetingBytes) 1 0 []
-unfolding greetingBytes groupLength endsAt lower compared digitOf digitValue versionLength statusOk greetingFrom replyFrom startOf isAbsent valueFor understood groupNumber groupFrom groupTried groupAnswer itemsOf pieces bare filled goodPair pairsOf pairsFrom
+unfolding greetingBytes groupLength endsAt lower compared digitOf digitValue versionLength statusOk greetingFrom
+    replyFrom startOf isAbsent valueFor understood groupNumber groupFrom groupTried groupAnswer itemsOf pieces bare
+    filled goodPair pairsOf pairsFrom
 greeting-alone = record { group = refl; hosts = refl }
 
 ok-alone : ReadAs okBytes (length okBytes) 2 200 []
-unfolding okBytes groupLength endsAt lower compared digitOf digitValue versionLength statusOk greetingFrom replyFrom startOf isAbsent valueFor understood groupNumber groupFrom groupTried groupAnswer itemsOf pieces bare filled goodPair pairsOf pairsFrom
+unfolding okBytes groupLength endsAt lower compared digitOf digitValue versionLength statusOk greetingFrom replyFrom
+    startOf isAbsent valueFor understood groupNumber groupFrom groupTried groupAnswer itemsOf pieces bare filled
+    goodPair pairsOf pairsFrom
 ok-alone = record { group = refl; hosts = refl }
 
 busy-none : ReadAs (busyBytes []) (length (busyBytes [])) 2 503 []
-unfolding busyBytes tryLine groupLength endsAt lower compared digitOf digitValue versionLength statusOk greetingFrom replyFrom startOf isAbsent valueFor understood groupNumber groupFrom groupTried groupAnswer itemsOf pieces bare filled goodPair pairsOf pairsFrom
+unfolding busyBytes tryLine groupLength endsAt lower compared digitOf digitValue versionLength statusOk greetingFrom
+    replyFrom startOf isAbsent valueFor understood groupNumber groupFrom groupTried groupAnswer itemsOf pieces bare
+    filled goodPair pairsOf pairsFrom
 busy-none = record { group = refl; hosts = refl }
 
 -- the first line of the reply
@@ -132,7 +152,8 @@ module _ (p : Pair) (ps : List Pair) (hs : all isHost (p ∷ ps) ≡ true) where
   no-blank-here ys =
       let h = host-first p ps hs in
       rw (pair-split p, append-assoc (part p 0) (dot ∷ behind₁ p) ys)
-      (no-blank (part p 0) ((dot ∷ behind₁ p) ++ ys) (below-thousand (octetOf p 0) (omega (arith, h .octet 0)) .some) (decimal-all (octetOf p 0)))
+      (no-blank (part p 0) ((dot ∷ behind₁ p) ++ ys) (below-thousand (octetOf p 0) (omega (arith, h .octet 0)) .some)
+      (decimal-all (octetOf p 0)))
 
   line-is : all isLine (busyLine ∷ line ∷ []) ≡ true
   line-is = rw (le-leb 1 (length line) (omega arith), pairs-are-text (p ∷ ps))
@@ -161,14 +182,17 @@ module _ (p : Pair) (ps : List Pair) (hs : all isHost (p ∷ ps) ≡ true) where
   unfolding busyBytes tryLine
   reply-is = refl
 
-  busy-some : length (p ∷ ps) ≤ 32 → leading isBlank value ≡ 0 → ReadAs (busyBytes (p ∷ ps)) (length (busyBytes (p ∷ ps))) 2 503 (p ∷ ps)
+  busy-some : length (p ∷ ps) ≤ 32 → leading isBlank value ≡ 0 → ReadAs (busyBytes (p ∷ ps))
+      (length (busyBytes (p ∷ ps))) 2 503 (p ∷ ps)
   busy-some n f =
       rw reply-is
       (record {
         group = read-two busyLine line line-is (line-small n) busyStart busy-start refl line-ok;
         hosts =
-            tried-two busyLine line line-is (line-small n) busyStart busy-start refl line-ok value (line-value f) value-good
-            ∙ ap (λ x. record { answer = 0; used = length (rows (busyLine ∷ line ∷ []) ++ crlf); pairs = pairsFrom x }) (value-pairs n);
+            tried-two busyLine line line-is (line-small n) busyStart busy-start refl line-ok value
+            (line-value f) value-good
+            ∙ ap (λ x. record { answer = 0; used = length (rows (busyLine ∷ line ∷ []) ++ crlf); pairs = pairsFrom x })
+            (value-pairs n);
       })
 
 value-front : (p : Pair) (ps : List Pair) → all isHost (p ∷ ps) ≡ true → leading isBlank (pairsText (p ∷ ps)) ≡ 0
@@ -176,7 +200,8 @@ unfolding pairsText
 value-front p [] h = rw append-nil at (no-blank-here p [] h [])
 value-front p (q ∷ qs) h = no-blank-here p (q ∷ qs) h (comma ∷ pairsText (q ∷ qs))
 
-busy-alone : (ps : List Pair) → length ps ≤ 32 → all isHost ps ≡ true → ReadAs (busyBytes ps) (length (busyBytes ps)) 2 503 ps
+busy-alone : (ps : List Pair) → length ps ≤ 32 → all isHost ps ≡ true → ReadAs (busyBytes ps)
+    (length (busyBytes ps)) 2 503 ps
 busy-alone [] n h = busy-none
 busy-alone (p ∷ ps) n h = busy-some p ps h n (value-front p ps h)
 

@@ -37,4 +37,5 @@ GroupAlone = (m : List ℕ) → 0 < groupLength m → SameAnswers (take (groupLe
 
 -- an area of 4,096 bytes is never short
 abbrev pub RoomEnough : Type 0
-RoomEnough = (m name : List ℕ) (room : ℕ) → 4096 ≤ room → (length (valueIn m name) ≤ room) × (askedNumber m name room ≡ 2 → ⊥)
+RoomEnough = (m name : List ℕ) (room : ℕ) → 4096 ≤ room → (length (valueIn m name) ≤ room)
+    × (askedNumber m name room ≡ 2 → ⊥)

@@ -73,7 +73,8 @@ unfoldable pub askedFrom : ℕ → Bool → ℕ → ℕ → ℕ
 askedFrom read absent long room = firstOf (askedRules read absent long room)
 
 abbrev pub askedNumber : List ℕ → List ℕ → ℕ → ℕ
-askedNumber m name room = askedFrom (readNumber m) (isAbsent name (fieldsIn m (groupLength m))) (length (valueIn m name)) room
+askedNumber m name room = askedFrom (readNumber m) (isAbsent name (fieldsIn m (groupLength m)))
+    (length (valueIn m name)) room
 
 -- the group is used up by 0 and 10; only 0 writes
 unfoldable pub askedWith : ℕ → ℕ → ℕ → Asked

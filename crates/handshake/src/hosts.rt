@@ -17,8 +17,8 @@ fn tried_number(asked: u8, tried: u8) -> u8
     asked
 }
 
-// Reads the pairs of the X-Try field of the group at the front of the bytes, be it a greeting or a reply. Where the field is absent or the
-// group is refused, nothing was written, and an empty value has no pairs.
+// Reads the pairs of the X-Try field of the group at the front of the bytes, be it a greeting or a reply. Where the
+// field is absent or the group is refused, nothing was written, and an empty value has no pairs.
 pub fn try_pairs(bytes: &[u8]) -> TriedGroup
     ensures { λ r. ⌜ r ≡ groupTried (now (bytes .entry)) ⌝ }
 {

@@ -1,5 +1,5 @@
-// The handshake: reading a group of lines, asking it for a field or for hosts to try, and writing groups. Bytes behind a group are not
-// looked at.
+// The handshake: reading a group of lines, asking it for a field or for hosts to try, and writing groups. Bytes behind
+// a group are not looked at.
 pub mod hosts;
 pub mod write;
 
@@ -20,14 +20,16 @@ ghost use Prim.Native.Nat.{_-_};
 ghost use lib.ListN.{length, take};
 ghost use Rattle.groups.specs.Lines.{linesOf};
 ghost use Rattle.fields.specs.Fields.{linesOk};
-ghost use Rattle.handshake.specs.Group.{isStart, groupNumber, refusedGroup, groupFrom, readGroup, askedFrom, askedWith, askField, askedOut};
+ghost use Rattle.handshake.specs.Group.{isStart, groupNumber, refusedGroup, groupFrom, readGroup, askedFrom};
+ghost use Rattle.handshake.specs.Group.{askedWith, askField, askedOut};
 
 // The kinds of a group that is understood.
 pub const GREETING: u8 = 1;
 
 pub const REPLY: u8 = 2;
 
-// A group that was read. The answer is 0, or 4 (not whole), 17 (not understood) or 18 (no end in 4,096 bytes), with all else 0 then.
+// A group that was read. The answer is 0, or 4 (not whole), 17 (not understood) or 18 (no end in 4,096 bytes), with all
+// else 0 then.
 // `used` is the group's length; `code` is 0 for a greeting.
 #[repr(C)]
 pub struct Group {
@@ -39,7 +41,8 @@ pub struct Group {
     pub code: u32,
 }
 
-// A field that was asked for. The answer is as for reading, or 10 (absent) or 2 (the area is short). `used` is the group's length for
+// A field that was asked for. The answer is as for reading, or 10 (absent) or 2 (the area is short). `used` is the
+// group's length for
 // 0 and 10; `written` is the value's length for 0.
 #[repr(C)]
 pub struct Asked {
@@ -80,7 +83,8 @@ fn is_start(first: &[u8], kind: u8) -> bool
     kind != 0
 }
 
-// Whether all lines are understood: the first, of this kind, and those behind it. No field is asked for here: none has an empty name.
+// Whether all lines are understood: the first, of this kind, and those behind it. No field is asked for here: none has
+// an empty name.
 fn is_understood(first: &[u8], kind: u8, fields: &[u8]) -> bool
     ensures { λ r. ⌜ r ≡ (isStart (now (first .entry)) kind && linesOk false (linesOf (now (fields .entry)))) ⌝ }
 {
@@ -185,8 +189,8 @@ fn asked_with(answer: u8, n: usize, long: usize) -> Asked
     }
 }
 
-// Writes the value of a name to the front of `out`: all values of the name in the group at the front of the bytes, with commas between
-// them. `out` stays as it is where the answer is not 0.
+// Writes the value of a name to the front of `out`: all values of the name in the group at the front of the bytes, with
+// commas between them. `out` stays as it is where the answer is not 0.
 pub fn field(bytes: &[u8], name: &[u8], out: &mut [u8]) -> Asked
     ensures { λ r. ⌜ r ≡ askField (now (bytes .entry)) (now (name .entry)) (length (now (out .entry))) ⌝ }
     ensures { λ r. ⌜ now (out .exit) ≡ askedOut (now (bytes .entry)) (now (name .entry)) (now (out .entry)) ⌝ }

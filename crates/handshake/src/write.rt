@@ -8,7 +8,8 @@ ghost use Prim.Native.Nat.{_≤_};
 ghost use lib.ListN.{length};
 ghost use Rattle.laws.specs.Parts.{over};
 ghost use Rattle.xtry.specs.Writing.{pairsIn};
-ghost use Rattle.handshake.specs.Groups.{greetingBytes, okBytes, busyBytes, namedBytes, textAnswer, busyAnswer, wroteOf, areaOf};
+ghost use Rattle.handshake.specs.Groups.{greetingBytes, okBytes, busyBytes, namedBytes, textAnswer, busyAnswer};
+ghost use Rattle.handshake.specs.Groups.{wroteOf, areaOf};
 
 // A text that is written whole, or not at all.
 fn put_whole(text: &[u8], out: &mut [u8]) -> Wrote

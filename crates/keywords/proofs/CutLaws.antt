@@ -1,4 +1,5 @@
--- Laws of the cutter: the first piece that is not empty, and what is left of the text, are all the pieces. Over any test of a separator.
+-- Laws of the cutter: the first piece that is not empty, and what is left of the text, are all the pieces. Over any
+-- test of a separator.
 use mathlib.Core.Path.{_≡_, refl, sym, ap, ap₂, _∙_}
 use mathlib.Core.Bool.{Bool, true, false, cond, not, _||_, _&&_, Bool·beq}
 use mathlib.Core.List.{List, [], _∷_, map}
@@ -15,7 +16,8 @@ use Rattle.laws.specs.Tests.{any, all}
 use Rattle.laws.proofs.Parts.{part-tail}
 use Rattle.keywords.specs.declared.cut.Cut.{Cut}
 use Rattle.ascii.specs.Text.{lower, onto}
-use Rattle.keywords.specs.Keywords.{isSeparator, filled, leading, matching, pieces, startBy, endBy, keywordsOf, cutStart, cutEnd}
+use Rattle.keywords.specs.Keywords.{isSeparator, filled, leading, matching, pieces, startBy, endBy, keywordsOf}
+use Rattle.keywords.specs.Keywords.{cutStart, cutEnd}
 use Rattle.keywords.specs.Keywords.{cutOf, keywordAt, textBehind}
 use Rattle.keywords.specs.Hash.{hashOf}
 use Rattle.keywords.proofs.HashLaws.{hash-lower}
@@ -41,7 +43,8 @@ module _ (f : ℕ → Bool) where
   off x xs e = rw e
 
   -- a run goes on by an element that meets the test, and stops at one that does not
-  pub leading-on : (l : List ℕ) (i : ℕ) → i < length l → f (getD l i 0) ≡ true → leading f (drop i l) ≡ suc (leading f (drop (i + 1) l))
+  pub leading-on : (l : List ℕ) (i : ℕ) → i < length l → f (getD l i 0) ≡ true → leading f (drop i l)
+      ≡ suc (leading f (drop (i + 1) l))
   leading-on l i h e =
       ap (leading f) (drop-cons l i 0 h)
       ∙ on (getD l i 0) (drop (suc i) l) e
@@ -100,8 +103,10 @@ module _ (s : ℕ → Bool) where
   rest [] = refl
   rest (b ∷ bs) = by (s b) refl (rest bs)
     where
-      by : (t : Bool) → s b ≡ t → filled (behind (drop (leading other bs) bs)) ≡ filled (pieces s (drop (leading other bs) bs))
-          → filled (behind (drop (leading other (b ∷ bs)) (b ∷ bs))) ≡ filled (pieces s (drop (leading other (b ∷ bs)) (b ∷ bs)))
+      by : (t : Bool) → s b ≡ t → filled (behind (drop (leading other bs) bs))
+          ≡ filled (pieces s (drop (leading other bs) bs))
+          → filled (behind (drop (leading other (b ∷ bs)) (b ∷ bs)))
+          ≡ filled (pieces s (drop (leading other (b ∷ bs)) (b ∷ bs)))
       by true e h = rw e (rw e)
       by false e h = rw e h
 
@@ -126,7 +131,8 @@ module _ (s : ℕ → Bool) where
 
   -- the first piece that is not empty, and the pieces of what is left
   pub pieces-cut : (l : List ℕ) → startBy s l < endBy s l
-      → filled (pieces s l) ≡ take (endBy s l - startBy s l) (drop (startBy s l) l) ∷ filled (pieces s (drop (endBy s l) l))
+      → filled (pieces s l) ≡ take (endBy s l - startBy s l) (drop (startBy s l) l)
+      ∷ filled (pieces s (drop (endBy s l) l))
   pieces-cut l h =
       let a = startBy s l in
       let t = drop a l in
@@ -151,7 +157,8 @@ module _ (s : ℕ → Bool) where
 
 -- ---- the keywords of a text
 
-pub keywords-cut : (text : List ℕ) → cutStart text < cutEnd text → keywordsOf text ≡ map lower (keywordAt text) ∷ keywordsOf (textBehind text)
+pub keywords-cut : (text : List ℕ) → cutStart text < cutEnd text → keywordsOf text ≡ map lower (keywordAt text)
+    ∷ keywordsOf (textBehind text)
 unfolding keywordsOf
 keywords-cut text h = ap (map (map lower)) (pieces-cut isSeparator text h)
 
@@ -175,11 +182,13 @@ cut-empty text = (keywords-none text, λ e. by e (decLe (suc (cutStart text)) (c
 
 -- one step of a loop over the keywords, seen through any function of them
 pub keywords-step : {B : Type 0} (g : List (List ℕ) → B) (text : List ℕ)
-    → g (keywordsOf text) ≡ cond (ltb (cutStart text) (cutEnd text)) (g (map lower (keywordAt text) ∷ keywordsOf (textBehind text))) (g [])
+    → g (keywordsOf text) ≡ cond (ltb (cutStart text) (cutEnd text))
+    (g (map lower (keywordAt text) ∷ keywordsOf (textBehind text))) (g [])
 keywords-step g text = by (decLe (suc (cutStart text)) (cutEnd text))
   where
     by : Dec (cutStart text < cutEnd text)
-        → g (keywordsOf text) ≡ cond (ltb (cutStart text) (cutEnd text)) (g (map lower (keywordAt text) ∷ keywordsOf (textBehind text))) (g [])
+        → g (keywordsOf text) ≡ cond (ltb (cutStart text) (cutEnd text))
+        (g (map lower (keywordAt text) ∷ keywordsOf (textBehind text))) (g [])
     by (yes h) = rw (lt-ltb (cutStart text) (cutEnd text) h) (ap g (keywords-cut text h))
     by (no h) = rw (le-ltb (cutStart text) (cutEnd text) (omega arith)) (ap g (keywords-none text (omega arith)))
 
@@ -189,16 +198,20 @@ module _ (f : ℕ → Bool) where
   test k = f (hashOf k)
 
   pub any-step : (text : List ℕ) → any (λ k. f (hashOf k)) (keywordsOf text)
-      ≡ cond (ltb (cutStart text) (cutEnd text)) (f (hashOf (keywordAt text)) || any (λ k. f (hashOf k)) (keywordsOf (textBehind text))) false
+      ≡ cond (ltb (cutStart text) (cutEnd text)) (f (hashOf (keywordAt text)) || any (λ k. f (hashOf k))
+      (keywordsOf (textBehind text))) false
   any-step text =
       keywords-step (any test) text
-      ∙ ap (λ (h : ℕ). cond (ltb (cutStart text) (cutEnd text)) (f h || any test (keywordsOf (textBehind text))) false) (hash-lower (keywordAt text))
+      ∙ ap (λ (h : ℕ). cond (ltb (cutStart text) (cutEnd text)) (f h || any test (keywordsOf (textBehind text))) false)
+      (hash-lower (keywordAt text))
 
   pub all-step : (text : List ℕ) → all (λ k. f (hashOf k)) (keywordsOf text)
-      ≡ cond (ltb (cutStart text) (cutEnd text)) (f (hashOf (keywordAt text)) && all (λ k. f (hashOf k)) (keywordsOf (textBehind text))) true
+      ≡ cond (ltb (cutStart text) (cutEnd text)) (f (hashOf (keywordAt text)) && all (λ k. f (hashOf k))
+      (keywordsOf (textBehind text))) true
   all-step text =
       keywords-step (all test) text
-      ∙ ap (λ (h : ℕ). cond (ltb (cutStart text) (cutEnd text)) (f h && all test (keywordsOf (textBehind text))) true) (hash-lower (keywordAt text))
+      ∙ ap (λ (h : ℕ). cond (ltb (cutStart text) (cutEnd text)) (f h && all test (keywordsOf (textBehind text))) true)
+      (hash-lower (keywordAt text))
 
 -- ---- a loop over the keywords, in the terms of its code: `cut` is what the cutter gave of `text`
 
@@ -208,9 +221,11 @@ module _ (text : List ℕ) (c : Cut) (e : c ≡ cutOf text) where
 
   -- the keyword is `&text[start..end]`, and the loop goes on with `&text[end..]`
   pub cut-found : c .start < c .end
-      → keywordsOf text ≡ map lower (take (c .end - c .start) (drop (c .start) text)) ∷ keywordsOf (take (length text - c .end) (drop (c .end) text))
+      → keywordsOf text ≡ map lower (take (c .end - c .start) (drop (c .start) text)) ∷ keywordsOf
+      (take (length text - c .end) (drop (c .end) text))
   cut-found h =
-      rw e (keywords-cut text (rw e at h) ∙ ap (λ (r : List ℕ). map lower (keywordAt text) ∷ keywordsOf r) (sym (part-tail (cutEnd text) text)))
+      rw e (keywords-cut text (rw e at h) ∙ ap (λ (r : List ℕ). map lower (keywordAt text) ∷ keywordsOf r)
+      (sym (part-tail (cutEnd text) text)))
 
   pub cut-done : c .end ≤ c .start → keywordsOf text ≡ []
   cut-done h = let g = rw e at h in keywords-none text (omega arith)

@@ -38,7 +38,8 @@ some-piece (b ∷ bs) = by (isSeparator b)
     by false = onto-some b (pieces isSeparator bs)
 
 onto-append : (b : ℕ) (ps qs : List (List ℕ)) → Some ps → onto b (ps ++ qs) ≡ onto b ps ++ qs
-onto-append b ps qs s = ap (λ (x : List (List ℕ)). onto b (x ++ qs)) (s .is) ∙ ap (λ (x : List (List ℕ)). onto b x ++ qs) (sym (s .is))
+onto-append b ps qs s = ap (λ (x : List (List ℕ)). onto b (x ++ qs)) (s .is)
+    ∙ ap (λ (x : List (List ℕ)). onto b x ++ qs) (sym (s .is))
 
 pieces-append : (a b : List ℕ) → pieces isSeparator (a ++ (0x20 ∷ b)) ≡ pieces isSeparator a ++ pieces isSeparator b
 unfolding pieces isSeparator
@@ -48,7 +49,8 @@ pieces-append (x ∷ xs) b =
     ∙ by (isSeparator x)
   where
     by : (t : Bool)
-        → cond t ([] ∷ (pieces isSeparator xs ++ pieces isSeparator b)) (onto x (pieces isSeparator xs ++ pieces isSeparator b))
+        → cond t ([] ∷ (pieces isSeparator xs ++ pieces isSeparator b))
+        (onto x (pieces isSeparator xs ++ pieces isSeparator b))
         ≡ cond t ([] ∷ pieces isSeparator xs) (onto x (pieces isSeparator xs)) ++ pieces isSeparator b
     by true = refl
     by false = onto-append x (pieces isSeparator xs) (pieces isSeparator b) (some-piece xs)
@@ -58,7 +60,8 @@ whole : (text : List ℕ) → any (eqb 0x20) text ≡ false → pieces isSeparat
 unfolding pieces isSeparator
 whole [] h = refl
 whole (b ∷ bs) h =
-    let no : eqb b 0x20 ≡ false = ne-eqb b 0x20 (λ e. eqb-false 0x20 b (or-fst (eqb 0x20 b) (any (eqb 0x20) bs) h) (sym e)) in
+    let no : eqb b 0x20 ≡ false = ne-eqb b 0x20 (λ e. eqb-false 0x20 b (or-fst (eqb 0x20 b) (any (eqb 0x20) bs) h)
+    (sym e)) in
     ap (λ (t : Bool). cond t ([] ∷ pieces isSeparator bs) (onto b (pieces isSeparator bs))) no
     ∙ ap (onto b) (whole bs (or-snd (eqb 0x20 b) (any (eqb 0x20) bs) h))
 
@@ -72,7 +75,8 @@ unfolding keywordsOf pieces filled isSeparator
 cut-at-spaces =
     record {
       none = refl;
-      one = λ text h none. ap (λ (ps : List (List ℕ)). map (map lower) (filled ps)) (whole text none) ∙ one-piece text h;
+      one = λ text h none. ap (λ (ps : List (List ℕ)). map (map lower) (filled ps)) (whole text none)
+          ∙ one-piece text h;
       both = λ a b. ap (λ (ps : List (List ℕ)). map (map lower) (filled ps)) (pieces-append a b)
           ∙ ap (map (map lower)) (filled-append (pieces isSeparator a) (pieces isSeparator b))
           ∙ map-append (map lower) (filled (pieces isSeparator a)) (filled (pieces isSeparator b));

@@ -58,7 +58,8 @@ rolling-from n j [] h = sym (xor32-none n h)
 rolling-from n j (b ∷ bs) h =
     rolling-from (xor32 n x) next bs (xor32-below n x)
     ∙ xor32-regroup n x (rolling 0 next bs)
-    ∙ ap (xor32 n) (sym (rolling-from (xor32 0 x) next bs (xor32-below 0 x) ∙ xor32-regroup 0 x (rolling 0 next bs) ∙ xor32-from x (rolling 0 next bs)))
+    ∙ ap (xor32 n) (sym (rolling-from (xor32 0 x) next bs (xor32-below 0 x) ∙ xor32-regroup 0 x (rolling 0 next bs)
+    ∙ xor32-from x (rolling 0 next bs)))
   where
     x : ℕ
     x = b * 256 ^ j
@@ -75,10 +76,13 @@ module _ (a b c d : ℕ) (ha : a < 256) (hb : b < 256) (hc : c < 256) (hd : d < 
   chunk2 = ap (λ (x : ℕ). xor32 x (b * 256)) chunk1 ∙ xor32-above 8 a b (omega arith) (omega arith) (omega arith)
 
   chunk3 : xor32 (xor32 (xor32 0 (a * 256 ^ 0)) (b * 256 ^ 1)) (c * 256 ^ 2) ≡ a + b * 256 + c * 65536
-  chunk3 = ap (λ (x : ℕ). xor32 x (c * 65536)) chunk2 ∙ xor32-above 16 (a + b * 256) c (omega arith) (omega arith) (omega arith)
+  chunk3 = ap (λ (x : ℕ). xor32 x (c * 65536)) chunk2 ∙ xor32-above 16 (a + b * 256) c (omega arith)
+      (omega arith) (omega arith)
 
-  chunk4 : xor32 (xor32 (xor32 (xor32 0 (a * 256 ^ 0)) (b * 256 ^ 1)) (c * 256 ^ 2)) (d * 256 ^ 3) ≡ a + b * 256 + c * 65536 + d * 16777216
-  chunk4 = ap (λ (x : ℕ). xor32 x (d * 16777216)) chunk3 ∙ xor32-above 24 (a + b * 256 + c * 65536) d (omega arith) (omega arith) (omega arith)
+  chunk4 : xor32 (xor32 (xor32 (xor32 0 (a * 256 ^ 0)) (b * 256 ^ 1)) (c * 256 ^ 2)) (d * 256 ^ 3)
+      ≡ a + b * 256 + c * 65536 + d * 16777216
+  chunk4 = ap (λ (x : ℕ). xor32 x (d * 16777216)) chunk3 ∙ xor32-above 24 (a + b * 256 + c * 65536) d (omega arith)
+      (omega arith) (omega arith)
 
 -- the chunks of RULES 11.3 are what 001's code joins byte by byte
 pub word-rolling : (k : List ℕ) → ((i : ℕ) → getD k i 0 < 256) → word k ≡ rolling 0 0 k
@@ -92,7 +96,8 @@ word-rolling (a ∷ b ∷ c ∷ d ∷ rest) h =
     (ap (λ (x : ℕ). rolling x 0 rest) (chunk4 a b c d (h 0) (h 1) (h 2) (h 3) ∙ omega arith)
     ∙ rolling-from (a + 256 * (b + 256 * (c + 256 * (d + 256 * 0)))) 0 rest
     (let ga = h 0 in let gb = h 1 in let gc = h 2 in let gd = h 3 in omega arith)
-    ∙ ap (xor32 (a + 256 * (b + 256 * (c + 256 * (d + 256 * 0))))) (sym (word-rolling rest (λ i. h (suc (suc (suc (suc i))))))))
+    ∙ ap (xor32 (a + 256 * (b + 256 * (c + 256 * (d + 256 * 0)))))
+    (sym (word-rolling rest (λ i. h (suc (suc (suc (suc i))))))))
 
 pub word-below : (k : List ℕ) → ((i : ℕ) → getD k i 0 < 256) → word k < 2 ^ 32
 unfolding word
@@ -111,13 +116,15 @@ moved-whole b (suc (suc (suc zero))) h l = omega arith
 moved-whole b (suc (suc (suc (suc j)))) h l = absurd (omega arith)
 
 -- the byte at place i of a keyword is joined next
-pub rolling-next : (k : List ℕ) (i n x : ℕ) → i < length k → n < 2 ^ 32 → x < 2 ^ 32 → x ≡ lower (getD k i 0) * 256 ^ (i % 4)
+pub rolling-next : (k : List ℕ) (i n x : ℕ) → i < length k → n < 2 ^ 32 → x < 2 ^ 32
+    → x ≡ lower (getD k i 0) * 256 ^ (i % 4)
     → rolling (bitXor n x) ((i + 1) % 4) (map lower (drop (i + 1) k)) ≡ rolling n (i % 4) (map lower (drop i k))
 unfolding rolling
 rolling-next k i n x l hn hx e =
     sym
     (ap (λ (t : List ℕ). rolling n (i % 4) (map lower t)) (drop-cons k i 0 l)
-    ∙ ap₂ (λ (y j : ℕ). rolling y j (map lower (drop (suc i) k))) (ap (xor32 n) (sym e) ∙ xor32-is n x hn hx) (omega arith)
+    ∙ ap₂ (λ (y j : ℕ). rolling y j (map lower (drop (suc i) k))) (ap (xor32 n) (sym e) ∙ xor32-is n x hn hx)
+    (omega arith)
     ∙ ap (λ (m : ℕ). rolling (bitXor n x) ((i + 1) % 4) (map lower (drop m k))) (sym (add-one i)))
 
 -- ---- the hash

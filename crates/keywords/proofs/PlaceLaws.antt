@@ -28,7 +28,8 @@ even-or-odd p q e = by (decLe p (2 * q))
     by (no h) = inr (omega arith)
 
 -- a place p is 2p or 2p + 1 with one bit more
-pub place-more : (b : ℕ) (k : List ℕ) → b < 32 → (placeOf (b + 1) k ≡ 2 * placeOf b k) ⊎ (placeOf (b + 1) k ≡ 2 * placeOf b k + 1)
+pub place-more : (b : ℕ) (k : List ℕ) → b < 32 → (placeOf (b + 1) k ≡ 2 * placeOf b k)
+    ⊎ (placeOf (b + 1) k ≡ 2 * placeOf b k + 1)
 place-more b k h = even-or-odd (placeOf (b + 1) k) (placeOf b k) (place-cut b 1 k (omega arith))
 
 pub place-below : (b : ℕ) (k : List ℕ) → b ≤ 32 → placeOf b k < 2 ^ b

@@ -1,5 +1,5 @@
--- What the keywords of a text are (RULES 11.1, 11.2), from outside. Three laws fix them for every text: none for an empty
--- one, one for a text without byte 0x20, and those of both parts where a byte 0x20 stands between.
+-- What the keywords of a text are (RULES 11.1, 11.2), from outside. Three laws fix them for every text: none for an
+-- empty one, one for a text without byte 0x20, and those of both parts where a byte 0x20 stands between.
 use Prim.Native.Nat.{ℕ, _<_}
 use mathlib.Core.Path.{_≡_}
 use mathlib.Core.Bool.{false}

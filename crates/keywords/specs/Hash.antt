@@ -24,7 +24,8 @@ factor = 0x4F1BBCDC
 unfoldable pub hashOf : List ℕ → ℕ
 hashOf k = word (map lower k) * factor % 2 ^ 32
 
--- where a keyword stands in a table of 2 to the power b entries (RULES 11.5: its place): the top b bits of its hash; from 32 on b means 32
+-- where a keyword stands in a table of 2 to the power b entries (RULES 11.5: its place): the top b bits of its hash;
+-- from 32 on b means 32
 abbrev pub placeOf : ℕ → List ℕ → ℕ
 placeOf b k = hashOf k / 2 ^ (32 - b)
 

@@ -5,7 +5,8 @@ use mathlib.Core.List.{List, [], _∷_, map}
 use lib.Dec.{eqb, leb}
 use lib.ListN.{take, drop}
 use Rattle.keywords.specs.declared.cut.Cut.{Cut}
--- letters A to Z in lower case, every other byte as it is (RULES 11.2); a text cut into pieces, of which empty ones vanish
+-- letters A to Z in lower case, every other byte as it is (RULES 11.2); a text cut into pieces, of which empty ones
+-- vanish
 unfoldable pub use Rattle.ascii.specs.Text.{lower, pieces, filled}
 pub use Rattle.ascii.specs.Text.{onto}
 

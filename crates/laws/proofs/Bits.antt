@@ -1,4 +1,5 @@
--- Exclusive or of k bits, as specs/Bytes has it: it is what the code's `^` means, it regroups, and it adds numbers that share no bit.
+-- Exclusive or of k bits, as specs/Bytes has it: it is what the code's `^` means, it regroups, and it adds numbers that
+-- share no bit.
 use mathlib.Core.Path.{_≡_, refl, sym, ap₂, _∙_}
 use Prim.Native.Nat.{ℕ, zero, suc, _+_, _*_, _/_, _%_, _^_, _<_}
 use native.Mathlib.Nat.{pow-suc, le-of-lt, lt-of-le-of-lt, mul-le-mul-left, mul-lt-mul-of-pos-right}

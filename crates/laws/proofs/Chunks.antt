@@ -61,7 +61,8 @@ module _ {A : Type 0} where
   each-replicate P (suc n) x h = (h, each-replicate P n x h)
 
   -- what a test says of each element where it holds of all
-  pub each-all : (f : A → Bool) (P : A → Type 0) → ((x : A) → f x ≡ true → P x) → (xs : List A) → all f xs ≡ true → Each P xs
+  pub each-all : (f : A → Bool) (P : A → Type 0) → ((x : A) → f x ≡ true → P x) → (xs : List A)
+      → all f xs ≡ true → Each P xs
   each-all f P g [] e = tt
   each-all f P g (x ∷ xs) e = (g x (and-first (f x) (all f xs) e), each-all f P g xs (and-second (f x) (all f xs) e))
 

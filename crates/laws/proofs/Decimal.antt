@@ -26,7 +26,8 @@ over-last at xs x area h =
     let front : take at now ≡ take at area = take-set-le at area j x (omega arith) in
     let k : j < length now = simp length-set h in
     let back : drop j now ≡ x ∷ drop (suc j) area =
-    drop-cons now j 0 k ∙ ap₂ (λ a b. a ∷ b) (getD-set-same area j x 0 h) (drop-set-lt (suc j) area j x (omega arith)) in
+    drop-cons now j 0 k ∙ ap₂ (λ a b. a ∷ b) (getD-set-same area j x 0 h)
+    (drop-set-lt (suc j) area j x (omega arith)) in
     let e : at + length (xs ++ (x ∷ [])) ≡ suc j = omega (arith, length-append xs (x ∷ [])) in
     ap₂ (λ a b. a ++ (xs ++ b)) front back
     ∙ ap (λ y. take at area ++ y) (sym (append-snoc xs x (drop (suc j) area)))

@@ -29,7 +29,8 @@ module _ (f : ℕ → ℕ) where
   mapped-suc (x ∷ xs) zero h = refl
   mapped-suc (x ∷ xs) (suc i) h = ap (λ (l : List ℕ). f x ∷ l) (mapped-suc xs i (omega arith))
 
-  pub mapped-more : (old : List ℕ) (i : ℕ) → i < length old → set (mapped old i) i (f (getD old i 0)) ≡ mapped old (i + 1)
+  pub mapped-more : (old : List ℕ) (i : ℕ) → i < length old → set (mapped old i) i (f (getD old i 0))
+      ≡ mapped old (i + 1)
   mapped-more old i h = mapped-suc old i h ∙ rw add-one
 
   pub mapped-end : (old : List ℕ) (i : ℕ) → length old ≤ i → mapped old i ≡ map f old

@@ -4,7 +4,8 @@ use mathlib.Core.Path.{_≡_, refl, sym, ap, ap₂, _∙_}
 use mathlib.Core.List.{List, [], _∷_, _++_, append-assoc, append-nil}
 use native.Mathlib.Nat.{zero-add, sub-zero, zero-sub, suc-sub-suc}
 use native.Mathlib.Omega.{arith}
-use lib.ListN.{length, take, drop, replicate, length-append, length-take, length-drop, length-replicate, drop-of-length-le}
+use lib.ListN.{length, take, drop, replicate, length-append, length-take, length-drop, length-replicate}
+use lib.ListN.{drop-of-length-le}
 use lib.Seq.{take-nil, drop-nil, take-take, drop-drop, take-append-seam, drop-append-seam, take-all, take-length}
 use borrow.Rule.Slice.PartMut.{putMid}
 use Rattle.laws.specs.Parts.{over, copied}
@@ -40,7 +41,8 @@ over-front-of n bs l h = rw zero-add (front n bs l h)
     front (suc n) [] [] h = refl
     front (suc n) [] (x ∷ l) h = absurd (omega arith)
     front (suc n) (b ∷ bs) [] h = absurd (omega arith)
-    front (suc n) (b ∷ bs) (x ∷ l) h = let g : length bs ≡ length (take n l) = omega arith in ap (λ m. b ∷ m) (front n bs l g)
+    front (suc n) (b ∷ bs) (x ∷ l) h = let g : length bs ≡ length (take n l) = omega arith in
+        ap (λ m. b ∷ m) (front n bs l g)
 
 -- the length stays where what is written is no longer than the list
 pub over-length : (from : ℕ) (bs l : List ℕ) → from + length bs ≤ length l → length (over from bs l) ≡ length l
@@ -66,13 +68,17 @@ over-lent k n l ys h e =
     ∙ ap (λ z. over 0 (z ++ ys) l) (sym (take-take k n l m))
 
 -- `bytes::copy(part, &mut l[at..])`
-pub over-copied : (at : ℕ) (part l ys : List ℕ) → ys ≡ take (length part) part ++ drop (length part) (take (length l - at) (drop at l))
+pub over-copied : (at : ℕ) (part l ys : List ℕ) → ys ≡ take (length part) part ++ drop (length part)
+    (take (length l - at) (drop at l))
     → putMid at (length l - at) l ys ≡ over at part l
 over-copied at part l ys e =
-    let none : drop (length l - at) (drop at l) ≡ [] = drop-of-length-le (drop at l) {i = length l - at} (simp length-drop (omega arith)) in
-    let behind : drop (length part) (take (length l - at) (drop at l)) ≡ drop (at + length part) l = ap (drop (length part)) (part-tail at l) ∙ drop-drop (length part) at l in
+    let none : drop (length l - at) (drop at l) ≡ [] = drop-of-length-le (drop at l) {i = length l - at}
+    (simp length-drop (omega arith)) in
+    let behind : drop (length part) (take (length l - at) (drop at l)) ≡ drop (at + length part) l =
+    ap (drop (length part)) (part-tail at l) ∙ drop-drop (length part) at l in
     ap (λ z. take at l ++ (ys ++ z)) none
-    ∙ ap (λ z. take at l ++ z) (append-nil ys ∙ e ∙ ap₂ (λ x y. x ++ y) (take-all (length part) part (omega arith)) behind)
+    ∙ ap (λ z. take at l ++ z) (append-nil ys ∙ e ∙ ap₂ (λ x y. x ++ y) (take-all (length part) part (omega arith))
+    behind)
 
 -- `&l[k..]` is shorter than l, where k is not 0
 pub tail-shorter : (k : ℕ) (l : List ℕ) → 0 < k → k ≤ length l → length (take (length l - k) (drop k l)) < length l
@@ -92,7 +98,8 @@ pub copied-full : (bs part : List ℕ) → length part ≤ length bs → copied 
 unfolding copied
 copied-full bs part h =
     let n : length (take (length part) bs) ≡ length part = simp length-take (omega arith) in
-    ap (λ l. take (length part) bs ++ l) (drop-of-length-le part {i = 0 + length (take (length part) bs)} (omega arith)) ∙ append-nil (take (length part) bs)
+    ap (λ l. take (length part) bs ++ l) (drop-of-length-le part {i = 0 + length (take (length part) bs)} (omega arith))
+    ∙ append-nil (take (length part) bs)
 
 pub copied-length : (bs part : List ℕ) → length (copied bs part) ≡ length part
 unfolding copied

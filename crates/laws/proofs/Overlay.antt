@@ -9,21 +9,25 @@ use mathlib.Core.Logic.{_⊎_, inl, inr, ⊎-elim}
 use mathlib.Core.List.{List, [], _∷_, _++_, append-assoc}
 use lib.Dec.{ltb}
 use lib.ListN.{length, take, drop, length-append, length-take, length-drop, take-append-drop}
-use lib.Seq.{take-append-seam, take-append-le, drop-append-le, drop-append-add, drop-at, length-take-le, drop-drop, take-all, take-take}
+use lib.Seq.{take-append-seam, take-append-le, drop-append-le, drop-append-add, drop-at, length-take-le, drop-drop}
+use lib.Seq.{take-all, take-take}
 use borrow.Author.Tests.{ltb-true, ltb-false}
 use Rattle.laws.specs.Parts.{over}
 
 -- what is written can be read back
-pub over-read : (from : ℕ) (bs area : List ℕ) → from ≤ length area → take (length bs) (drop from (over from bs area)) ≡ bs
+pub over-read : (from : ℕ) (bs area : List ℕ) → from ≤ length area → take (length bs) (drop from (over from bs area))
+    ≡ bs
 over-read from bs area h =
-    ap (take (length bs)) (drop-at (take from area) (bs ++ drop (from + length bs) area) from (length-take-le from area h))
+    ap (take (length bs)) (drop-at (take from area) (bs ++ drop (from + length bs) area) from
+    (length-take-le from area h))
     ∙ take-append-seam bs (drop (from + length bs) area)
 
 -- a piece that ends before
 pub over-ahead : (from : ℕ) (bs area : List ℕ) (b n : ℕ) → from ≤ length area → b + n ≤ from
     → take n (drop b (over from bs area)) ≡ take n (drop b area)
 over-ahead from bs area b n h k =
-    inside (bs ++ drop (from + length bs) area) ∙ sym (inside (drop from area)) ∙ ap (λ l. take n (drop b l)) (take-append-drop from area)
+    inside (bs ++ drop (from + length bs) area) ∙ sym (inside (drop from area)) ∙ ap (λ l. take n (drop b l))
+    (take-append-drop from area)
   where
     long : length (take from area) ≡ from
     long = length-take-le from area h
@@ -50,7 +54,8 @@ over-behind from bs area b h k =
 -- writing what stands there changes nothing
 pub over-same : (from n : ℕ) (area : List ℕ) → over from (take n (drop from area)) area ≡ area
 over-same from n area =
-    ap (λ x. take from area ++ (take n (drop from area) ++ x)) (sym (drop-drop (length (take n (drop from area))) from area))
+    ap (λ x. take from area ++ (take n (drop from area) ++ x))
+    (sym (drop-drop (length (take n (drop from area))) from area))
     ∙ ap (λ x. take from area ++ x) (back (drop from area))
     ∙ take-append-drop from area
   where
@@ -71,7 +76,8 @@ over-same-front from n room area = go (ltb room n) refl
         let k : room < n = ltb-true room n e in
         let long : length (take room (drop from area)) ≤ n = simp length-take (omega arith) in
         ap (λ x. over from x area) (take-all n (take room (drop from area)) long) ∙ over-same from room area
-    go false e = ap (λ x. over from x area) (take-take n room (drop from area) (ltb-false room n e)) ∙ over-same from n area
+    go false e = ap (λ x. over from x area) (take-take n room (drop from area) (ltb-false room n e))
+        ∙ over-same from n area
 
 -- parts of `room` places, one after another
 part-ends : (a b room : ℕ) → a < b → a * room + room ≤ b * room
@@ -83,7 +89,8 @@ pub over-apart : (L l room : ℕ) (bs area : List ℕ) → (L ≡ l → ⊥) →
 over-apart L l room bs area ne hb hl ha =
     let inside : l * room + room ≤ 8 * room = part-ends l 8 room (omega arith) in
     ⊎-elim
-    (λ k. let before : L * room + room ≤ l * room = part-ends L l room k in over-ahead (l * room) bs area (L * room) room (omega arith) before)
+    (λ k. let before : L * room + room ≤ l * room = part-ends L l room k in over-ahead (l * room) bs area (L * room)
+    room (omega arith) before)
     (λ k. let after : l * room + room ≤ L * room = part-ends l L room k in
     ap (take room) (over-behind (l * room) bs area (L * room) (omega arith) (omega arith)))
     (sides (ltb L l) refl)

@@ -1,4 +1,5 @@
--- Stores in what was written at the front of a list, numbers read as bytes again, parts that may be short, and tests of elements.
+-- Stores in what was written at the front of a list, numbers read as bytes again, parts that may be short, and tests of
+-- elements.
 use Prim.Native.Nat.{ℕ, zero, suc, _+_, _*_, _/_, _%_, _≤_, _<_, min}
 use mathlib.Core.Path.{_≡_, refl, sym, ap, ap₂, _∙_}
 use mathlib.Core.Bool.{Bool, true, false, not, _&&_, _||_}
@@ -19,7 +20,8 @@ store-inside l area i v h =
     ∙ ap (λ k. set l i v ++ drop (0 + k) area) (sym (length-set l i v))
 
 -- the first k bytes are those of the number that they are
-pub bytes-back : (k : ℕ) (d : List ℕ) → k ≤ length d → ((i : ℕ) → getD d i 0 < 256) → littleBytes k (little (take k d)) ≡ take k d
+pub bytes-back : (k : ℕ) (d : List ℕ) → k ≤ length d → ((i : ℕ) → getD d i 0 < 256) → littleBytes k (little (take k d))
+    ≡ take k d
 bytes-back zero d h w = refl
 bytes-back (suc k) [] h w = absurd (omega arith)
 bytes-back (suc k) (b ∷ d) h w =
@@ -61,7 +63,8 @@ module _ {A : Type 0} where
   element-last xs ys i h k = ap₂ _++_ (take-all i xs h) (drop-of-length-le ys k) ∙ append-nil xs
 
   -- a test of some element, from element i on
-  pub any-from : (f : A → Bool) (l : List A) (i : ℕ) (d : A) → i < length l → any f (drop i l) ≡ f (getD l i d) || any f (drop (i + 1) l)
+  pub any-from : (f : A → Bool) (l : List A) (i : ℕ) (d : A) → i < length l → any f (drop i l) ≡ f (getD l i d)
+      || any f (drop (i + 1) l)
   any-from f l i d h = ap (any f) (drop-cons l i d h) ∙ ap (λ n. f (getD l i d) || any f (drop n l)) (sym (add-one i))
 
   pub and-any : (b : Bool) (f : A → Bool) (l : List A) → (b && any f l) ≡ any (λ x. b && f x) l

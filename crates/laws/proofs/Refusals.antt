@@ -104,12 +104,14 @@ first-append (c ∷ cs) ds p = go (first-append cs ds (and-snd (leb 1 (c .1)) (a
     some = leb-true 1 (c .1) (and-fst (leb 1 (c .1)) (all (λ c. leb 1 (c .1)) cs) p)
 
     go : firstOf (cs ++ ds) ≡ cond (eqb (firstOf cs) 0) (firstOf ds) (firstOf cs) → (b : Bool)
-        → cond b (c .1) (firstOf (cs ++ ds)) ≡ cond (eqb (cond b (c .1) (firstOf cs)) 0) (firstOf ds) (cond b (c .1) (firstOf cs))
+        → cond b (c .1) (firstOf (cs ++ ds)) ≡ cond (eqb (cond b (c .1) (firstOf cs)) 0) (firstOf ds)
+        (cond b (c .1) (firstOf cs))
     go e true = rw (ne-eqb (c .1) 0 (λ z. let h : 0 < c .1 = some in omega arith))
     go e false = e
 
 -- what holds of 0 and of each number of the list holds of the answer
-pub answer-in : (P : ℕ → Bool) (cs : List (Bool × ℕ)) → P 0 ≡ true → all (λ c. P (c .1)) cs ≡ true → P (firstOf cs) ≡ true
+pub answer-in : (P : ℕ → Bool) (cs : List (Bool × ℕ)) → P 0 ≡ true → all (λ c. P (c .1)) cs ≡ true → P (firstOf cs)
+    ≡ true
 answer-in P [] z h = z
 answer-in P (c ∷ cs) z h =
     of-choice (λ n. P n ≡ true) (c .0) (c .1) (firstOf cs)
@@ -117,7 +119,8 @@ answer-in P (c ∷ cs) z h =
     (λ _. answer-in P cs z (and-snd (P (c .1)) (all (λ c. P (c .1)) cs) h))
 
 -- where the answer is not 0, what holds of each number is enough
-pub refusal-in : (P : ℕ → Bool) (cs : List (Bool × ℕ)) → all (λ c. P (c .1)) cs ≡ true → (firstOf cs ≡ 0 → ⊥) → P (firstOf cs) ≡ true
+pub refusal-in : (P : ℕ → Bool) (cs : List (Bool × ℕ)) → all (λ c. P (c .1)) cs ≡ true → (firstOf cs ≡ 0 → ⊥)
+    → P (firstOf cs) ≡ true
 refusal-in P [] h n = absurd (n refl)
 refusal-in P (c ∷ cs) h n =
     of-choice (λ k. (k ≡ 0 → ⊥) → P k ≡ true) (c .0) (c .1) (firstOf cs)
@@ -150,21 +153,25 @@ module _ {A : Type 0} (f : A → Bool) where
   pub all-set : (xs : List A) (i : ℕ) (x : A) → all f xs ≡ true → f x ≡ true → all f (set xs i x) ≡ true
   all-set [] i x h e = refl
   all-set (y ∷ ys) zero x h e = and-intro (f x) (all f ys) e (and-snd (f y) (all f ys) h)
-  all-set (y ∷ ys) (suc i) x h e = and-intro (f y) (all f (set ys i x)) (and-fst (f y) (all f ys) h) (all-set ys i x (and-snd (f y) (all f ys) h) e)
+  all-set (y ∷ ys) (suc i) x h e = and-intro (f y) (all f (set ys i x)) (and-fst (f y) (all f ys) h)
+      (all-set ys i x (and-snd (f y) (all f ys) h) e)
 
   pub all-take : (n : ℕ) (xs : List A) → all f xs ≡ true → all f (take n xs) ≡ true
   all-take zero xs h = refl
   all-take (suc n) [] h = refl
-  all-take (suc n) (x ∷ xs) h = and-intro (f x) (all f (take n xs)) (and-fst (f x) (all f xs) h) (all-take n xs (and-snd (f x) (all f xs) h))
+  all-take (suc n) (x ∷ xs) h = and-intro (f x) (all f (take n xs)) (and-fst (f x) (all f xs) h)
+      (all-take n xs (and-snd (f x) (all f xs) h))
 
   pub any-take : (n : ℕ) (xs : List A) → any f xs ≡ false → any f (take n xs) ≡ false
   any-take zero xs h = refl
   any-take (suc n) [] h = refl
   any-take (suc n) (x ∷ xs) h = rw (or-fst (f x) (any f xs) h) (any-take n xs (or-snd (f x) (any f xs) h))
 
-  pub all-weaken : (g : A → Bool) (xs : List A) → ((x : A) → f x ≡ true → g x ≡ true) → all f xs ≡ true → all g xs ≡ true
+  pub all-weaken : (g : A → Bool) (xs : List A) → ((x : A) → f x ≡ true → g x ≡ true) → all f xs ≡ true → all g xs
+      ≡ true
   all-weaken g [] h e = refl
-  all-weaken g (x ∷ xs) h e = and-intro (g x) (all g xs) (h x (and-fst (f x) (all f xs) e)) (all-weaken g xs h (and-snd (f x) (all f xs) e))
+  all-weaken g (x ∷ xs) h e = and-intro (g x) (all g xs) (h x (and-fst (f x) (all f xs) e))
+      (all-weaken g xs h (and-snd (f x) (all f xs) e))
 
 pub all-map : {A B : Type 0} (f : A → B) (g : B → Bool) (xs : List A) → all g (map f xs) ≡ all (λ x. g (f x)) xs
 all-map f g [] = refl

@@ -33,7 +33,8 @@ module _ (capacity : ℕ) where
       rw (back-zero h, back-pos capacity h (omega arith))
 
   -- the n places before p: those below it, and the rest going round
-  pub places-split : (p n : ℕ) → p < capacity → placesBefore capacity p n ≡ placesBefore capacity p (min n p) ++ placesBefore capacity capacity (n - min n p)
+  pub places-split : (p n : ℕ) → p < capacity → placesBefore capacity p n ≡ placesBefore capacity p (min n p)
+      ++ placesBefore capacity capacity (n - min n p)
   places-split zero n h = rw (min-zero, sub-zero) (places-end h n)
   places-split (suc p) zero h = rw zero-min
   places-split (suc p) (suc n) h =
@@ -42,7 +43,8 @@ module _ (capacity : ℕ) where
       rw (suc-min-suc, e, q) (ap (_∷_ p) (places-split p n (omega arith)))
 
   -- the rest stands before the least of those below p
-  pub places-rest : (p n : ℕ) → p < capacity → placesBefore capacity (p - min n p) (n - min n p) ≡ placesBefore capacity capacity (n - min n p)
+  pub places-rest : (p n : ℕ) → p < capacity → placesBefore capacity (p - min n p) (n - min n p) ≡ placesBefore capacity
+      capacity (n - min n p)
   places-rest zero n h = rw (min-zero, sub-zero n) (places-end h n)
   places-rest (suc p) zero h = rw zero-min
   places-rest (suc p) (suc n) h =

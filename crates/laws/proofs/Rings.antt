@@ -1,7 +1,8 @@
 -- Rings of any capacity: what is put at the next place becomes the newest, and the oldest of a full ring makes way.
 -- Assumes nothing.
 use Prim.Native.Nat.{ℕ, zero, suc, _+_, _-_, _%_, _≤_, _<_, min}
-use native.Mathlib.Nat.{zero-min, min-zero, suc-min-suc, mod-add-mod, add-mod-right, mod-eq-of-lt, mod-eq-sub-mod, mod-lt}
+use native.Mathlib.Nat.{zero-min, min-zero, suc-min-suc, mod-add-mod, add-mod-right, mod-eq-of-lt, mod-eq-sub-mod}
+use native.Mathlib.Nat.{mod-lt}
 use native.Mathlib.Omega.{arith}
 use mathlib.Core.Path.{_≡_, refl, sym, ap, ap₂, _∙_}
 use mathlib.Core.Bool.{Bool, true, false, not}
@@ -16,16 +17,19 @@ use Rattle.laws.proofs.RingScan.{places-length}
 
 -- functions that agree where a test holds map a list that passes it alike
 module _ {A B : Type 0} where
-  pub map-where : (test : A → Bool) (f g : A → B) → ((x : A) → test x ≡ true → f x ≡ g x) → (xs : List A) → all test xs ≡ true → map f xs ≡ map g xs
+  pub map-where : (test : A → Bool) (f g : A → B) → ((x : A) → test x ≡ true → f x ≡ g x) → (xs : List A)
+      → all test xs ≡ true → map f xs ≡ map g xs
   map-where test f g same [] e = refl
-  map-where test f g same (x ∷ xs) e = ap₂ _∷_ (same x (and-fst (test x) (all test xs) e)) (map-where test f g same xs (and-snd (test x) (all test xs) e))
+  map-where test f g same (x ∷ xs) e = ap₂ _∷_ (same x (and-fst (test x) (all test xs) e))
+      (map-where test f g same xs (and-snd (test x) (all test xs) e))
 
   pub map-take : (f : A → B) (n : ℕ) (xs : List A) → map f (take n xs) ≡ take n (map f xs)
   map-take f zero xs = refl
   map-take f (suc n) [] = refl
   map-take f (suc n) (x ∷ xs) = ap (_∷_ (f x)) (map-take f n xs)
 
-  pub map-getD : (f : A → B) (xs : List A) (i : ℕ) (d : A) (d′ : B) → i < length xs → getD (map f xs) i d′ ≡ f (getD xs i d)
+  pub map-getD : (f : A → B) (xs : List A) (i : ℕ) (d : A) (d′ : B) → i < length xs
+      → getD (map f xs) i d′ ≡ f (getD xs i d)
   map-getD f [] i d d′ h = absurd (omega arith)
   map-getD f (x ∷ xs) zero d d′ h = refl
   map-getD f (x ∷ xs) (suc i) d d′ h = map-getD f xs i d d′ (omega arith)
@@ -67,14 +71,17 @@ module _ (c : ℕ) (some : 0 < c) where
   places-below : (n p : ℕ) → all (λ x. ltb x c) (placesBefore c p n) ≡ true
   places-below zero p = refl
   places-below (suc n) p =
-      and-intro (ltb (back c p) c) (all (λ x. ltb x c) (placesBefore c (back c p) n)) (lt-ltb (back c p) c (back-below p)) (places-below n (back c p))
+      and-intro (ltb (back c p) c) (all (λ x. ltb x c) (placesBefore c (back c p) n))
+      (lt-ltb (back c p) c (back-below p)) (places-below n (back c p))
 
   -- q is k places onward from p: the n places before p are not q
-  places-apart : (n q p k : ℕ) → q < c → (p + k) % c ≡ q → k + n < c → all (λ x. not (eqb x q)) (placesBefore c p n) ≡ true
+  places-apart : (n q p k : ℕ) → q < c → (p + k) % c ≡ q → k + n < c → all (λ x. not (eqb x q)) (placesBefore c p n)
+      ≡ true
   places-apart zero q p k hq e h = refl
   places-apart (suc n) q p k hq e h =
       let f : (back c p + suc k) % c ≡ q = round p k ∙ e in
-      let ne : back c p ≡ q → ⊥ = λ z. elsewhere q (suc k) hq (omega arith) (omega arith) (ap (λ x. (x + suc k) % c) (sym z) ∙ f) in
+      let ne : back c p ≡ q → ⊥ = λ z. elsewhere q (suc k) hq (omega arith) (omega arith)
+      (ap (λ x. (x + suc k) % c) (sym z) ∙ f) in
       rw (ne-eqb (back c p) q ne) (places-apart n q (back c p) (suc k) hq f (omega arith))
 
   places-take : (m n p : ℕ) → take m (placesBefore c p n) ≡ placesBefore c p (min m n)
@@ -91,7 +98,8 @@ module _ (c : ℕ) (some : 0 < c) where
 
   pub kept-below : (p n : ℕ) → all (λ x. ltb x c) (keptPlaces c p n) ≡ true
   unfolding keptPlaces
-  kept-below p n = of-choice (λ (xs : List ℕ). all (λ x. ltb x c) xs ≡ true) (ringFits c p n) (placesBefore c p n) [] (λ _. places-below n p) (λ _. refl)
+  kept-below p n = of-choice (λ (xs : List ℕ). all (λ x. ltb x c) xs ≡ true) (ringFits c p n) (placesBefore c p n) []
+      (λ _. places-below n p) (λ _. refl)
 
   kept-all : (p n : ℕ) → p < c → n ≤ c → keptPlaces c p n ≡ placesBefore c p n
   unfolding keptPlaces
@@ -111,16 +119,19 @@ kept-at c p n i =
 -- one more is put at the next place: reading the ring anew gives the new one and then the old ones, within the capacity
 module _ {B : Type 0} (k p n : ℕ) (hp : p < suc k) (hn : n ≤ suc k) (new old : ℕ → B) where
   pub ring-push : (b : B) → new p ≡ b → ((x : ℕ) → (x ≡ p → ⊥) → new x ≡ old x)
-      → map new (keptPlaces (suc k) (onward (suc k) p) (min (suc k) (n + 1))) ≡ take (suc k) (b ∷ map old (keptPlaces (suc k) p n))
+      → map new (keptPlaces (suc k) (onward (suc k) p) (min (suc k) (n + 1))) ≡ take (suc k)
+      (b ∷ map old (keptPlaces (suc k) p n))
   ring-push b e f =
       let some : 0 < suc k = omega arith in
       let m : min (suc k) (n + 1) ≡ suc (min k n) = omega arith in
       let p0 : (p + 0) % suc k ≡ p = ap (λ x. x % suc k) (omega arith) ∙ mod-eq-of-lt hp in
-      ap (map new) (kept-all (suc k) some (onward (suc k) p) (min (suc k) (n + 1)) (onward-below (suc k) some p) (omega arith)
+      ap (map new) (kept-all (suc k) some (onward (suc k) p) (min (suc k) (n + 1)) (onward-below (suc k) some p)
+      (omega arith)
       ∙ ap (placesBefore (suc k) (onward (suc k) p)) m
       ∙ ap (λ x. x ∷ placesBefore (suc k) x (min k n)) (back-onward (suc k) some p hp))
       ∙ ap₂ _∷_ e
-      (map-where (λ x. not (eqb x p)) new old (λ x t. f x (eqb-false x p (not-true (eqb x p) t))) (placesBefore (suc k) p (min k n))
+      (map-where (λ x. not (eqb x p)) new old (λ x t. f x (eqb-false x p (not-true (eqb x p) t)))
+      (placesBefore (suc k) p (min k n))
       (places-apart (suc k) some (min k n) p p 0 hp p0 (omega arith))
       ∙ ap (map old) (sym (places-take (suc k) some k n p) ∙ ap (take k) (sym (kept-all (suc k) some p n hp hn)))
       ∙ map-take old k (keptPlaces (suc k) p n))

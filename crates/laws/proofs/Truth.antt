@@ -22,4 +22,5 @@ module _ {A : Type 0} (f g : A → Bool) where
 
   pub all-more : ((x : A) → f x ≡ true → g x ≡ true) → (xs : List A) → all f xs ≡ true → all g xs ≡ true
   all-more h [] e = refl
-  all-more h (x ∷ xs) e = both-true (g x) (all g xs) (h x (both-left (f x) (all f xs) e)) (all-more h xs (both-right (f x) (all f xs) e))
+  all-more h (x ∷ xs) e = both-true (g x) (all g xs) (h x (both-left (f x) (all f xs) e))
+      (all-more h xs (both-right (f x) (all f xs) e))

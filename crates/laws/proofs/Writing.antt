@@ -1,4 +1,5 @@
--- Bytes written over the front of an area, one part after another, and tests that a loop makes at each element of a list.
+-- Bytes written over the front of an area, one part after another, and tests that a loop makes at each element of a
+-- list.
 use Prim.Native.Nat.{ℕ, suc, _+_, _*_, _≤_, _<_, min}
 use mathlib.Core.Path.{_≡_, refl, sym, ap, ap₂, _∙_}
 use mathlib.Core.Bool.{Bool, true, false, _&&_, _||_}
@@ -7,8 +8,10 @@ use native.Mathlib.Nat.{zero-add, min-eq-left}
 use native.Mathlib.Numerals.{add-one}
 use native.Mathlib.Omega.{arith}
 use native.Mathlib.Decide.{decLe}
-use lib.ListN.{length, getD, take, drop, set, length-append, length-take, length-drop, take-append-drop, drop-of-length-le}
-use lib.Seq.{sets, sets-eq, set-at, drop-cons, take-suc, append-snoc, drop-drop, drop-append-le, take-at, take-all, take-add, take-append-seam}
+use lib.ListN.{length, getD, take, drop, set, length-append, length-take, length-drop, take-append-drop}
+use lib.ListN.{drop-of-length-le}
+use lib.Seq.{sets, sets-eq, set-at, drop-cons, take-suc, append-snoc, drop-drop, drop-append-le, take-at, take-all}
+use lib.Seq.{take-add, take-append-seam}
 use lib.Seq.{drop-append-seam, drop-append-add, length-take-le}
 use borrow.Rule.Slice.PartMut.{putMid}
 use Rattle.laws.specs.Tests.{any, all}
@@ -43,7 +46,8 @@ pub byte-next : (l area : List ℕ) (i : ℕ) → i < length l → i < length ar
 byte-next l area i h k =
     let e : length (take i l) ≡ i = length-take-le i l (omega arith) in
     let f : length (take (i + 1) l) ≡ i + 1 = length-take-le (i + 1) l (omega arith) in
-    ap (λ x. set (take i l ++ x) i (getD l i 0)) (ap (λ n. drop n area) (zero-add (length (take i l)) ∙ e) ∙ drop-cons area i 0 k)
+    ap (λ x. set (take i l ++ x) i (getD l i 0)) (ap (λ n. drop n area) (zero-add (length (take i l)) ∙ e)
+    ∙ drop-cons area i 0 k)
     ∙ set-at (take i l) (getD area i 0) (drop (suc i) area) (getD l i 0) i e
     ∙ sym (append-snoc (take i l) (getD l i 0) (drop (suc i) area))
     ∙ ap (λ x. x ++ drop (suc i) area) (sym (take-suc l i 0 h) ∙ ap (λ n. take n l) (sym (add-one i)))
@@ -94,7 +98,8 @@ module _ (at : ℕ) (l m rest : List ℕ) (e : drop at l ≡ m ++ rest) where
   pub drop-through : drop (at + length m) l ≡ rest
   drop-through = sym (drop-drop (length m) at l) ∙ ap (drop (length m)) e ∙ drop-append-seam m rest
 
--- a test of every element, or of some, from element i on: the element decides, or the test goes on, or there is none left
+-- a test of every element, or of some, from element i on: the element decides, or the test goes on, or there is none
+-- left
 module _ (f : ℕ → Bool) (l : List ℕ) (i : ℕ) where
   all-next : i < length l → all f (drop i l) ≡ f (getD l i 0) && all f (drop (i + 1) l)
   all-next h = ap (all f) (drop-cons l i 0 h) ∙ ap (λ n. f (getD l i 0) && all f (drop n l)) (sym (add-one i))
@@ -118,7 +123,8 @@ module _ (f : ℕ → Bool) (l : List ℕ) (i : ℕ) where
   any-end h = ap (any f) (drop-of-length-le l h)
 
 -- the first four bytes as a number; a byte that is not there counts 0
-pub little-four : (b : List ℕ) → little (take 4 b) ≡ getD b 0 0 + 256 * (getD b 1 0 + 256 * (getD b 2 0 + 256 * getD b 3 0))
+pub little-four : (b : List ℕ) → little (take 4 b)
+    ≡ getD b 0 0 + 256 * (getD b 1 0 + 256 * (getD b 2 0 + 256 * getD b 3 0))
 little-four [] = refl
 little-four (a ∷ []) = refl
 little-four (a ∷ b ∷ []) = refl

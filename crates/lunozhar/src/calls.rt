@@ -1,4 +1,6 @@
-// The calls over a station whose ring of remembered queries the caller lends, and over a tally. The caller stores the line's record that comes back.
+// The calls over a station whose ring of remembered queries the caller lends, and over a tally. The ring is
+// surveyed, crate station says what the call does, and the ring is written; the caller stores the line's record that
+// comes back.
 ghost use mathlib.Core.Path.{_≡_};
 ghost use Prim.Native.Nat.{_%_};
 ghost use lib.ListN.{length, set};
@@ -11,12 +13,37 @@ ghost use Rattle.station.specs.Calls.{MessageMet, OwnMet, Changed};
 ghost use Rattle.tally.specs.Counts.{counted};
 use crate::Lines;
 use crate::Number;
+use memory::leave::leave;
+use memory::order::survey;
+use memory::remember::fresh;
+use memory::remember::remember;
+use protocol::HERE;
+use protocol::Line;
 use protocol::Own;
 use protocol::Report;
+use station::asking::ask;
 use station::changes::Beginning;
 use station::changes::LineChange;
-use station::messages::Arrival;
+use station::changes::begin;
+use station::changes::close_line;
+use station::changes::leaver;
+use station::changes::open_line;
+use station::lines::lives;
+use station::messages::arrive;
+use station::order::in_order;
 use tally::Tally;
+use wire::read_header;
+
+// The halves of a number of ones, which the survey looks up only where a word of its filter is all ones: what a call
+// without a number asks for.
+const ONES: u64 = 18446744073709551615;
+
+// The record of the message's line after it, and what the caller is told.
+#[repr(C)]
+pub struct Arrival {
+    pub line: Line,
+    pub report: Report,
+}
 
 // A fresh state over a route area of so many bytes.
 #[no_mangle]
@@ -33,7 +60,8 @@ pub extern "C" fn lunozhar_fresh_lent(
         (memoryOf (now (lo .exit)) (now (hi .exit)) (now (asker .exit)) (now (count .exit)) (now (next .exit))) in
         ⌜ Changed (fresh «route_len») (r .answer) after ⌝ }
 {
-    station::changes::fresh_over(lo, hi, asker, count, next, route_len)
+    fresh(lo, hi, asker, count, next);
+    begin(route_len)
 }
 
 // A line is opened.
@@ -55,7 +83,9 @@ pub extern "C" fn lunozhar_open_lent<'a>(
         ⌜ Changed (opening before line) (r .answer) after ⌝ }
 {
     let at = lines.at;
-    station::changes::open_line(lo, hi, asker, count, next, room, at, line)
+    let live = lives(at);
+    let s = survey(lo, hi, asker, count, next, live, ONES, ONES);
+    open_line(s.order, room, at, line)
 }
 
 // A line is closed.
@@ -77,7 +107,11 @@ pub extern "C" fn lunozhar_close_lent(
         ⌜ Changed (closing before line) (r .answer) after ⌝ }
 {
     let at = lines.at;
-    station::changes::close_line(lo, hi, asker, count, next, room, at, line)
+    let live = lives(at);
+    let s = survey(lo, hi, asker, count, next, live, ONES, ONES);
+    let change = close_line(s.order, room, at, line);
+    leave(asker, leaver(change.answer, line));
+    change
 }
 
 // An arriving message.
@@ -107,21 +141,18 @@ pub extern "C" fn lunozhar_message_lent(
         (now (out .entry)) (now (out .exit)) (now (route .exit)) ⌝ }
 {
     let at = lines.at;
-    station::messages::message(
-        lo,
-        hi,
-        asker,
-        count,
-        next,
-        room,
-        at,
-        line,
-        clock,
-        own,
-        message,
-        out,
-        route,
-    )
+    let h = read_header(message);
+    let live = lives(at);
+    let s = survey(lo, hi, asker, *count, *next, live, h.lo, h.hi);
+    let a = arrive(s, room, at, line, clock, own, message, out, route);
+    let by = (line % 8) as u8;
+    remember(lo, hi, asker, count, next, a.remember, h.lo, h.hi, by);
+    let after = a.line;
+    let report = a.report;
+    Arrival {
+        line: after,
+        report,
+    }
 }
 
 // A query of this station's own.
@@ -148,19 +179,13 @@ pub extern "C" fn lunozhar_ask_lent(
 {
     let at = lines.at;
     let bytes = number.bytes;
-    station::asking::ask(
-        lo,
-        hi,
-        asker,
-        count,
-        next,
-        room,
-        at,
-        bytes,
-        text,
-        out,
-        route,
-    )
+    let h = read_header(&bytes);
+    let live = lives(at);
+    let s = survey(lo, hi, asker, *count, *next, live, h.lo, h.hi);
+    let report = ask(s, room, at, bytes, text, out, route);
+    let taken = report.answer == 0;
+    remember(lo, hi, asker, count, next, taken, h.lo, h.hi, HERE);
+    report
 }
 
 // Whether a station is in order.
@@ -179,7 +204,9 @@ pub extern "C" fn lunozhar_in_order_lent<'a>(
         ⌜ r ≡ inOrder s ⌝ }
 {
     let at = lines.at;
-    station::order::in_order(lo, hi, asker, count, next, room, at)
+    let live = lives(at);
+    let s = survey(lo, hi, asker, count, next, live, ONES, ONES);
+    in_order(s.order, room, at)
 }
 
 // The tally that is lent is brought up by one answer.

@@ -4,6 +4,7 @@ ghost use Rattle.keywords.specs.Hash.{hashOf, placeOf};
 ghost use Rattle.tablemessages.specs.Writer.{writerResult, writerOut};
 use crate::Number;
 use tablemessages::Written;
+use tablewriter::Wanted;
 
 // The messages that turn the old table, if there was one, into the new.
 #[no_mangle]
@@ -24,7 +25,13 @@ pub extern "C" fn lunozhar_write_table<'a>(
         ≡ writerOut (number .bytes) had (now (old .entry)) «old_infinity» (now (new .entry)) infinity size (now (out .entry)) ⌝ }
 {
     let n = number.bytes;
-    tablewriter::write_table(n, had, old, old_infinity, new, infinity, size, out)
+    let w = Wanted {
+        had,
+        was: old_infinity,
+        infinity,
+        size,
+    };
+    tablewriter::write_table(n, w, old, new, out)
 }
 
 // The hash of a keyword.

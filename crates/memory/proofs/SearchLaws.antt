@@ -38,7 +38,7 @@ module _ (query : ℕ → Query) (c : ℕ) (x : Number) where
 
   -- after i of the n before `from`: the next is the one, or it is passed
   module _ (from n passed i : ℕ) (more : i < n) (enough : n ≤ from) (inside : from ≤ c) where
-    left-turn : leftOf (from - i) (n - i) (passed + i)
+    pub left-turn : leftOf (from - i) (n - i) (passed + i)
         ≡ pickFound (sameNumber (query (from - 1 - i) .number) x) (At (passed + i) (query (from - 1 - i) .asker))
         (leftOf (from - (i + 1)) (n - (i + 1)) (passed + (i + 1)))
     unfolding find
@@ -50,14 +50,6 @@ module _ (query : ℕ → Query) (c : ℕ) (x : Number) where
         rw (e, b, d, ← f)
         (behind-pick (sameNumber (query (from - (i + 1)) .number) x) (passed + i) (query (from - (i + 1)) .asker)
         (find (map query (placesBefore c (from - (i + 1)) (n - (i + 1)))) x))
-
-    pub left-here : sameNumber (query (from - 1 - i) .number) x ≡ true
-        → leftOf (from - i) (n - i) (passed + i) ≡ At (passed + i) (query (from - 1 - i) .asker)
-    left-here e = left-turn ∙ rw e
-
-    pub left-on : sameNumber (query (from - 1 - i) .number) x ≡ false
-        → leftOf (from - (i + 1)) (n - (i + 1)) (passed + (i + 1)) ≡ leftOf (from - i) (n - i) (passed + i)
-    left-on e = sym (left-turn ∙ rw e)
 
 -- a look-up in two parts
 abbrev orElse : Found → Found → Found

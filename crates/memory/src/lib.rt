@@ -1,5 +1,5 @@
 // Floor 4: leaves over the ring of remembered queries. They take slices of any length, whose capacity is the length
-// of `lo`; what the station calls for its own ring of 512 takes arrays.
+// of `lo`; what crate lunozhar calls for a station's ring of 512 (`survey`, `remember`, `fresh`) takes arrays.
 mod askers;
 pub mod leave;
 mod numbers;

@@ -4,7 +4,7 @@ ghost use mathlib.Core.Bool.{true, false};
 ghost use lib.ListN.{length, getD};
 ghost use Rattle.protocol.specs.Memory.{capacity, memoryOf, numberFrom, queriesIn, find, lookupOf, memoryInOrder};
 ghost use Rattle.memory.specs.Order.{Passed};
-pub use crate::Survey;
+use crate::Survey;
 use crate::askers::askers_fit;
 use crate::numbers::no_twice;
 use crate::search::absent;

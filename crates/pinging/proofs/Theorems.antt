@@ -1,5 +1,5 @@
--- Of two pings of a line that are taken the second comes a second later; eleven pongs at most answer a ping; and a message
--- that has its first bytes gives just these.
+-- Of two pings of a line that are taken the second comes a second later; eleven pongs at most answer a ping; and a
+-- message that has its first bytes gives just these.
 -- Assumes nothing.
 use Prim.Native.Nat.{ℕ, _+_, _*_, _≤_, _<_}
 use mathlib.Core.Path.{_≡_, refl, ap, _∙_}
@@ -8,7 +8,7 @@ use mathlib.Core.List.{List, [], _∷_}
 use native.Mathlib.Omega.{arith}
 use lib.Dec.{eqb, leb, ltb}
 use lib.ListN.{length, take, replicate, length-take}
-use borrow.Author.Tests.{ltb-false}
+use borrow.Author.Tests.{ne-eqb, ltb-false}
 use Rattle.laws.specs.Tests.{firstOf}
 use Rattle.laws.proofs.Over.{copied-full}
 use Rattle.wire.specs.declared.Header.{Header}
@@ -20,13 +20,19 @@ use Rattle.protocol.specs.Pings.{isProbe, keepIf, isFresh, walk, storedSent, pi
 use Rattle.pinging.specs.Filled.{numberFilled, pongFilled}
 use Rattle.pinging.specs.Sending.{pongCount, countWritten}
 
+-- a ping that is no probe, on a line with a kept time, e ms later
+pub timed : (time clock e : ℕ) (h : Header) → (h .ttl ≡ 0 → ⊥) → isProbe h ≡ false → e ≡ elapsed clock time
+    → firstOf (pingRules true time clock h) ≡ cond (ltb e 1000) 13 0
+timed time clock e h lives other at = rw (ne-eqb (h .ttl) 0 lives, other, at)
+
 -- a ping that is no probe was taken at the clock `first`, and so is one at `second`: at least 1,000 ms later
 pub next-apart : (x : Line) (first second : ℕ) (h : Header) → isProbe h ≡ false
-    → firstOf (pingRules (timeKept x false first .pinged) (timeKept x false first .pingtime) second h) ≡ 0 → 1000 ≤ elapsed second first
+    → firstOf (pingRules (timeKept x false first .pinged) (timeKept x false first .pingtime) second h) ≡ 0
+    → 1000 ≤ elapsed second first
 next-apart x first second h o e = go (eqb (h .ttl) 0) (isProbe h) (ltb (elapsed second first) 1000) refl o e
   where
-    go : (a b d : Bool) → ltb (elapsed second first) 1000 ≡ d → b ≡ false → firstOf ((a, 8) ∷ (not b && (true && d), 13) ∷ []) ≡ 0
-        → 1000 ≤ elapsed second first
+    go : (a b d : Bool) → ltb (elapsed second first) 1000 ≡ d → b ≡ false
+        → firstOf ((a, 8) ∷ (not b && (true && d), 13) ∷ []) ≡ 0 → 1000 ≤ elapsed second first
     go true b d q o e = absurd (omega arith)
     go false true d q o e = let z : _≡_ {A = ℕ} 0 1 = cc in absurd (omega arith)
     go false false true q o e = absurd (omega arith)

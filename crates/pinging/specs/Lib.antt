@@ -1,4 +1,3 @@
 -- Pings and pongs over plain values.
 pub mod Filled
-pub mod Ring
 pub mod Sending

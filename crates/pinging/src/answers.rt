@@ -3,6 +3,7 @@ ghost use mathlib.Core.Path.{_≡_};
 ghost use Rattle.laws.specs.Tests.{firstOf};
 ghost use Rattle.protocol.specs.Pings.{isProbe, pingRules, pongRules};
 use crate::clock::elapsed_ms;
+use protocol::PONG_HOPS;
 use wire::Header;
 
 // TTL 1 with Hops 0 or 1 asks this station alone.
@@ -31,7 +32,7 @@ pub fn ping_answer(pinged: bool, pingtime: u32, clock: u32, h: Header) -> u8
     0
 }
 
-// A pong: 6 for a payload of less than 14 bytes; 8 where TTL is 0 or Hops are above 7.
+// A pong: 6 for a payload of less than 14 bytes; 8 where TTL is 0 or Hops are above `PONG_HOPS`.
 pub fn pong_answer(h: Header) -> u8
     ensures { λ r. ⌜ r ≡ firstOf (pongRules h) ⌝ }
 {
@@ -41,7 +42,7 @@ pub fn pong_answer(h: Header) -> u8
     if h.ttl == 0 {
         return 8;
     }
-    if 7 < h.hops {
+    if PONG_HOPS < h.hops {
         return 8;
     }
     0

@@ -4,7 +4,5 @@ pub mod answers;
 pub mod clock;
 mod messages;
 pub mod number;
-pub mod order;
-mod ring;
 pub mod send;
 pub mod store;

@@ -20,23 +20,15 @@ pub fn one_hop_more(hops: u8) -> u8
     if hops < 255 { hops + 1 } else { 255 }
 }
 
-// A number as two bytes, the least significant first.
-fn little_bytes2(n: u16) -> [u8; 2]
-    ensures { λ r. ⌜ r ≡ littleBytes 2 n ⌝ }
-{
-    [(n % 256) as u8, (n / 256 % 256) as u8]
-}
-
 // The 14 bytes of this station's own pong.
 pub fn own_payload(port: u16, address: [u8; 4], files: u32, kilobytes: u32) -> [u8; 14]
     ensures { λ r. ⌜ r ≡ littleBytes 2 port ++ (address ++ (littleBytes 4 files ++ littleBytes 4 kilobytes)) ⌝ }
 {
-    let ports = little_bytes2(port);
     let files = little_bytes4(files);
     let kilobytes = little_bytes4(kilobytes);
     [
-        ports[0],
-        ports[1],
+        (port % 256) as u8,
+        (port / 256 % 256) as u8,
         address[0],
         address[1],
         address[2],

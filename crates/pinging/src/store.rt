@@ -1,9 +1,8 @@
 // Ten pongs are kept for each line; a new one takes the oldest's place.
 ghost use mathlib.Core.Path.{_≡_};
+ghost use Prim.Native.Nat.{_+_, min};
 ghost use Rattle.protocol.specs.Lines.{withPong};
 ghost use Rattle.pinging.specs.Filled.{pongFilled};
-use crate::ring::next_place;
-use crate::ring::one_more;
 use protocol::Line;
 use protocol::Pong;
 use wire::copy_onto;
@@ -17,6 +16,13 @@ pub fn first_bytes(payload: &[u8]) -> [u8; 14]
     bytes
 }
 
+// One more is kept, up to ten.
+fn one_more(count: usize) -> usize
+    ensures { λ r. ⌜ r ≡ min 10 (count + 1) ⌝ }
+{
+    if count < 10 { count + 1 } else { 10 }
+}
+
 // The line with an arrived pong at the ring's next place.
 pub fn store_pong(x: Line, bytes: [u8; 14], hops: u8, clock: u32) -> Line
     ensures { λ r. ⌜ r ≡ withPong x (record { bytes = bytes; hops = hops; clock = clock }) ⌝ }
@@ -26,6 +32,6 @@ pub fn store_pong(x: Line, bytes: [u8; 14], hops: u8, clock: u32) -> Line
     let mut kept = x;
     kept.pongs[place] = pong;
     kept.pongcount = one_more(x.pongcount);
-    kept.pongnext = next_place(x.pongnext);
+    kept.pongnext = (place + 1) % 10;
     kept
 }

@@ -52,7 +52,8 @@ module _ (limit L room : ℕ) (o : Outcome) (e : Expected) (us : List Update) (q
           noting true i =
               rw (z, i)
               (subst
-              (λ (n : ℕ). Accounts (updated room (e .held) (ttlOf m) (hopsOf m) (payloadOf m)) (update (payloadOf m) n ∷ us))
+              (λ (n : ℕ). Accounts (updated room (e .held) (ttlOf m) (hopsOf m) (payloadOf m))
+              (update (payloadOf m) n ∷ us))
               (sym (h .0 z i .0))
               (after-update (e .held) us q (payloadOf m) room (ttlOf m) (hopsOf m)))
       go (Ask number text t a) h true z = q

@@ -1,5 +1,6 @@
--- A message that has arrived: what was brought lets its type decide the answer, and none of 2 to 5 applies. It speaks of the state before the
--- call and of what the call brings, never of its answer; so no statement that begins with it is met by a core that refuses the message.
+-- A message that has arrived: what was brought lets its type decide the answer, and none of 2 to 5 applies. It speaks
+-- of the state before the call and of what the call brings, never of its answer; so no statement that begins with it is
+-- met by a core that refuses the message.
 use Prim.Native.Nat.{ℕ, _+_, _/_, _≤_, _<_}
 use mathlib.Core.Path.{_≡_}
 use mathlib.Core.Bool.{true}
@@ -10,7 +11,8 @@ use Rattle.wire.specs.Header.{sizeOf}
 use Rattle.protocol.specs.State.{Station, lineAt}
 use Rattle.protocol.specs.Outcomes.{Outcome}
 
--- the areas that are lent fit the state: an output area of 4,119 bytes, a route area of 32 or more that gives the state's room
+-- the areas that are lent fit the state: an output area of 4,119 bytes, a route area of 32 or more that gives the
+-- state's room
 pub record Areas (s : Station) (out : ℕ) (route : List ℕ) : Type 0 where
   pub output : 4119 ≤ out
   pub long : 32 ≤ length route

@@ -1,4 +1,5 @@
--- How much of its bytes a message call reads and uses: the message at their front and nothing past it; and its answer as one ordered list.
+-- How much of its bytes a message call reads and uses: the message at their front and nothing past it; and its answer
+-- as one ordered list.
 use Prim.Native.Nat.{ℕ, _+_, _≤_}
 use mathlib.Core.Path.{_≡_}
 use mathlib.Core.Bool.{Bool, cond, not, _&&_, _||_}
@@ -22,7 +23,8 @@ use Rattle.protocol.specs.Calls.{earlyRules, messageOutcome, messageRepo
 abbrev pub Whole : List ℕ → Type 0
 Whole m = 23 + sizeOf m ≤ length m
 
--- every call with one is as the call with the other: answer, state, lines, bytes sent, route area, text, delivery, and bytes used
+-- every call with one is as the call with the other: answer, state, lines, bytes sent, route area, text, delivery, and
+-- bytes used
 pub record TakenAlike (m′ m : List ℕ) : Type 0 where
   pub outcome : (s : Station) (l : ℕ) (t : Terms) (route : List ℕ)
       → messageOutcome s l m′ t route ≡ messageOutcome s l m t route

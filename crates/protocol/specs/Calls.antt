@@ -1,5 +1,5 @@
--- The five calls: fresh, opening, closing, an arriving message, an own query. Contracts cite these. A rule takes what it reads; a call applies the
--- rules to its state, and stores what they come to.
+-- The five calls: fresh, opening, closing, an arriving message, an own query. Contracts cite these. A rule takes what
+-- it reads; a call applies the rules to its state, and stores what they come to.
 use Prim.Native.Nat.{ℕ, _+_, _*_, _/_}
 use mathlib.Core.Bool.{Bool, true, false, cond, not, _&&_, _||_}
 use mathlib.Core.List.{List, [], _∷_, _++_}
@@ -28,7 +28,8 @@ use Rattle.protocol.specs.Memory.{Memory, memoryOf, capacity, here, numb
 use Rattle.protocol.specs.Lines.{lineCount, emptyLine, withTable, heldBy, lineIn}
 use Rattle.protocol.specs.State.{Station, Change, stationOf, lineAt, withLine, withMemory, lookedUp}
 use Rattle.protocol.specs.Order.{inOrder}
-use Rattle.protocol.specs.Outcomes.{Terms, Outcome, Step, quiet, sends, refusedOr, writtenFor, pickResult, stored, reportOf, usedOf}
+use Rattle.protocol.specs.Outcomes.{Terms, Outcome, Step, quiet, sends, refusedOr, writtenFor, pickResult, stored}
+use Rattle.protocol.specs.Outcomes.{reportOf, usedOf}
 use Rattle.protocol.specs.Queries.{usualLimit, queryStep, ownLines, ownBytes}
 use Rattle.protocol.specs.Hits.{hitStep}
 use Rattle.protocol.specs.Pings.{pingStep, pongStep}
@@ -81,7 +82,8 @@ otherRoom room route = shortRoute route || not (eqb (route / 8) room)
 abbrev pub unfitAreas : ℕ → ℕ → ℕ → Bool
 unfitAreas room out route = ltb out largestMessage || otherRoom room route
 
--- the extent of a message of which n bytes are there: short of its header, over the largest payload, short of its payload, or whole
+-- the extent of a message of which n bytes are there: short of its header, over the largest payload, short of its
+-- payload, or whole
 abbrev pub extentRules : ℕ → ℕ → List (Bool × ℕ)
 extentRules n size = (ltb n headerSize, 4) ∷ (ltb largestPayload size, 5) ∷ (ltb n (headerSize + size), 4) ∷ []
 
@@ -96,15 +98,18 @@ earlyRules order room out route l live n size =
 unfoldable pub early : Station → ℕ → List ℕ → ℕ → ℕ → ℕ
 early s l m out route = firstOf (earlyRules (inOrder s) (s .room) out route l (lineAt s l .live) (length m) (sizeOf m))
 
--- an update by line l with this record: the line's table and its entries as the table's rules have them; the rest of the route area stays
+-- an update by line l with this record: the line's table and its entries as the table's rules have them; the rest of
+-- the route area stays
 unfoldable pub updateStep : ℕ → ℕ → Line → List ℕ → List ℕ → Step
 updateStep room l x m route =
     quiet (updateAnswer room (heldBy x room l route) (headerIn m .ttl) (headerIn m .hops) (payloadOf m))
     (record {
-      line = withTable x (updated room (heldBy x room l route) (headerIn m .ttl) (headerIn m .hops) (payloadOf m) .table);
+      line = withTable x (updated room (heldBy x room l route) (headerIn m .ttl) (headerIn m .hops)
+          (payloadOf m) .table);
       taken = false;
     })
-    (over (l * room) (updated room (heldBy x room l route) (headerIn m .ttl) (headerIn m .hops) (payloadOf m) .entries) route)
+    (over (l * room) (updated room (heldBy x room l route) (headerIn m .ttl) (headerIn m .hops) (payloadOf m) .entries)
+    route)
 
 -- by type, of whose number the look-up found k; 7 for any other
 unfoldable pub byType : ℕ → ℕ → List Line → ℕ → Lookup → List ℕ → Terms → List ℕ → Step
@@ -124,7 +129,8 @@ arrived limit s l m t route =
 unfoldable pub arriving : ℕ → Station → ℕ → List ℕ → Terms → List ℕ → Outcome
 arriving limit s l m t route = refusedOr (early s l m (t .out) (length route)) s route (arrived limit s l m t route)
 
--- an own query: the refusals before its number is looked up, given the length of its text and whether that has a zero byte, and the one after
+-- an own query: the refusals before its number is looked up, given the length of its text and whether that has a zero
+-- byte, and the one after
 abbrev pub ownBefore : Bool → ℕ → ℕ → ℕ → ℕ → Bool → List (Bool × ℕ)
 ownBefore order room out route size zero =
     (not order, 1)

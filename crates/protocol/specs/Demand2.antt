@@ -1,8 +1,8 @@
--- Demand 2, over lists of calls: a query not seen before goes to exactly the lines of RULES 7.5 and 8.3, and a hit goes back
--- by the line its query came by if that has not closed since and the query is among the last 512. Where a query came from
--- is read off the log alone.
--- What is demanded of a call is demanded of what it brings to a state (Arrived), so that refusing it is no way out; the statements on openings
--- and closings, pings and pongs, and the bytes of messages are in Opened, Pinged and Written.
+-- Demand 2, over lists of calls: a query not seen before goes to exactly the lines of RULES 7.5 and 8.3, and a hit goes
+-- back by the line its query came by if that has not closed since and the query is among the last 512. Where a query
+-- came from is read off the log alone.
+-- What is demanded of a call is demanded of what it brings to a state (Arrived), so that refusing it is no way out; the
+-- statements on openings and closings, pings and pongs, and the bytes of messages are in Opened, Pinged and Written.
 use Prim.Native.Nat.{ℕ, suc, _+_, _-_, _≤_, _<_}
 use mathlib.Core.Path.{_≡_}
 use mathlib.Core.Bool.{Bool, true, false, cond, _&&_, _||_}
@@ -20,7 +20,8 @@ use Rattle.protocol.specs.Order.{inOrder}
 use Rattle.protocol.specs.Outcomes.{Terms, Outcome, nobody, onlyTo}
 use Rattle.protocol.specs.Queries.{textIn}
 use Rattle.protocol.specs.Calls.{fresh}
-use Rattle.protocol.specs.Runs.{Area, Call, Open, Close, Message, Ask, Made, World, lent, outcomeOf, step, run, start}
+use Rattle.protocol.specs.Runs.{Area, Call, Open, Close, Message, Ask, Made, World, lent, outcomeOf, step, run}
+use Rattle.protocol.specs.Runs.{start}
 use Rattle.protocol.specs.Periods.{lifeLeft}
 use Rattle.protocol.specs.Kept.{Sized}
 use Rattle.protocol.specs.Arrived.{Areas, Arrived, SentIfArrived}
@@ -67,7 +68,8 @@ abbrev pub openings : ℕ → List Made → ℕ
 openings l [] = 0
 openings l (d ∷ ds) = cond (opened (d .call) (d .outcome .answer) l) (suc (openings l ds)) (openings l ds)
 
--- a taken query: its number, its asker as it was taken, whether that line has closed since, and how often it had been opened before
+-- a taken query: its number, its asker as it was taken, whether that line has closed since, and how often it had been
+-- opened before
 pub record Past : Type 0 where
   pub number : Number
   pub asker : ℕ
@@ -77,12 +79,14 @@ pub record Past : Type 0 where
 abbrev pub past : (ℕ → Bool) → Number → ℕ → ℕ → Past
 past shut x who n = record { number = x; asker = who; shut = shut who; opening = n }
 
--- all queries that were taken, the newest first, then those remembered before the log began; `shut` says which lines have closed since
+-- all queries that were taken, the newest first, then those remembered before the log began; `shut` says which lines
+-- have closed since
 unfoldable pub allTaken : (ℕ → Bool) → List Made → List Query → List Past
 allTaken shut [] base = map (λ q. past shut (q .number) (q .asker) 0) base
 allTaken shut (d ∷ ds) base =
     cond (took (d .call) (d .outcome .answer))
-    (past shut (broughtNumber (d .call)) (broughtBy (d .call)) (openings (broughtBy (d .call)) ds) ∷ allTaken shut ds base)
+    (past shut (broughtNumber (d .call)) (broughtBy (d .call)) (openings (broughtBy (d .call)) ds)
+    ∷ allTaken shut ds base)
     (allTaken (λ l. shut l || closed (d .call) (d .outcome .answer) l) ds base)
 
 -- the last n of them
@@ -99,7 +103,8 @@ SameBytes =
     → 16 ≤ length b
     → (sameNumber (numberIn a) (numberIn b) ≡ true) ↔ (numberOf a ≡ numberOf b)
 
--- where a query came from: not among the last n; here; a line that has not closed since, in its opening of this count; one that has
+-- where a query came from: not among the last n; here; a line that has not closed since, in its opening of this count;
+-- one that has
 pub data Origin : Type 0 where
   Unknown : Origin
   Here : Origin
@@ -111,7 +116,8 @@ pickOrigin true a b = a
 pickOrigin false a b = b
 
 abbrev pub originOf : Past → Origin
-originOf p = pickOrigin (eqb (p .asker) here) Here (pickOrigin (eqb (p .asker) gone || p .shut) Gone (From (p .asker) (p .opening)))
+originOf p = pickOrigin (eqb (p .asker) here) Here (pickOrigin (eqb (p .asker) gone || p .shut) Gone
+    (From (p .asker) (p .opening)))
 
 abbrev pub lookUp : List Past → Number → Origin
 lookUp [] x = Unknown
@@ -120,7 +126,8 @@ lookUp (p ∷ ps) x = pickOrigin (sameNumber (p .number) x) (originOf p) (lookUp
 abbrev pub origin : ℕ → List Made → List Query → Number → Origin
 origin n log base x = lookUp (lastTaken n log base) x
 
--- What stands in a state is this history: the remembered queries are the last n taken, the newest first, each with its asker now
+-- What stands in a state is this history: the remembered queries are the last n taken, the newest first, each with its
+-- asker now
 abbrev pub askerNow : Origin → ℕ
 askerNow Unknown = 10
 askerNow Here = here
@@ -159,8 +166,8 @@ pub record Answered (acceptable : Type 0) (from : Origin) (o : Outcome) : Type 0
   pub taken : (o .answer ≡ 0) ↔ (acceptable × (from ≡ Unknown))
   pub repeats : (o .answer ≡ 9) ↔ (acceptable × (from ≡ Unknown → ⊥))
 
--- a taken one goes, written once, to exactly the lines that are open, others than its own, with life 2 or more, that do not withhold it; it
--- is offered to the local search, and an own one is not
+-- a taken one goes, written once, to exactly the lines that are open, others than its own, with life 2 or more, that do
+-- not withhold it; it is offered to the local search, and an own one is not
 pub record QueryTo (limit : ℕ) (s : Station) (route : List ℕ) (l : ℕ) (m : List ℕ) (o : Outcome) : Type 0 where
   pub eight : length (o .to) ≡ 8
   pub to : (k : ℕ) → k < 8
@@ -169,20 +176,22 @@ pub record QueryTo (limit : ℕ) (s : Station) (route : List ℕ) (l : ℕ) (m :
       × (k ≡ l → ⊥)
       × (2 ≤ lifeLeft limit m)
       × (withholds (heldAt s k route) (keywordsOf (textIn (payloadOf m))) (lifeLeft limit m - 1) ≡ false))
-  pub sent : WrittenFor (o .to) (message (numberOf m) 0x80 (lifeLeft limit m - 1) (hopsOf m + 1) (payloadOf m)) (o .sent)
+  pub sent : WrittenFor (o .to) (message (numberOf m) 0x80 (lifeLeft limit m - 1) (hopsOf m + 1) (payloadOf m))
+      (o .sent)
   pub search : (o .search ≡ true) × (o .textat ≡ 25) × (o .textlen ≡ length (textIn (payloadOf m)))
   pub lines : o .state .lines ≡ s .lines
 
 pub record OwnTo (limit : ℕ) (s : Station) (route number text : List ℕ) (o : Outcome) : Type 0 where
   pub eight : length (o .to) ≡ 8
   pub to : (k : ℕ) → k < 8
-      → (getD (o .to) k false ≡ true) ↔ ((lineAt s k .live ≡ true) × (withholds (heldAt s k route) (keywordsOf text) limit ≡ false))
+      → (getD (o .to) k false ≡ true) ↔ ((lineAt s k .live ≡ true)
+      × (withholds (heldAt s k route) (keywordsOf text) limit ≡ false))
   pub sent : WrittenFor (o .to) (message number 0x80 limit 0 (0 ∷ 0 ∷ (text ++ (0 ∷ [])))) (o .sent)
   pub search : NotSearched o
   pub lines : o .state .lines ≡ s .lines
 
--- Hits. What one with TTL 1 or more and 27 bytes of payload is answered, by where its query came from. It goes back over a line that is
--- open, and that has been since the query came: it has been opened as often now as it had been then
+-- Hits. What one with TTL 1 or more and 27 bytes of payload is answered, by where its query came from. It goes back
+-- over a line that is open, and that has been since the query came: it has been opened as often now as it had been then
 abbrev pub HitBy : Origin → World → List ℕ → Outcome → Type 0
 HitBy Unknown w m o = o .answer ≡ 10
 HitBy Gone w m o = o .answer ≡ 11
@@ -204,27 +213,33 @@ pub record HitRouted (from : Origin) (w : World) (m : List ℕ) (o : Outcome) : 
   pub spent : 27 ≤ sizeOf m → ttlOf m ≡ 0 → o .answer ≡ 8
   pub by : 27 ≤ sizeOf m → 1 ≤ ttlOf m → HitBy from w m o
 
--- One call, with the world before it and the queries remembered before its log began. Whatever has arrived is decided by its type, and
--- nothing else is; a refused call sends nothing
-pub record MessageRouted (limit n : ℕ) (base : List Query) (w : World) (l : ℕ) (m : List ℕ) (out : ℕ) (route : List ℕ) (o : Outcome) : Type 0 where
+-- One call, with the world before it and the queries remembered before its log began. Whatever has arrived is decided
+-- by its type, and nothing else is; a refused call sends nothing
+pub record MessageRouted (limit n : ℕ) (base : List Query) (w : World) (l : ℕ) (m : List ℕ) (out : ℕ) (route : List ℕ)
+    (o : Outcome) : Type 0 where
   pub arrives : SentIfArrived (w .state) l m out route o
-  pub query : kindOf m ≡ 0x80 → Answered (Acceptable limit (w .state) l m out route) (origin n (w .log) base (numberIn m)) o
+  pub query : kindOf m ≡ 0x80 → Answered (Acceptable limit (w .state) l m out route)
+      (origin n (w .log) base (numberIn m)) o
   pub goes : kindOf m ≡ 0x80 → o .answer ≡ 0 → QueryTo limit (w .state) route l m o
   pub hit : kindOf m ≡ 0x81 → Arrived (w .state) l m out route → HitRouted (origin n (w .log) base (numberIn m)) w m o
   pub noHit : kindOf m ≡ 0x80 → NoHit 0x80 o
   pub pings : kindOf m ≡ 0x00 → NotSearched o
   -- an update changes its line's table and nothing else, and a refused one only that table's mark
   pub update : kindOf m ≡ 0x30 → Arrived (w .state) l m out route → TableOnly l (w .state) (o .state)
-  pub broken : kindOf m ≡ 0x30 → Arrived (w .state) l m out route → (o .answer ≡ 0 → ⊥) → MarkedBroken l (w .state) (o .state)
-  -- the route area is written by accepted updates alone, and by them within the entries of the line's table as it is then
+  pub broken : kindOf m ≡ 0x30 → Arrived (w .state) l m out route → (o .answer ≡ 0 → ⊥)
+      → MarkedBroken l (w .state) (o .state)
+  -- the route area is written by accepted updates alone, and by them within the entries of the line's table as it is
+  -- then
   pub area : ((kindOf m ≡ 0x30) × (o .answer ≡ 0) → ⊥) → o .route ≡ route
-  pub part : kindOf m ≡ 0x30 → o .answer ≡ 0 → PartOnly (w .state .room) l (lineAt (o .state) l .table .length) route (o .route)
+  pub part : kindOf m ≡ 0x30 → o .answer ≡ 0 → PartOnly (w .state .room) l (lineAt (o .state) l .table .length) route
+      (o .route)
   -- neither a ping, a query nor a hit
   pub others : (kindOf m ≡ 0x00 → ⊥) → (kindOf m ≡ 0x80 → ⊥) → (kindOf m ≡ 0x81 → ⊥) → Silent o
   pub refused : (o .answer ≡ 0 → ⊥) → Silent o
 
 -- the number of an own query has 16 bytes by its type, [u8; 16]
-pub record AskRouted (limit n : ℕ) (base : List Query) (w : World) (number text : List ℕ) (out : ℕ) (route : List ℕ) (o : Outcome) : Type 0 where
+pub record AskRouted (limit n : ℕ) (base : List Query) (w : World) (number text : List ℕ) (out : ℕ) (route : List ℕ)
+    (o : Outcome) : Type 0 where
   pub query : Answered (OwnAcceptable (w .state) text out route) (origin n (w .log) base (numberIn number)) o
   pub goes : o .answer ≡ 0 → OwnTo limit (w .state) route number text o
   pub noHit : length number ≡ 16 → NoHit 0x80 o
@@ -244,7 +259,8 @@ abbrev pub AllRouted : (limit n : ℕ) → List Query → World → List Call �
 AllRouted limit n base w [] = Unit {0}
 AllRouted limit n base w (c ∷ cs) = Routed limit n base w c (outcomeOf w c) × AllRouted limit n base (step w c) cs
 
--- every list of calls, with any areas, from any state in order, at the usual limit and capacity; from a fresh one nothing is remembered at the start
+-- every list of calls, with any areas, from any state in order, at the usual limit and capacity; from a fresh one
+-- nothing is remembered at the start
 abbrev pub Demand2 : Type 0
 Demand2 =
     (s : Station) (area : List ℕ) (cs : List Call)
@@ -252,7 +268,8 @@ Demand2 =
     → inOrder s ≡ true
     → AllRouted 7 capacity (remembered s) (start s area) cs
 
--- Gone stays gone: after any list, no later list makes a line or here of it; it only leaves, as one among those remembered no more
+-- Gone stays gone: after any list, no later list makes a line or here of it; it only leaves, as one among those
+-- remembered no more
 abbrev pub GoneForever : Type 0
 GoneForever =
     (s : Station) (area : List ℕ) (cs later : List Call) (x : Number)
@@ -260,10 +277,12 @@ GoneForever =
     → inOrder s ≡ true
     → origin capacity (run (start s area) cs .log) (remembered s) x ≡ Gone
     → (origin capacity (run (run (start s area) cs) later .log) (remembered s) x ≡ Gone)
-    ⊎ ((ps qs : List Call) × (later ≡ ps ++ qs) × (origin capacity (run (run (start s area) cs) ps .log) (remembered s) x ≡ Unknown))
+    ⊎ ((ps qs : List Call) × (later ≡ ps ++ qs)
+    × (origin capacity (run (run (start s area) cs) ps .log) (remembered s) x ≡ Unknown))
 
--- With the log laid open, from a fresh state: where a hit goes to line l, that line is open and some call of the log took a query with its
--- number by it; since then fewer than n were taken, the line was not closed, and it has been opened as often now as it had been then
+-- With the log laid open, from a fresh state: where a hit goes to line l, that line is open and some call of the log
+-- took a query with its number by it; since then fewer than n were taken, the line was not closed, and it has been
+-- opened as often now as it had been then
 abbrev pub takenIn : List Made → ℕ
 takenIn [] = 0
 takenIn (d ∷ ds) = cond (took (d .call) (d .outcome .answer)) (suc (takenIn ds)) (takenIn ds)

@@ -9,7 +9,8 @@
 --   an update answered 1 to 5 has not been sent: Expected `fed`, History `noted`
 --   the table is the expected one, mark, and length, Infinity and entries while there are any: `Stands`, live to closed
 --   an entry is Infinity and all that accepted PATCHes have brought to it after the newest RESET: `Stands`, sums
---   a query answered 0 goes to L exactly where RULES 7 and 8, read with what is expected, have it go: `Forwarded`, exactly
+-- a query answered 0 goes to L exactly where RULES 7 and 8, read with what is expected, have it go: `Forwarded`,
+-- exactly
 --   nothing is withheld while the opening has no accepted RESET: `Forwarded`, noReset
 --   nor while no run has ended after the newest one: `Forwarded`, noRun
 --   nor while a run is under way: `Forwarded`, midRun
@@ -77,7 +78,8 @@ MayGo limit e L l m = (e .live ≡ true) × (L ≡ l → ⊥) × (2 ≤ lifeLeft
 -- a query answered 0, with its text and the TTL to be sent. `may` says that it goes on to the line but for the line's
 -- table, and `sent` whether it was sent there. Before it e was expected of the line, and us are the updates of the
 -- line's opening until then
-pub record Forwarded (e : Expected) (us : List Update) (may : Type 0) (text : List ℕ) (ttl : ℕ) (sent : Bool) : Type 0 where
+pub record Forwarded (e : Expected) (us : List Update) (may : Type 0) (text : List ℕ) (ttl : ℕ)
+    (sent : Bool) : Type 0 where
   pub exactly : (sent ≡ true) ↔ (may × (Withheld e text ttl → ⊥))
   pub noReset : beforeReset us ≡ true → may → sent ≡ true
   pub noRun : beforeRun us ≡ true → may → sent ≡ true
@@ -99,14 +101,15 @@ Agrees limit L room e us (Message l m t a) o =
     → (o .answer ≡ expectedAnswer room e m) × Answers room us (updateIn m) (o .answer))
     × (o .answer ≡ 0 → kindOf m ≡ 0x80
     → Forwarded e us (MayGo limit e L l m) (textIn (payloadOf m)) (lifeLeft limit m - 1) (getD (o .to) L false))
-Agrees limit L room e us (Ask n text t a) o = o .answer ≡ 0 → Forwarded e us (e .live ≡ true) text limit (getD (o .to) L false)
+Agrees limit L room e us (Ask n text t a) o = o .answer ≡ 0 → Forwarded e us (e .live ≡ true) text limit
+    (getD (o .to) L false)
 
 -- the entries of a line in an area
 abbrev pub entriesAt : Station → ℕ → List ℕ → List ℕ
 entriesAt s l area = take (lineAt s l .table .length) (drop (l * s .room) area)
 
--- what stands of line L is what is expected, and what the updates of the opening come to. Of a closed line no entries are
--- expected; an open one without an accepted RESET has length 0
+-- what stands of line L is what is expected, and what the updates of the opening come to. Of a closed line no entries
+-- are expected; an open one without an accepted RESET has length 0
 pub record Stands (L room : ℕ) (e : Expected) (us : List Update) (s : Station) (area : List ℕ) : Type 0 where
   pub room′ : s .room ≡ room
   pub live : lineAt s L .live ≡ e .live

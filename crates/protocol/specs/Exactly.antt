@@ -1,6 +1,6 @@
--- Refusals exactly where RULES 2.1 has them, from outside: 1, 2 and 3 of a message, 7 of one that has arrived, 6 and 8 of a
--- query that has arrived, and 1, 2, 5 and 6 of an own query. (4 and 5 of a message: Extent; 9: Demand2; openings and
--- closings: Opened; pings and pongs: Pinged.)
+-- Refusals exactly where RULES 2.1 has them, from outside: 1, 2 and 3 of a message, 7 of one that has arrived, 6 and 8
+-- of a query that has arrived, and 1, 2, 5 and 6 of an own query. (4 and 5 of a message: Extent; 9: Demand2; openings
+-- and closings: Opened; pings and pongs: Pinged.)
 use Prim.Native.Nat.{ℕ, _/_, _≤_, _<_}
 use mathlib.Core.Path.{_≡_}
 use mathlib.Core.Bool.{true, false}

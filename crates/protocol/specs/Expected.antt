@@ -1,6 +1,7 @@
--- What a line's table is expected to be, from the calls alone (RULES 14; document 01: slate): a definition without code.
--- Of a call it gets what the call brings, but no state and no area, and of an answer only whether that is 1 to 5; and the
--- room. Nothing else reaches it.
+-- What a line's table is expected to be, from the calls alone (RULES 14; document 01: slate): a definition without
+-- code.
+-- Of a call it gets what the call brings, but no state and no area, and of an answer only whether that is 1 to 5; and
+-- the room. Nothing else reaches it.
 use Prim.Native.Nat.{ℕ}
 use mathlib.Core.Bool.{Bool, true, false, cond, _&&_}
 use mathlib.Core.List.{List, [], _∷_, map}

@@ -1,4 +1,5 @@
--- How much of a message must be there (RULES 2.3), from outside: with a state in order, areas that fit and an open line,
+-- How much of a message must be there (RULES 2.3), from outside: with a state in order, areas that fit and an open
+-- line,
 -- 4 and 5 are given exactly for these bytes. A header that is not whole comes first; the payload's size is looked at
 -- before its bytes.
 use Prim.Native.Nat.{ℕ, _+_, _≤_, _<_}

@@ -1,4 +1,5 @@
--- What calls leave alone (RULES 2.5, 2.6, 3.4, 12.15), and a line that begins anew: parts that several statements share.
+-- What calls leave alone (RULES 2.5, 2.6, 3.4, 12.15), and a line that begins anew: parts that several statements
+-- share.
 use Prim.Native.Nat.{ℕ, _+_, _*_}
 use mathlib.Core.Path.{_≡_}
 use mathlib.Core.Bool.{Bool, false}

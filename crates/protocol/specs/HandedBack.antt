@@ -10,7 +10,8 @@ use Rattle.protocol.specs.Outcomes.{Terms, Outcome}
 use Rattle.protocol.specs.Calls.{fresh, messageOutcome, messageReport, ownOutcome, ownReport}
 use Rattle.protocol.specs.Blind.{usedAfter}
 
--- of a message or an own query: each value is the outcome's, `written` counts the bytes that were sent, and n bytes are used
+-- of a message or an own query: each value is the outcome's, `written` counts the bytes that were sent, and n bytes are
+-- used
 pub record HandedBack (h : Report) (o : Outcome) (n : ℕ) : Type 0 where
   pub answer : h .answer ≡ o .answer
   pub used : h .used ≡ n
@@ -21,7 +22,8 @@ pub record HandedBack (h : Report) (o : Outcome) (n : ℕ) : Type 0 where
   pub textat : h .textat ≡ o .textat
   pub textlen : h .textlen ≡ o .textlen
 
--- both: a message uses nothing where its answer is 1 to 5, else its header and its payload; an own query uses no byte of a message
+-- both: a message uses nothing where its answer is 1 to 5, else its header and its payload; an own query uses no byte
+-- of a message
 pub record AllHanded : Type 0 where
   pub message : (s : Station) (l : ℕ) (m : List ℕ) (t : Terms) (route : List ℕ)
       → HandedBack (messageReport s l m t route) (messageOutcome s l m t route)

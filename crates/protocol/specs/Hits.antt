@@ -40,4 +40,5 @@ hitTaken x k m route =
 
 -- a hit by a line with this record, of whose number the look-up found k
 unfoldable pub hitStep : Line → Lookup → List ℕ → List ℕ → Step
-hitStep x k m route = refusedOr (firstOf (hitRules (headerIn m) k)) (record { line = x; taken = false }) route (hitTaken x k m route)
+hitStep x k m route = refusedOr (firstOf (hitRules (headerIn m) k)) (record { line = x; taken = false }) route
+    (hitTaken x k m route)

@@ -1,5 +1,5 @@
--- When a state is in order (RULES 4), in words of numbers and places alone, clause by clause, with none of the tests that
--- the contracts cite. It is exactly this.
+-- When a state is in order (RULES 4), in words of numbers and places alone, clause by clause, with none of the tests
+-- that the contracts cite. It is exactly this.
 use Prim.Native.Nat.{ℕ, _+_, _-_, _%_, _^_, _≤_, _<_}
 use mathlib.Core.Path.{_≡_}
 use mathlib.Core.Bool.{true, false}
@@ -70,14 +70,16 @@ AskerWords s a = ((a ≤ 7) × (lineAt s a .live ≡ true)) ⊎ ((a ≡ 8) ⊎ (
 
 -- two places hold one number: both halves of it are the same
 abbrev pub OneNumber : Station → ℕ → ℕ → Type 0
-OneNumber s p q = (getD (s .memory .lo) p 0 ≡ getD (s .memory .lo) q 0) × (getD (s .memory .hi) p 0 ≡ getD (s .memory .hi) q 0)
+OneNumber s p q = (getD (s .memory .lo) p 0 ≡ getD (s .memory .lo) q 0)
+    × (getD (s .memory .hi) p 0 ≡ getD (s .memory .hi) q 0)
 
 pub record InOrderWords (s : Station) : Type 0 where
   pub count : s .memory .count ≤ 512
   pub next : s .memory .next < 512
   pub once : (i j : ℕ) → i < j → j < s .memory .count
       → OneNumber s (queryPlace (s .memory .next) i) (queryPlace (s .memory .next) j) → ⊥
-  pub askers : (i : ℕ) → i < s .memory .count → AskerWords s (getD (s .memory .asker) (queryPlace (s .memory .next) i) 0)
+  pub askers : (i : ℕ) → i < s .memory .count
+      → AskerWords s (getD (s .memory .asker) (queryPlace (s .memory .next) i) 0)
   pub lines : (l : ℕ) → l < 8 → LineWords (s .room) (lineAt s l)
 
 -- a state whose arrays are as long as their types have them is in order exactly if these hold of it

@@ -1,4 +1,5 @@
--- What every call keeps: a state in order stays in order, a state out of order comes back untouched, and a refusal leaves what stands.
+-- What every call keeps: a state in order stays in order, a state out of order comes back untouched, and a refusal
+-- leaves what stands.
 -- And what a call does to the remembered queries and the stored pongs, as newest-first lists.
 use Prim.Native.Nat.{ℕ, _/_, _≤_, _<_}
 use mathlib.Core.Path.{_≡_}
@@ -59,7 +60,8 @@ OrderKept = (s : Station) → Sized s → inOrder s ≡ true → KeptByCalls s
 
 -- so does every list of calls
 abbrev pub OrderKeptByLists : Type 0
-OrderKeptByLists = (w : World) (cs : List Call) → Sized (w .state) → inOrder (w .state) ≡ true → Kept (w .state) (run w cs .state)
+OrderKeptByLists = (w : World) (cs : List Call) → Sized (w .state) → inOrder (w .state) ≡ true
+    → Kept (w .state) (run w cs .state)
 
 -- a state out of order is answered 1 and comes back as it was, with the area
 pub record AnsweredOne (s : Station) : Type 0 where
@@ -95,7 +97,8 @@ pub record RefusalsLeave (s : Station) : Type 0 where
   pub closes : (l : ℕ) → RefusedQuietly (closing s l) (λ n. s) []
   pub message : (l : ℕ) (m : List ℕ) (t : Terms) (route : List ℕ)
       → RefusedQuietly (messageOutcome s l m t route) (λ n. afterRefusal n s l m) route
-  pub asks : (number text : List ℕ) (out : ℕ) (route : List ℕ) → RefusedQuietly (ownOutcome s number text out route) (λ n. s) route
+  pub asks : (number text : List ℕ) (out : ℕ) (route : List ℕ) → RefusedQuietly (ownOutcome s number text out route)
+      (λ n. s) route
 
 -- RULES 3.6, 3.7: a fresh state over less than 32 bytes is refused by 2, and is handed back all the same, with room 0:
 -- nothing stands before it, and at the boundary it is written over the station that was lent. All its lines are closed

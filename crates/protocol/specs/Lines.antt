@@ -111,7 +111,8 @@ withPong x p =
 
 -- the stored pongs of a line, the newest first
 unfoldable pub storedPongs : Line → List Pong
-storedPongs x = map (λ p. getD (x .pongs) p (record { bytes = []; hops = 0; clock = 0 })) (keptPlaces pongCapacity (x .pongnext) (x .pongcount))
+storedPongs x = map (λ p. getD (x .pongs) p (record { bytes = []; hops = 0; clock = 0 }))
+    (keptPlaces pongCapacity (x .pongnext) (x .pongcount))
 
 -- the part of the route area that belongs to line l, and the table with its entries there
 abbrev pub partOf : ℕ → ℕ → List ℕ → List ℕ

@@ -24,7 +24,8 @@ gone = 9
 abbrev pub nobodyAsked : ℕ
 nobodyAsked = 10
 
--- the ring: the number of each query as two halves, its asker, how many are kept, and the place of the next. The code is lent these
+-- the ring: the number of each query as two halves, its asker, how many are kept, and the place of the next. The code
+-- is lent these
 pub record Memory : Type 0 where
   pub lo : List ℕ
   pub hi : List ℕ

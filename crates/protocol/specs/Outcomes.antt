@@ -12,7 +12,8 @@ use Rattle.protocol.specs.Lines.{eachLine}
 use Rattle.protocol.specs.Memory.{Number}
 use Rattle.protocol.specs.State.{Station, Change, stateAfter}
 
--- what a message or an own query brings besides: the caller's clock, what this station says of itself, and the length of the output area
+-- what a message or an own query brings besides: the caller's clock, what this station says of itself, and the length
+-- of the output area
 pub record Terms : Type 0 where
   pub clock : ℕ
   pub own : Own
@@ -21,8 +22,9 @@ pub record Terms : Type 0 where
 abbrev pub termsOf : ℕ → Own → ℕ → Terms
 termsOf clock own out = record { clock = clock; own = own; out = out }
 
--- the answer, what is left of the state, the lines sent to, the bytes written at the front of the output area, the route area after the call, the
--- text offered to the local search (its place and length in the message), and whether a hit is delivered here
+-- the answer, what is left of the state, the lines sent to, the bytes written at the front of the output area, the
+-- route area after the call, the text offered to the local search (its place and length in the message), and whether a
+-- hit is delivered here
 pub record Result (S : Type 0) : Type 0 where
   pub answer : ℕ
   pub state : S
@@ -51,66 +53,37 @@ onlyTo l = eachLine (eqb l)
 abbrev pub writtenFor : List Bool → List ℕ → List ℕ
 writtenFor to bytes = cond (any (λ b. b) to) bytes []
 
+-- a result of its nine parts, in their order: every constructor below is made by this one
+abbrev made : {S : Type 0} → ℕ → S → List Bool → List ℕ → List ℕ → Bool → ℕ → ℕ → Bool → Result S
+made answer state to sent route search textat textlen delivered =
+    record {
+      answer = answer;
+      state = state;
+      to = to;
+      sent = sent;
+      route = route;
+      search = search;
+      textat = textat;
+      textlen = textlen;
+      delivered = delivered;
+    }
+
 module _ {S : Type 0} where
   -- answered n, and nothing is sent, searched or delivered
   abbrev pub quiet : ℕ → S → List ℕ → Result S
-  quiet n s route =
-      record {
-        answer = n;
-        state = s;
-        to = nobody;
-        sent = [];
-        route = route;
-        search = false;
-        textat = 0;
-        textlen = 0;
-        delivered = false;
-      }
+  quiet n s route = made n s nobody [] route false 0 0 false
 
   -- the same, and these bytes are sent to these lines
   abbrev pub sends : List Bool → List ℕ → Result S → Result S
-  sends to bytes r =
-      record {
-        answer = r .answer;
-        state = r .state;
-        to = to;
-        sent = bytes;
-        route = r .route;
-        search = r .search;
-        textat = r .textat;
-        textlen = r .textlen;
-        delivered = r .delivered;
-      }
+  sends to bytes r = made (r .answer) (r .state) to bytes (r .route) (r .search) (r .textat) (r .textlen) (r .delivered)
 
   -- the same, and the text at this place of the message is offered to the local search
   abbrev pub searches : ℕ → ℕ → Result S → Result S
-  searches at n r =
-      record {
-        answer = r .answer;
-        state = r .state;
-        to = r .to;
-        sent = r .sent;
-        route = r .route;
-        search = true;
-        textat = at;
-        textlen = n;
-        delivered = r .delivered;
-      }
+  searches at n r = made (r .answer) (r .state) (r .to) (r .sent) (r .route) true at n (r .delivered)
 
   -- the same, and whether the hit is delivered here
   abbrev pub delivers : Bool → Result S → Result S
-  delivers b r =
-      record {
-        answer = r .answer;
-        state = r .state;
-        to = r .to;
-        sent = r .sent;
-        route = r .route;
-        search = r .search;
-        textat = r .textat;
-        textlen = r .textlen;
-        delivered = b;
-      }
+  delivers b r = made (r .answer) (r .state) (r .to) (r .sent) (r .route) (r .search) (r .textat) (r .textlen) b
 
   abbrev pub pickResult : Bool → Result S → Result S → Result S
   pickResult true a b = a
@@ -122,18 +95,7 @@ module _ {S : Type 0} where
 
   -- the same with another state
   abbrev pub leaving : {T : Type 0} → T → Result S → Result T
-  leaving t r =
-      record {
-        answer = r .answer;
-        state = t;
-        to = r .to;
-        sent = r .sent;
-        route = r .route;
-        search = r .search;
-        textat = r .textat;
-        textlen = r .textlen;
-        delivered = r .delivered;
-      }
+  leaving t r = made (r .answer) t (r .to) (r .sent) (r .route) (r .search) (r .textat) (r .textlen) (r .delivered)
 
   -- as a caller is told it, with the bytes used; the output and route areas are handed back in place
   abbrev pub reportOf : Result S → ℕ → Report

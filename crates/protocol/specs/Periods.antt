@@ -1,5 +1,5 @@
--- Demand 3 after a list of calls, without an expected table: which lines the next query goes on to, read off the updates of
--- the line's opening and off what then stands in state and route area. A corollary of specs/Demand3.
+-- Demand 3 after a list of calls, without an expected table: which lines the next query goes on to, read off the
+-- updates of the line's opening and off what then stands in state and route area. A corollary of specs/Demand3.
 use Prim.Native.Nat.{ℕ, _-_, _≤_}
 use mathlib.Core.Path.{_≡_}
 use mathlib.Core.Bool.{true, false}
@@ -33,7 +33,8 @@ pub record Forwards (limit : ℕ) (w : World) (L : ℕ) : Type 0 where
       → messageOutcome (w .state) l m t (w .area) .answer ≡ 0
       → kindOf m ≡ 0x80
       → (getD (messageOutcome (w .state) l m t (w .area) .to) L false ≡ true)
-      ↔ ((lineAt (w .state) L .live ≡ true) × (L ≡ l → ⊥) × (2 ≤ lifeLeft limit m) × (WithheldNow w L (textIn (payloadOf m)) (lifeLeft limit m - 1) → ⊥))
+      ↔ ((lineAt (w .state) L .live ≡ true) × (L ≡ l → ⊥) × (2 ≤ lifeLeft limit m)
+      × (WithheldNow w L (textIn (payloadOf m)) (lifeLeft limit m - 1) → ⊥))
   pub asks : (number text : List ℕ) (out : ℕ)
       → ownOutcome (w .state) number text out (w .area) .answer ≡ 0
       → (getD (ownOutcome (w .state) number text out (w .area) .to) L false ≡ true)

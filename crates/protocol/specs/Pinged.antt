@@ -18,9 +18,11 @@ use Rattle.protocol.specs.Pongs.{OwnThenStored}
 
 -- port, address, files and kilobytes: the 14 bytes of a pong
 abbrev pub ownBytesOf : Own → List ℕ
-ownBytesOf own = littleBytes 2 (own .port) ++ (own .address ++ (littleBytes 4 (own .files) ++ littleBytes 4 (own .kilobytes)))
+ownBytesOf own = littleBytes 2 (own .port)
+    ++ (own .address ++ (littleBytes 4 (own .files) ++ littleBytes 4 (own .kilobytes)))
 
--- a probe, TTL 1 with Hops 0 or 1: always the own pong, written once and with the ping's number, TTL 1 and Hops 0; the whole state stays
+-- a probe, TTL 1 with Hops 0 or 1: always the own pong, written once and with the ping's number, TTL 1 and Hops 0; the
+-- whole state stays
 pub record ProbeTaken (s : Station) (own : Own) (m : List ℕ) (o : Outcome) : Type 0 where
   pub answer : o .answer ≡ 0
   pub sent : o .sent ≡ message (numberOf m) 0x01 1 0 (ownBytesOf own)
@@ -40,8 +42,9 @@ pub record TimeKept (l clock : ℕ) (s s′ : Station) : Type 0 where
   pub beside : Beside l s s′
   pub memory : remembered s′ ≡ remembered s
 
--- any other ping: 13 exactly if it comes too soon, else 0 and the time is kept; then the own pong goes out if the station takes calls, with the
--- ping's number, TTL the ping's Hops, or 1 where those are 0, and Hops 0; and after it up to ten stored pongs (RULES 10.4)
+-- any other ping: 13 exactly if it comes too soon, else 0 and the time is kept; then the own pong goes out if the
+-- station takes calls, with the ping's number, TTL the ping's Hops, or 1 where those are 0, and Hops 0; and after it up
+-- to ten stored pongs (RULES 10.4)
 pub record OtherPing (s : Station) (l clock : ℕ) (own : Own) (m : List ℕ) (o : Outcome) : Type 0 where
   pub soon : (o .answer ≡ 13) ↔ Soon s l clock
   pub taken : (o .answer ≡ 0) ↔ (Soon s l clock → ⊥)
@@ -69,7 +72,8 @@ pub record PongStored (l clock : ℕ) (m : List ℕ) (s s′ : Station) : Type 0
   pub beside : Beside l s s′
   pub memory : remembered s′ ≡ remembered s
 
--- 6 exactly if its payload is under 14 bytes, then 8 exactly if its TTL is 0 or its Hops over 7, else 0; it goes to nobody
+-- 6 exactly if its payload is under 14 bytes, then 8 exactly if its TTL is 0 or its Hops over 7, else 0; it goes to
+-- nobody
 pub record PongRouted (s : Station) (l clock : ℕ) (m : List ℕ) (o : Outcome) : Type 0 where
   pub short : (o .answer ≡ 6) ↔ (sizeOf m < 14)
   pub spent : (o .answer ≡ 8) ↔ ((14 ≤ sizeOf m) × ((ttlOf m ≡ 0) ⊎ (7 < hopsOf m)))
@@ -78,7 +82,8 @@ pub record PongRouted (s : Station) (l clock : ℕ) (m : List ℕ) (o : Outcome)
   pub silent : Silent o
 
 -- a message of either type; the own address has four bytes by its type, [u8; 4]
-pub record PingsRouted (s : Station) (l clock : ℕ) (own : Own) (m : List ℕ) (out : ℕ) (route : List ℕ) (o : Outcome) : Type 0 where
+pub record PingsRouted (s : Station) (l clock : ℕ) (own : Own) (m : List ℕ) (out : ℕ) (route : List ℕ)
+    (o : Outcome) : Type 0 where
   pub ping : kindOf m ≡ 0x00 → Arrived s l m out route → PingRouted s l clock own m o
   pub noHit : kindOf m ≡ 0x00 → length (own .address) ≡ 4 → NoHit 0x01 o
   pub pong : kindOf m ≡ 0x01 → Arrived s l m out route → PongRouted s l clock m o

@@ -69,7 +69,8 @@ abbrev pub storedBytes : List ℕ → ℕ → List Pong → List ℕ
 storedBytes number pingHops ps = flat (map (λ p. pongBytes number pingHops (oneHopMore (p .hops)) (p .bytes)) ps)
 
 abbrev pub ownPong : Own → List ℕ
-ownPong own = littleBytes 2 (own .port) ++ (own .address ++ (littleBytes 4 (own .files) ++ littleBytes 4 (own .kilobytes)))
+ownPong own = littleBytes 2 (own .port)
+    ++ (own .address ++ (littleBytes 4 (own .files) ++ littleBytes 4 (own .kilobytes)))
 
 -- the own pong: to a probe always, else where the station takes calls
 abbrev pub ownSent : Own → List ℕ → ℕ → Bool → List ℕ

@@ -25,7 +25,8 @@ pongAt s p = getD (storedPongs (lineAt s (p .line))) (p .rank) noPong
 abbrev pub Before : Place → Place → Type 0
 Before p q = (p .rank < q .rank) ⊎ ((p .rank ≡ q .rank) × (p .line < q .line))
 
--- a pong that may answer a ping from line l: another line stores it, and it is less than 15,000 ms old; a line keeps ten
+-- a pong that may answer a ping from line l: another line stores it, and it is less than 15,000 ms old; a line keeps
+-- ten
 pub record MayAnswer (s : Station) (l clock : ℕ) (p : Place) : Type 0 where
   pub line : p .line < 8
   pub other : p .line ≡ l → ⊥
@@ -45,8 +46,8 @@ pub record FirstTen (s : Station) (l clock : ℕ) (ps : List Place) : Type 0 whe
   pub order : (i j : ℕ) → i < j → j < length ps → Before (getD ps i firstPlace) (getD ps j firstPlace)
   pub rest : (p : Place) → MayAnswer s l clock p → Among ps p ⊎ ((length ps ≡ 10) × Before (getD ps 9 firstPlace) p)
 
--- the pongs at these places as they go out (RULES 10.6): the ping's number, TTL the ping's Hops, or 1 where those are 0,
--- one Hop more than stored, the stored bytes
+-- the pongs at these places as they go out (RULES 10.6): the ping's number, TTL the ping's Hops, or 1 where those are
+-- 0, one Hop more than stored, the stored bytes
 abbrev pub storedWritten : Station → List ℕ → List Place → List ℕ
 storedWritten s m [] = []
 storedWritten s m (p ∷ ps) =

@@ -70,19 +70,23 @@ queryOn limit m = message (numberOf m) queryType (lifeOf limit (headerIn m) - 1)
 -- the lines that an arriving query goes on to
 abbrev pub queryLines : ℕ → ℕ → List Line → ℕ → List ℕ → List ℕ → List Bool
 queryLines limit room lines l m route =
-    queryTo (lifeOf limit (headerIn m)) l (λ k. lineIn lines k .live) (λ k. heldFor room lines k route) (textIn (payloadOf m))
+    queryTo (lifeOf limit (headerIn m)) l (λ k. lineIn lines k .live) (λ k. heldFor room lines k route)
+    (textIn (payloadOf m))
 
--- a taken query is remembered with its line and offered to the local search; the text begins after the header and the speed
+-- a taken query is remembered with its line and offered to the local search; the text begins after the header and the
+-- speed
 abbrev pub queryTaken : ℕ → ℕ → List Line → ℕ → List ℕ → List ℕ → Step
 queryTaken limit room lines l m route =
     searches 25 (length (textIn (payloadOf m)))
-    (sends (queryLines limit room lines l m route) (writtenFor (queryLines limit room lines l m route) (queryOn limit m))
+    (sends (queryLines limit room lines l m route)
+    (writtenFor (queryLines limit room lines l m route) (queryOn limit m))
     (quiet 0 (record { line = lineIn lines l; taken = true }) route))
 
 -- an arriving query by line l, of whose number the look-up found k
 unfoldable pub queryStep : ℕ → ℕ → List Line → ℕ → Lookup → List ℕ → List ℕ → Step
 queryStep limit room lines l k m route =
-    refusedOr (firstOf (queryRules limit (headerIn m) (hasText (payloadOf m)) k)) (record { line = lineIn lines l; taken = false }) route
+    refusedOr (firstOf (queryRules limit (headerIn m) (hasText (payloadOf m)) k))
+    (record { line = lineIn lines l; taken = false }) route
     (queryTaken limit room lines l m route)
 
 -- own queries: TTL the limit, Hops 0, speed 0, to every line that is open and lets it pass (RULES 8)

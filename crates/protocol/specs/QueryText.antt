@@ -20,4 +20,5 @@ pub record Holds (text p : List ℕ) : Type 0 where
 
 -- a payload that holds a text has that one, and one that holds none is refused
 abbrev pub TextExactly : Type 0
-TextExactly = (p : List ℕ) → ((text : List ℕ) → Holds text p → textIn p ≡ text) × ((hasText p ≡ true) ↔ Holds (textIn p) p)
+TextExactly = (p : List ℕ) → ((text : List ℕ) → Holds text p → textIn p ≡ text)
+    × ((hasText p ≡ true) ↔ Holds (textIn p) p)

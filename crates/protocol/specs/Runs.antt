@@ -1,4 +1,5 @@
--- Lists of calls, and what they leave: the state, the route area, and the log of calls with their outcomes, the newest first.
+-- Lists of calls, and what they leave: the state, the route area, and the log of calls with their outcomes, the newest
+-- first.
 use Prim.Native.Nat.{ℕ, _/_}
 use mathlib.Core.Path.{_≡_}
 use mathlib.Core.Bool.{Bool}

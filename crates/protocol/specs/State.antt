@@ -1,5 +1,5 @@
--- The state of a station: one record, with the lines and the ring of remembered queries within. In code the room and the lines go by value and the
--- ring is lent.
+-- The state of a station: one record, with the lines and the ring of remembered queries within. In code the room and
+-- the lines go by value and the ring is lent.
 use Prim.Native.Nat.{ℕ}
 use mathlib.Core.Bool.{Bool, _&&_}
 use mathlib.Core.List.{List}

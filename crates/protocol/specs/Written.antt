@@ -17,8 +17,9 @@ pub record Part : Type 0 where
   pub hops : ℕ
   pub payload : List ℕ
 
--- a number has exactly 16 bytes and a payload at most 4,096: then the header tells where the message ends, and bytes can be cut into messages
--- in one way only. With a longer number allowed, a whole hit could pass for the beginning of a pong's number.
+-- a number has exactly 16 bytes and a payload at most 4,096: then the header tells where the message ends, and bytes
+-- can be cut into messages in one way only. With a longer number allowed, a whole hit could pass for the beginning of a
+-- pong's number.
 abbrev pub wellCut : Part → Bool
 wellCut p = eqb (length (p .number)) 16 && leb (length (p .payload)) 4096
 

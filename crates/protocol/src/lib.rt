@@ -1,16 +1,18 @@
-// Floor 3: what a station's state is made of, and what its calls bring and hand back. The rules of the calls are the definitions of specs/; the
-// history theorems about them are in proofs/. The code that meets them is crate station.
+// Floor 3: what a station's state is made of, and what its calls bring and hand back. The rules of the calls are the
+// definitions of specs/; the history theorems about them are in proofs/. The code that meets them stands in the crates
+// above.
 pub mod lines;
 
 use tables::Table;
+use wire::LARGEST_PAYLOAD;
 
 // Lines of a station, and queries that it remembers.
 pub const LINES: u32 = 8;
 
 pub const CAPACITY: usize = 512;
 
-// The askers of a remembered query that are no line: this station, a line that has closed since, and nobody, for a number that is not
-// remembered.
+// The askers of a remembered query that are no line: this station, a line that has closed since, and nobody, for a
+// number that is not remembered.
 pub const HERE: u8 = 8;
 
 pub const GONE: u8 = 9;
@@ -20,6 +22,12 @@ pub const NOBODY: u8 = 10;
 // The usual life of a query.
 pub const LIMIT: u8 = 7;
 
+// The most Hops of a pong that is stored: a number of its own, whatever the life of a query is.
+pub const PONG_HOPS: u8 = 7;
+
+// The longest text of an own query: two bytes of speed and a zero byte go with it.
+pub const LARGEST_TEXT: usize = LARGEST_PAYLOAD - 3;
+
 // A stored pong: its first 14 bytes, its Hops, and the clock of the call that brought it.
 #[repr(C)]
 pub struct Pong {
@@ -28,8 +36,8 @@ pub struct Pong {
     pub clock: u32,
 }
 
-// One line: whether it is open, the time of the last accepted ping, a ring of ten pongs, and its neighbour's table, whose entries are
-// in the route area.
+// One line: whether it is open, the time of the last accepted ping, a ring of ten pongs, and its neighbour's table,
+// whose entries are in the route area.
 #[repr(C)]
 pub struct Line {
     pub live: bool,
@@ -51,7 +59,8 @@ pub struct Own {
     pub calls: bool,
 }
 
-// What a look-up of a number finds among the remembered queries: whether it is there, how many were remembered after it, and who asked.
+// What a look-up of a number finds among the remembered queries: whether it is there, how many were remembered after
+// it, and who asked.
 #[repr(C)]
 pub struct Lookup {
     pub found: bool,
@@ -59,9 +68,9 @@ pub struct Lookup {
     pub asker: u8,
 }
 
-// What a caller is told of a message or an own query: the answer, the bytes it used of the message and wrote to the output area, the lines to
-// send those to, whether a query is offered to the local search (with its text's place and length in the message), and whether a hit is
-// delivered here.
+// What a caller is told of a message or an own query: the answer, the bytes it used of the message and wrote to the
+// output area, the lines to send those to, whether a query is offered to the local search (with its text's place and
+// length in the message), and whether a hit is delivered here.
 #[repr(C)]
 pub struct Report {
     pub answer: u8,

@@ -11,15 +11,13 @@ ghost use Rattle.protocol.specs.Hits.{hitRules};
 ghost use Rattle.protocol.specs.Calls.{unfitAreas, earlyRules, openingRules, closingRules, ownRules};
 use protocol::GONE;
 use protocol::HERE;
+use protocol::LARGEST_TEXT;
 use protocol::LINES;
 use protocol::Lookup;
 use wire::HEADER_SIZE;
 use wire::Header;
 use wire::LARGEST_MESSAGE;
 use wire::LARGEST_PAYLOAD;
-
-// The longest text of an own query: two bytes of speed and a zero byte go with it.
-const LARGEST_TEXT: usize = LARGEST_PAYLOAD - 3;
 
 // Do the areas that a message or an own query is lent not fit: one is too short, or the route area has another room?
 fn unfit_areas(room: usize, out: usize, route: usize) -> bool

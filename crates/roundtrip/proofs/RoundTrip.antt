@@ -20,7 +20,8 @@ use Rattle.tables.specs.declared.Table.{Table}
 use Rattle.tables.specs.Tables.{Held, settled, betweenRuns, tableInOrder, heldIn}
 use Rattle.tables.specs.Updates.{isPatch}
 use Rattle.tables.proofs.OrderLaws.{limits}
-use Rattle.tablemessages.specs.Writer.{baseOf, bitsFor, dataOf, partsOf, runOf, messagesOf, joined, resetPayload, update}
+use Rattle.tablemessages.specs.Writer.{baseOf, bitsFor, dataOf, partsOf, runOf, messagesOf, joined, resetPayload}
+use Rattle.tablemessages.specs.Writer.{update}
 use Rattle.tablemessages.specs.Writer.{writerAnswer, writerBytes, writerResult, writerOut}
 use Rattle.tablemessages.specs.RoundTrip.{after, runPayloads, payloadsOf, Stands, ReadAs, settledTable, settledAs}
 use Rattle.tablemessages.proofs.Whole.{Small, Whole, AllWhole, payloads-small, all-whole}

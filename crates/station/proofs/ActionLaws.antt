@@ -1,11 +1,12 @@
--- Steps as the code hands them on: refused or taken, with what was written; and the parts of a message that the steps read.
+-- Steps as the code hands them on: refused or taken, with what was written; and the parts of a message that the steps
+-- read.
 -- Assumes nothing.
 use Prim.Native.Nat.{ℕ, _+_, _-_, _*_, _/_, _≤_, _<_, min}
 use native.Mathlib.Omega.{arith}
 use native.Mathlib.Nat.{mul-le-mul-right}
 use mathlib.Core.Path.{_≡_, refl, sym, ap, ap₂, subst, _∙_}
-use mathlib.Core.Bool.{Bool, true, false, cond, not, _&&_, _||_}
-use mathlib.Core.List.{List, [], _∷_, _++_}
+use mathlib.Core.Bool.{Bool, true, false, cond, _||_}
+use mathlib.Core.List.{List, [], _∷_}
 use lib.Dec.{eqb, leb, ltb}
 use lib.ListN.{length, getD, take, drop, length-take, length-drop, length-set}
 use lib.Seq.{length-take-le}
@@ -16,18 +17,17 @@ use Rattle.laws.specs.Tests.{firstOf, any}
 use Rattle.laws.proofs.Refusals.{no-refusal, or-fst, or-snd}
 use Rattle.laws.proofs.Writing.{lent-part}
 use Rattle.wire.specs.declared.Header.{Header}
-use Rattle.wire.specs.Header.{headerIn, kindOf, ttlOf, hopsOf, sizeOf, payloadOf, numberOf, message, hitType, queryType}
-use Rattle.tables.specs.declared.Table.{Table}
+use Rattle.wire.specs.Header.{headerIn, kindOf, ttlOf, hopsOf, sizeOf, payloadOf, message, hitType, queryType}
 use Rattle.tables.specs.declared.Updated.{Updated}
 use Rattle.tables.specs.Tables.{Held, heldIn}
 use Rattle.tables.specs.Updates.{updateAnswer, updated, answered, partWith}
 use Rattle.protocol.specs.declared.Line.{Line}
 use Rattle.protocol.specs.declared.Lookup.{Lookup}
 use Rattle.protocol.specs.declared.Report.{Report}
-use Rattle.protocol.specs.Lines.{lineIn, withTable, partOf, heldFor, tablesIn}
-use Rattle.protocol.specs.State.{Change}
-use Rattle.protocol.specs.Outcomes.{Step, nobody, onlyTo, writtenFor, refusedOr}
-use Rattle.protocol.specs.Queries.{untilZero, textIn, hasText, queryOn, queryRules, lifeOf, queryTo, queryLines, queryTaken, queryStep}
+use Rattle.protocol.specs.Lines.{lineIn, withTable, partOf, heldFor}
+use Rattle.protocol.specs.Outcomes.{Step, onlyTo, writtenFor, refusedOr}
+use Rattle.protocol.specs.Queries.{untilZero, textIn, hasText, queryOn, queryRules, lifeOf, queryTo, queryLines}
+use Rattle.protocol.specs.Queries.{queryTaken, queryStep}
 use Rattle.protocol.specs.Hits.{hitOn, hitRules, hitTaken, hitStep}
 use Rattle.protocol.specs.Calls.{updateStep}
 use Rattle.protocol.proofs.Updates.{updated-within}
@@ -35,11 +35,11 @@ use Rattle.forwarding.specs.Messages.{passable, passedOn, countIf, writtenIf, p
 use Rattle.forwarding.specs.declared.texts.Text.{Text}
 use Rattle.forwarding.specs.Texts.{textOf}
 use Rattle.forwarding.specs.Passing.{heldOf}
-use Rattle.forwarding.proofs.MessageLaws.{passed-message}
+use Rattle.forwarding.proofs.MessageLaws.{query-bytes, hit-bytes}
 use Rattle.forwarding.proofs.TextLaws.{until-stops}
 use Rattle.station.specs.declared.actions.Action.{Action}
 use Rattle.station.specs.declared.lines.View.{View}
-use Rattle.station.specs.Actions.{actionOf, viewOf, quietReport, quietAction, Does, Whole, Sendable}
+use Rattle.station.specs.Actions.{actionOf, viewOf, quietReport, quietAction, Does, Sendable}
 
 -- ---- a step that is picked by its number
 
@@ -47,11 +47,13 @@ abbrev picked : ℕ → Line → List ℕ → Step → Step
 picked n x area r = refusedOr n (record { line = x; taken = false }) area r
 
 module _ (n : ℕ) (x : Line) (area : List ℕ) (r : Step) (out : List ℕ) where
-  pub step-refused : {a : ℕ} {act : Action} → a ≡ n → (a ≡ 0 → ⊥) → act ≡ quietAction a x → Does (picked n x area r) act out out
+  pub step-refused : {a : ℕ} {act : Action} → a ≡ n → (a ≡ 0 → ⊥) → act ≡ quietAction a x
+      → Does (picked n x area r) act out out
   step-refused e z ea =
       rw (ne-eqb n 0 (λ y. z (e ∙ y))) (record { action = ea ∙ ap (λ k. quietAction k x) e; output = refl })
 
-  pub step-taken : {a : ℕ} {act : Action} {out′ : List ℕ} → a ≡ n → a ≡ 0 → Does r act out out′ → Does (picked n x area r) act out out′
+  pub step-taken : {a : ℕ} {act : Action} {out′ : List ℕ} → a ≡ n → a ≡ 0 → Does r act out out′
+      → Does (picked n x area r) act out out′
   step-taken e z d = rw (eq-eqb n 0 (sym e ∙ z)) d
 
 -- ---- the parts of a message
@@ -75,7 +77,8 @@ module _ (room l : ℕ) (x : Line) (m route : List ℕ) (inside : l * room + roo
   lent-is = let w : l * room + room - l * room ≡ room = omega arith in rw w
 
   lent-long : length lent ≡ room
-  lent-long = ap length lent-is ∙ length-take-le room (drop (l * room) route) (omega (arith, length-drop (l * room) route))
+  lent-long = ap length lent-is ∙ length-take-le room (drop (l * room) route)
+      (omega (arith, length-drop (l * room) route))
 
   abbrev answerOf : ℕ → List ℕ → List ℕ → ℕ
   answerOf n part p = updateAnswer n (heldIn (x .table) part) (ttlOf m) (hopsOf m) p
@@ -85,7 +88,8 @@ module _ (room l : ℕ) (x : Line) (m route : List ℕ) (inside : l * room + roo
 
   front : (n : ℕ) (part p : List ℕ) → length part ≡ n → length (heldAfter n part p .entries) ≤ n
   front n part p e =
-      updated-within n (heldIn (x .table) part) (ttlOf m) (hopsOf m) p (omega (arith, length-take (x .table .length) part))
+      updated-within n (heldIn (x .table) part) (ttlOf m) (hopsOf m) p
+      (omega (arith, length-take (x .table .length) part))
 
   -- what the reader's function ensures of a header and a payload
   abbrev Read : Header → List ℕ → Updated → List ℕ → Type 0
@@ -103,15 +107,19 @@ module _ (room l : ℕ) (x : Line) (m route : List ℕ) (inside : l * room + roo
   update-done h {u} {left} eh both er =
       let p : List ℕ = take (23 + sizeOf m - 23) (drop 23 m) in
       let ep : p ≡ payloadOf m = payload-part m (sizeOf m) refl in
-      let read : Read (headerIn m) p u left = subst (λ (h : Header). Read h (take (23 + h .size - 23) (drop 23 m)) u left) eh both in
+      let read : Read (headerIn m) p u left =
+      subst (λ (h : Header). Read h (take (23 + h .size - 23) (drop 23 m)) u left) eh both in
       let eu = read .0 in
       let el = read .1 in
-      let inner : length (heldAfter (length lent) lent p .entries) ≤ room = omega (arith, front (length lent) lent p refl, lent-long) in (
+      let inner : length (heldAfter (length lent) lent p .entries) ≤ room =
+      omega (arith, front (length lent) lent p refl, lent-long) in (
         er
             ∙ ap (λ (v : Updated). quietAction (v .answer) (withTable x (v .table))) eu
             ∙ ap₂ (λ n q. quietAction (answerOf n q p) (withTable x (heldAfter n q p .table))) lent-long lent-is
-            ∙ ap (λ q. quietAction (answerOf room (partOf room l route) q) (withTable x (heldAfter room (partOf room l route) q .table))) ep,
-        lent-part (l * room) (l * room + room - l * room) (heldAfter (length lent) lent p .entries) route _ (omega arith) (omega arith) el
+            ∙ ap (λ q. quietAction (answerOf room (partOf room l route) q)
+            (withTable x (heldAfter room (partOf room l route) q .table))) ep,
+        lent-part (l * room) (l * room + room - l * room) (heldAfter (length lent) lent p .entries) route _
+            (omega arith) (omega arith) el
             ∙ ap₂ (λ n q. over (l * room) (heldAfter n q p .entries) route) lent-long lent-is
             ∙ ap (λ q. over (l * room) (heldAfter room (partOf room l route) q .entries) route) ep,
       )
@@ -121,28 +129,37 @@ module _ (room l : ℕ) (x : Line) (m route : List ℕ) (inside : l * room + roo
 passed-length : (m : List ℕ) (n ttl hops : ℕ) → n ≤ length m → length (passedOn m n ttl hops) ≡ n
 passed-length m n ttl hops h = simp length-set (length-take-le n m h)
 
-module _ (m out : List ℕ) (size : ℕ) (es : size ≡ sizeOf m) (whole : 23 + sizeOf m ≤ length m) (small : sizeOf m ≤ 4096)
-    (room : 4119 ≤ length out) where
-  fits : passable m (23 + size) out ≡ true
+module _ {h : Header} {kind : ℕ} (m out : List ℕ) (p : Sendable h kind m (length out)) where
+  pub size-is : h .size ≡ sizeOf m
+  size-is = ap (λ (h : Header). h .size) (p .message .header)
+
+  kind-is : kindOf m ≡ kind
+  kind-is = sym (ap (λ (h : Header). h .kind) (p .message .header)) ∙ p .kind′
+
+  fits : passable m (23 + h .size) out ≡ true
   fits =
-      let w : 23 + size ≤ length m = omega (arith, es) in
-      let r : 23 + size ≤ length out = omega (arith, es) in
-      rw (le-leb 23 (23 + size) (omega arith), le-leb (23 + size) (length m) w, le-leb (23 + size) (length out) r)
+      let w : 23 + h .size ≤ length m = omega (arith, size-is, p .message .whole) in
+      let r : 23 + h .size ≤ length out = omega (arith, size-is, p .message .small, p .output) in
+      rw (
+        le-leb 23 (23 + h .size) (omega arith),
+        le-leb (23 + h .size) (length m) w,
+        le-leb (23 + h .size) (length out) r,
+      )
 
   -- its bytes and their number, where they are such a message
   module _ (ttl hops : ℕ) {bytes : List ℕ} (eb : passedOn m (23 + sizeOf m) ttl hops ≡ bytes) where
-    pub pass-bytes : {o : List ℕ} → o ≡ passedInto m (23 + size) ttl hops out → o ≡ over 0 bytes out
+    pass-bytes : {o : List ℕ} → o ≡ passedInto m (23 + h .size) ttl hops out → o ≡ over 0 bytes out
     pass-bytes e =
         e
-        ∙ ap (λ b. writtenIf b (passedOn m (23 + size) ttl hops) out) fits
-        ∙ ap (λ l. over 0 l out) (ap (λ k. passedOn m (23 + k) ttl hops) es ∙ eb)
+        ∙ ap (λ b. writtenIf b (passedOn m (23 + h .size) ttl hops) out) fits
+        ∙ ap (λ l. over 0 l out) (ap (λ k. passedOn m (23 + k) ttl hops) size-is ∙ eb)
 
-    pub pass-count : {w : ℕ} → w ≡ countIf (passable m (23 + size) out) (23 + size) → w ≡ length bytes
+    pass-count : {w : ℕ} → w ≡ countIf (passable m (23 + h .size) out) (23 + h .size) → w ≡ length bytes
     pass-count e =
         e
-        ∙ ap (λ b. countIf b (23 + size)) fits
-        ∙ ap (λ k. 23 + k) es
-        ∙ sym (passed-length m (23 + sizeOf m) ttl hops whole)
+        ∙ ap (λ b. countIf b (23 + h .size)) fits
+        ∙ ap (λ k. 23 + k) size-is
+        ∙ sym (passed-length m (23 + sizeOf m) ttl hops (p .message .whole))
         ∙ ap length eb
 
 -- ---- a hit
@@ -184,34 +201,47 @@ module _ (h : Header) (k : Lookup) {a : ℕ} (e : a ≡ firstOf (hitRules h k)) 
       let p = no-refusal (hitRules h k) refl (sym e ∙ z) in
       let t : eqb (h .ttl) 1 ≡ false = rw (ne-eqb (k .asker) 8 ne) at (p .1 .1 .1 .1 .0) in
       let u : eqb (h .hops) 255 ≡ false = rw (ne-eqb (k .asker) 8 ne) at (p .1 .1 .1 .1 .1 .0) in
-      record { lives = omega (arith, eqb-false (h .ttl) 0 (p .1 .0), eqb-false (h .ttl) 1 t); rises = eqb-false (h .hops) 255 u }
+      record {
+        lives = omega (arith, eqb-false (h .ttl) 0 (p .1 .0), eqb-false (h .ttl) 1 t);
+        rises = eqb-false (h .hops) 255 u;
+      }
 
-module _ (x : Line) (h : Header) (k : Lookup) (m area out : List ℕ) (eh : h ≡ headerIn m) {a : ℕ} (e : a ≡ firstOf (hitRules h k)) where
+module _ (x : Line) (h : Header) (k : Lookup) (m area out : List ℕ) (p : Sendable h hitType m (length out)) {a : ℕ}
+    (e : a ≡ firstOf (hitRules h k)) where
   hit-number : a ≡ firstOf (hitRules (headerIn m) k)
-  hit-number = e ∙ ap (λ (h : Header). firstOf (hitRules h k)) eh
+  hit-number = e ∙ ap (λ (h : Header). firstOf (hitRules h k)) (p .message .header)
 
   pub hit-refused : {act : Action} → (a ≡ 0 → ⊥) → act ≡ quietAction a x → Does (hitStep x k m area) act out out
   unfolding hitStep
   hit-refused z ea = step-refused _ x area (hitTaken x k m area) out hit-number z ea
 
   module _ (z : a ≡ 0) {q : Report} (eq : q ≡ quietReport 0) where
-    pub hit-here : k .asker ≡ 8 → Does (hitStep x k m area) (record { report = deliveredIn q; line = x; remember = false }) out out
+    pub hit-here : k .asker ≡ 8 → Does (hitStep x k m area)
+        (record { report = deliveredIn q; line = x; remember = false }) out out
     unfolding hitStep
     hit-here f =
         let t = eq-eqb (k .asker) 8 f in
         step-taken _ x area (hitTaken x k m area) out hit-number z
-        (record { action = ap (λ (q : Report). record { report = deliveredIn q; line = x; remember = false }) eq ∙ rw t; output = rw t })
+        (record {
+          action = ap (λ (q : Report). record { report = deliveredIn q; line = x; remember = false }) eq ∙ rw t;
+          output = rw t;
+        })
 
-    pub hit-on : {w : ℕ} {to : List Bool} {out′ : List ℕ} → (k .asker ≡ 8 → ⊥) → w ≡ length (hitOn m) → to ≡ onlyTo (k .asker)
-        → out′ ≡ over 0 (hitOn m) out
+    pub hit-on : {w : ℕ} {to : List Bool} {out′ : List ℕ} → (k .asker ≡ 8 → ⊥) → ((i : ℕ) → getD m i 0 < 256)
+        → w ≡ countIf (passable m (23 + h .size) out) (23 + h .size) → to ≡ onlyTo (k .asker)
+        → out′ ≡ passedInto m (23 + h .size) (h .ttl - 1) (h .hops + 1) out
         → Does (hitStep x k m area) (record { report = sentIn q w to; line = x; remember = false }) out out′
     unfolding hitStep
-    hit-on {w} {to} f ew et eo =
+    hit-on {w} {to} f bytes ew et eo =
         let t = ne-eqb (k .asker) 8 f in
+        let eb = hit-bytes m (p .message .whole) bytes (kind-is m out p) in
+        let ends =
+        ap (λ (j : Header). passedInto m (23 + h .size) (j .ttl - 1) (j .hops + 1) out) (p .message .header) in
         step-taken _ x area (hitTaken x k m area) out hit-number z
         (record {
-          action = ap (λ (q : Report). record { report = sentIn q w to; line = x; remember = false }) eq ∙ rw (t, ew, et);
-          output = rw t eo;
+          action = ap (λ (q : Report). record { report = sentIn q w to; line = x; remember = false }) eq
+              ∙ rw (t, pass-count m out p _ _ eb ew, et);
+          output = rw t (pass-bytes m out p _ _ eb (eo ∙ ends));
         })
 
 -- ---- a query's text, its life and its lines
@@ -240,7 +270,8 @@ pub record Taken (limit : ℕ) (h : Header) (ended : Bool) : Type 0 where
   pub lives : 0 < h .ttl
   pub rises : h .hops < limit
 
-pub query-goes : (limit : ℕ) (h : Header) (ended : Bool) (k : Lookup) {a : ℕ} → a ≡ firstOf (queryRules limit h ended k) → a ≡ 0 → Taken limit h ended
+pub query-goes : (limit : ℕ) (h : Header) (ended : Bool) (k : Lookup) {a : ℕ} → a ≡ firstOf (queryRules limit h ended k)
+    → a ≡ 0 → Taken limit h ended
 query-goes limit h ended k e z =
     let p = no-refusal (queryRules limit h ended k) refl (sym e ∙ z) in
     let r : (ltb 15 (h .ttl) || leb limit (h .hops)) ≡ false = or-snd (eqb (h .ttl) 0) _ (p .1 .0) in
@@ -252,7 +283,8 @@ query-goes limit h ended k e z =
     }
 
 -- what is read off a query: whether a text ends, and how long it is
-module _ (m : List ℕ) (size : ℕ) (es : size ≡ sizeOf m) (t : Text) (et : t ≡ textOf (take (23 + size - 23) (drop 23 m))) where
+module _ (m : List ℕ) (size : ℕ) (es : size ≡ sizeOf m) (t : Text)
+    (et : t ≡ textOf (take (23 + size - 23) (drop 23 m))) where
   abbrev part : List ℕ
   part = take (23 + size - 23) (drop 23 m)
 
@@ -266,7 +298,8 @@ module _ (m : List ℕ) (size : ℕ) (es : size ≡ sizeOf m) (t : Text) (et : t
   asked-length = ap (λ (u : Text). u .length) text-is
 
   pub asked-within : t .ended ≡ true → 2 + t .length ≤ length part
-  asked-within e = text-within part (t .length) (ap (λ (u : Text). u .length) et) (sym (ap (λ (u : Text). u .ended) et) ∙ e)
+  asked-within e = text-within part (t .length) (ap (λ (u : Text). u .length) et)
+      (sym (ap (λ (u : Text). u .ended) et) ∙ e)
 
   pub asked-fits : t .ended ≡ true → 2 + t .length ≤ size
   asked-fits e = omega (arith, asked-within e, length-take (23 + size - 23) (drop 23 m))
@@ -288,12 +321,14 @@ searchedIn q w to n =
     }
 
 module _ (limit room : ℕ) (lines : List Line) (l : ℕ) (m route out : List ℕ) where
-  pub query-done : {q : Report} {w n : ℕ} {to : List Bool} {x : Line} {out′ : List ℕ} → q ≡ quietReport 0 → x ≡ lineIn lines l
+  pub query-done : {q : Report} {w n : ℕ} {to : List Bool} {x : Line} {out′ : List ℕ} → q ≡ quietReport 0
+      → x ≡ lineIn lines l
       → to ≡ queryLines limit room lines l m route
       → w ≡ cond (any (λ b. b) (queryLines limit room lines l m route)) (length (queryOn limit m)) 0
       → n ≡ length (textIn (payloadOf m))
       → out′ ≡ over 0 (writtenFor (queryLines limit room lines l m route) (queryOn limit m)) out
-      → Does (queryTaken limit room lines l m route) (record { report = searchedIn q w to n; line = x; remember = true }) out out′
+      → Does (queryTaken limit room lines l m route)
+      (record { report = searchedIn q w to n; line = x; remember = true }) out out′
   query-done {q} {w} {n} {to} {x} eq ex et ew en eo =
       record {
         action = ap (λ (q : Report). record { report = searchedIn q w to n; line = x; remember = true }) eq
@@ -305,24 +340,21 @@ module _ (limit room : ℕ) (lines : List Line) (l : ℕ) (m route out : List �
       counted true = refl
       counted false = refl
 
-pub tables-are : (lines : List Line) {a b c d e f g h : Table} → a ≡ lineIn lines 0 .table → b ≡ lineIn lines 1 .table
-    → c ≡ lineIn lines 2 .table → d ≡ lineIn lines 3 .table → e ≡ lineIn lines 4 .table → f ≡ lineIn lines 5 .table
-    → g ≡ lineIn lines 6 .table → h ≡ lineIn lines 7 .table → (a ∷ b ∷ c ∷ d ∷ e ∷ f ∷ g ∷ h ∷ []) ≡ tablesIn lines
-tables-are lines ea eb ec ed ee ef eg eh = rw (ea, eb, ec, ed, ee, ef, eg, eh)
-
 -- ---- a query, given what is read off the lines and off the message
 
-module _ (limit room l : ℕ) (v : View) (h : Header) (k : Lookup) (m out route : List ℕ) (p : Sendable h queryType m (length out))
-    (t : Text) (et : t ≡ textOf (take (23 + h .size - 23) (drop 23 m))) {a : ℕ} (e : a ≡ firstOf (queryRules limit h (t .ended) k)) where
-  size-is : h .size ≡ sizeOf m
-  size-is = ap (λ (h : Header). h .size) (p .message .header)
-
+module _ (limit room l : ℕ) (v : View) (h : Header) (k : Lookup) (m out route : List ℕ)
+    (p : Sendable h queryType m (length out))
+    (t : Text) (et : t ≡ textOf (take (23 + h .size - 23) (drop 23 m)))
+    {a : ℕ} (e : a ≡ firstOf (queryRules limit h (t .ended) k)) where
   query-number : a ≡ firstOf (queryRules limit (headerIn m) (hasText (payloadOf m)) k)
   query-number =
-      e ∙ ap₂ (λ (h : Header) b. firstOf (queryRules limit h b k)) (p .message .header) (asked-ended m (h .size) size-is t et)
+      e
+      ∙ ap₂ (λ (h : Header) b. firstOf (queryRules limit h b k)) (p .message .header)
+      (asked-ended m (h .size) (size-is m out p) t et)
 
   module _ (lines : List Line) (ev : v ≡ viewOf lines room l) where
-    pub query-refused : {act : Action} → (a ≡ 0 → ⊥) → act ≡ quietAction a (v .line) → Does (queryStep limit room lines l k m route) act out out
+    pub query-refused : {act : Action} → (a ≡ 0 → ⊥) → act ≡ quietAction a (v .line)
+        → Does (queryStep limit room lines l k m route) act out out
     unfolding queryStep
     query-refused z ea =
         step-refused _ (lineIn lines l) route (queryTaken limit room lines l m route) out query-number z
@@ -335,7 +367,10 @@ module _ (limit room l : ℕ) (v : View) (h : Header) (k : Lookup) (m out route 
         {some : Bool} (es : some ≡ any (λ b. b) to) {w : ℕ}
         (ew : w ≡ cond some (countIf (passable m (23 + h .size) out) (23 + h .size)) 0) {out′ : List ℕ}
         (eo : out′ ≡ cond some (passedInto m (23 + h .size) (life - 1) (h .hops + 1) out) out)
-        (eb : passedOn m (23 + sizeOf m) (lifeOf limit (headerIn m) - 1) (hopsOf m + 1) ≡ queryOn limit m) where
+        (bytes : (i : ℕ) → getD m i 0 < 256) where
+      as-sent : passedOn m (23 + sizeOf m) (lifeOf limit (headerIn m) - 1) (hopsOf m + 1) ≡ queryOn limit m
+      as-sent = query-bytes m (p .message .whole) bytes limit (kind-is m out p)
+
       life-is : life ≡ lifeOf limit (headerIn m)
       life-is = el ∙ ap (lifeOf limit) (p .message .header)
 
@@ -345,29 +380,32 @@ module _ (limit room l : ℕ) (v : View) (h : Header) (k : Lookup) (m out route 
           ∙ ap (λ (v : View). queryTo life l (λ k. getD (v .live) k false) (λ k. heldOf (v .tables) room route k)
           (take (2 + t .length - 2) (drop 2 (take (23 + h .size - 23) (drop 23 m))))) ev
           ∙ ap₂ (λ f w. queryTo f l (λ k. lineIn lines k .live) (λ k. heldFor room lines k route) w) life-is
-          (asked-text m (h .size) size-is t et)
+          (asked-text m (h .size) (size-is m out p) t et)
 
       some-is : some ≡ any (λ b. b) (queryLines limit room lines l m route)
       some-is = es ∙ ap (any (λ b. b)) to-is
 
-      bytes-by : (b : Bool) → cond b (passedInto m (23 + h .size) (life - 1) (h .hops + 1) out) out ≡ over 0 (cond b (queryOn limit m) []) out
+      bytes-by : (b : Bool) → cond b (passedInto m (23 + h .size) (life - 1) (h .hops + 1) out) out
+          ≡ over 0 (cond b (queryOn limit m) []) out
       bytes-by true =
           ap₂ (λ f (h′ : Header). passedInto m (23 + h .size) (f - 1) (h′ .hops + 1) out) life-is (p .message .header)
-          ∙ pass-bytes m out (h .size) size-is (p .message .whole) (p .message .small) (p .output) _ _ eb refl
+          ∙ pass-bytes m out p _ _ as-sent refl
       bytes-by false = refl
 
-      count-by : (b : Bool) → cond b (countIf (passable m (23 + h .size) out) (23 + h .size)) 0 ≡ cond b (length (queryOn limit m)) 0
-      count-by true = pass-count m out (h .size) size-is (p .message .whole) (p .message .small) (p .output) _ _ eb refl
+      count-by : (b : Bool) → cond b (countIf (passable m (23 + h .size) out) (23 + h .size)) 0
+          ≡ cond b (length (queryOn limit m)) 0
+      count-by true = pass-count m out p _ _ as-sent refl
       count-by false = refl
 
       pub query-passed : {q : Report} → q ≡ quietReport 0
-          → Does (queryStep limit room lines l k m route) (record { report = searchedIn q w to (t .length); line = v .line; remember = true }) out out′
+          → Does (queryStep limit room lines l k m route)
+          (record { report = searchedIn q w to (t .length); line = v .line; remember = true }) out out′
       unfolding queryStep
       query-passed eq =
           step-taken _ (lineIn lines l) route (queryTaken limit room lines l m route) out query-number z
           (query-done limit room lines l m route out eq (ap (λ (v : View). v .line) ev) to-is
           (ew ∙ ap (λ b. cond b (countIf (passable m (23 + h .size) out) (23 + h .size)) 0) some-is
           ∙ count-by (any (λ b. b) (queryLines limit room lines l m route)))
-          (asked-length m (h .size) size-is t et)
+          (asked-length m (h .size) (size-is m out p) t et)
           (eo ∙ ap (λ b. cond b (passedInto m (23 + h .size) (life - 1) (h .hops + 1) out) out) some-is
           ∙ bytes-by (any (λ b. b) (queryLines limit room lines l m route))))

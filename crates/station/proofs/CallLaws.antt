@@ -1,5 +1,6 @@
--- The calls from their parts: what a message does by its type, its first refusal, and the state after a call. A line's number counts modulo
--- eight: where it is over seven, the call is refused, and what stands there is stored again.
+-- The calls from their parts: what a message does by its type, its first refusal, and what a call leaves, given what
+-- the ring is surveyed to be. A line's number counts modulo eight: where it is over seven, the call is refused, and
+-- what stands there is stored again.
 -- Assumes nothing.
 use Prim.Native.Nat.{ℕ, _+_, _/_, _%_, _≤_, _<_}
 use native.Mathlib.Omega.{arith}
@@ -52,9 +53,10 @@ use Rattle.protocol.specs.Memory.{
   leftAll,
 }
 use Rattle.protocol.specs.Lines.{lineIn, livesIn, nowhere, emptyLine, withPong}
-use Rattle.protocol.specs.State.{Station, Change, stationOf, lookedUp, lineAt, withLine}
+use Rattle.protocol.specs.State.{Station, Change, stationOf, lookedUp, lineAt, withLine, withMemory, stateAfter}
 use Rattle.protocol.specs.Order.{linesInOrder, inOrder}
-use Rattle.protocol.specs.Outcomes.{Terms, Result, Outcome, Step, quiet, sends, writtenFor, pickResult, refusedOr, stored, unused, usedOf}
+use Rattle.protocol.specs.Outcomes.{Terms, Result, Outcome, Step, quiet, sends, writtenFor, pickResult, refusedOr}
+use Rattle.protocol.specs.Outcomes.{stored, unused, usedOf}
 use Rattle.protocol.specs.Queries.{usualLimit, hasText, queryRules, queryTaken, queryStep, ownTo, ownLines, ownBytes}
 use Rattle.protocol.specs.Hits.{hitStep, hitRules, hitTaken}
 use Rattle.protocol.specs.Pings.{pingStep, pingRules, pingTaken, pongStep, pongRules, arrivedPong}
@@ -91,13 +93,16 @@ use Rattle.station.specs.declared.actions.Action.{Action}
 use Rattle.forwarding.specs.Messages.{sendable, countIf, writtenIf, ownInto}
 use Rattle.forwarding.specs.Passing.{heldOf}
 use Rattle.station.specs.declared.lines.View.{View}
+use Rattle.station.specs.declared.changes.LineChange.{LineChange}
 use Rattle.station.specs.Actions.{actionOf, viewOf, quietReport, quietAction, Does, Whole, Fit, acting}
-use Rattle.station.specs.Calls.{Met, MessageMet, OwnMet, Changed, ownSent, Sends}
+use Rattle.station.specs.Calls.{Met, OwnMet, Changed, bothInOrder, changedBy, openedBy, closedBy, firstRefusal}
+use Rattle.station.specs.Calls.{arrivalStep, Handed, changeBy, Arrives, askedState, ownFirst, ownSent, Sends}
 use Rattle.station.proofs.ActionLaws.{sentIn, step-refused}
 
 -- ---- what a message does by its type
 
--- a step that is refused by n or else r leaves the route area, where r does; one that writes nothing leaves the output area
+-- a step that is refused by n or else r leaves the route area, where r does; one that writes nothing leaves the output
+-- area
 module _ (n : ℕ) (c : Change) (route : List ℕ) (r : Step) where
   route-by : (b : Bool) → r .route ≡ route → route ≡ pickResult b r (quiet n c route) .route
   route-by true e = sym e
@@ -114,92 +119,139 @@ module _ (n : ℕ) (c : Change) (route : List ℕ) (r : Step) where
   silent out e = silent-by out (eqb n 0) e
 
 module _ (room : ℕ) (lines : List Line) (l : ℕ) (k : Lookup) (m : List ℕ) (t : Terms) (route out : List ℕ) where
-  abbrev unchanged : Change
-  unchanged = record { line = lineIn lines l; taken = false }
-
   -- a message whose first refusal is n is done, with the route area after it
   abbrev Done : ℕ → Action → List ℕ → List ℕ → Type 0
-  Done n a out′ route′ = Does (acting n room lines l k m t route) a out out′ × (route′ ≡ acting n room lines l k m t route .route)
+  Done n a out′ route′ = Does (acting n room lines l k m t route) a out out′
+      × (route′ ≡ acting n room lines l k m t route .route)
 
-  pub act-refused : {n : ℕ} {a : Action} → (n ≡ 0 → ⊥) → a ≡ quietAction n (lineIn lines l) → Done n a out route
-  act-refused {n} z ea = (
-    step-refused n (lineIn lines l) route (byType usualLimit room lines l k m t route) out refl z ea,
+  pub act-refused : {n : ℕ} {x : Line} {a : Action} → x ≡ lineIn lines l → (n ≡ 0 → ⊥) → a ≡ quietAction n x
+      → Done n a out route
+  act-refused {n} ex z ea = (
+    step-refused n (lineIn lines l) route (byType usualLimit room lines l k m t route) out refl z
+        (ea ∙ ap (λ (x : Line). quietAction n x) ex),
     rw (ne-eqb n 0 z),
   )
 
-  module _ {n : ℕ} (z : n ≡ 0) (h : Header) (eh : h ≡ headerIn m) where
-    kind-is : kindOf m ≡ h .kind
-    kind-is = sym (ap (λ (h : Header). h .kind) eh)
+-- a message that no first refusal has met, its header, and types that are not its own
+abbrev NoneOf : List ℕ → List ℕ → Type 0
+NoneOf m [] = Unit {0}
+NoneOf m (kind ∷ kinds) = (eqb (kindOf m) kind ≡ false) × NoneOf m kinds
 
-    -- it is done as its type's step is
-    by-step : (r : Step) {a : Action} {out′ route′ : List ℕ} → byType usualLimit room lines l k m t route ≡ r
-        → Does r a out out′ → route′ ≡ r .route → Done n a out′ route′
-    by-step r {a} {out′} {route′} e d f =
-        rw (eq-eqb n 0 z) (subst (λ (r : Step). Does r a out out′ × (route′ ≡ r .route)) (sym e) (d, f))
+pub record Other (n : ℕ) (h : Header) (m kinds : List ℕ) : Type 0 where
+  pub unrefused : n ≡ 0
+  pub header : h ≡ headerIn m
+  pub others : NoneOf m kinds
 
-    pub act-ping : h .kind ≡ pingType → {a : Action} {out′ : List ℕ} → ((area : List ℕ) → Does (pingStep lines l t m area) a out out′) → Done n a out′ route
+module _ {n : ℕ} {h : Header} {m kinds : List ℕ} (o : Other n h m kinds) (kind : ℕ) where
+  kind-is : kindOf m ≡ h .kind
+  kind-is = sym (ap (λ (h : Header). h .kind) (o .header))
+
+  its : h .kind ≡ kind → eqb (kindOf m) kind ≡ true
+  its e = eq-eqb (kindOf m) kind (kind-is ∙ e)
+
+  pub not-its : (h .kind ≡ kind → ⊥) → Other n h m (kind ∷ kinds)
+  not-its e =
+      record {
+        unrefused = o .unrefused;
+        header = o .header;
+        others = (ne-eqb (kindOf m) kind (λ f. e (sym kind-is ∙ f)), o .others);
+      }
+
+-- the types in the order in which they are asked for: all before the hit's are not its own
+abbrev pub afterPing : List ℕ
+afterPing = pingType ∷ []
+
+abbrev pub afterPong : List ℕ
+afterPong = pongType ∷ afterPing
+
+abbrev pub afterUpdate : List ℕ
+afterUpdate = routeUpdate ∷ afterPong
+
+abbrev pub afterQuery : List ℕ
+afterQuery = queryType ∷ afterUpdate
+
+abbrev pub afterHit : List ℕ
+afterHit = hitType ∷ afterQuery
+
+-- it is done as its type's step is; x is its line's record as the step has it
+module _ (room : ℕ) (lines : List Line) (l : ℕ) (k : Lookup) (m : List ℕ) (t : Terms) (route out : List ℕ) where
+  abbrev unchanged : Change
+  unchanged = record { line = lineIn lines l; taken = false }
+
+  by-step : {n : ℕ} (r : Step) {a : Action} {out′ route′ : List ℕ} → n ≡ 0
+      → byType usualLimit room lines l k m t route ≡ r
+      → Does r a out out′ → route′ ≡ r .route → Done room lines l k m t route out n a out′ route′
+  by-step {n} r {a} {out′} {route′} z e d f =
+      rw (eq-eqb n 0 z) (subst (λ (r : Step). Does r a out out′ × (route′ ≡ r .route)) (sym e) (d, f))
+
+  module _ {n : ℕ} {h : Header} {a : Action} where
+    pub act-ping : Other n h m [] → h .kind ≡ pingType → {out′ : List ℕ}
+        → ((area : List ℕ) → Does (pingStep lines l t m area) a out out′)
+        → Done room lines l k m t route out n a out′ route
     unfolding byType pingStep
-    act-ping e1 d =
-        by-step (pingStep lines l t m route) (rw (eq-eqb (kindOf m) pingType (kind-is ∙ e1))) (d route)
-        (route-kept (firstOf (pingRules (lineIn lines l .pinged) (lineIn lines l .pingtime) (t .clock) (headerIn m))) unchanged route
+    act-ping o e d =
+        by-step (pingStep lines l t m route) (o .unrefused) (rw (its o pingType e)) (d route)
+        (route-kept (firstOf (pingRules (lineIn lines l .pinged) (lineIn lines l .pingtime) (t .clock) (headerIn m)))
+        unchanged route
         (pingTaken lines l t m route) refl)
 
-    module _ (n1 : h .kind ≡ pingType → ⊥) where
-      t1 : eqb (kindOf m) pingType ≡ false
-      t1 = ne-eqb (kindOf m) pingType (λ e. n1 (sym kind-is ∙ e))
+    pub act-pong : {x : Line} → x ≡ lineIn lines l → Other n h m afterPing → h .kind ≡ pongType
+        → ((area : List ℕ) → a ≡ actionOf (pongStep x (t .clock) m area))
+        → Done room lines l k m t route out n a out route
+    unfolding byType pongStep
+    act-pong ex o e d =
+        by-step (pongStep (lineIn lines l) (t .clock) m route) (o .unrefused) (rw (o .others .0, its o pongType e))
+        (record {
+          action = d route ∙ ap (λ (x : Line). actionOf (pongStep x (t .clock) m route)) ex;
+          output = silent (firstOf (pongRules (headerIn m))) unchanged route stays out refl;
+        })
+        (route-kept (firstOf (pongRules (headerIn m))) unchanged route stays refl)
+      where
+        stays : Step
+        stays = quiet 0 (record { line = withPong (lineIn lines l) (arrivedPong (t .clock) m); taken = false }) route
 
-      pub act-pong : h .kind ≡ pongType → {a : Action} → ((area : List ℕ) → a ≡ actionOf (pongStep (lineIn lines l) (t .clock) m area)) → Done n a out route
-      unfolding byType pongStep
-      act-pong e2 d =
-          by-step (pongStep (lineIn lines l) (t .clock) m route) (rw (t1, eq-eqb (kindOf m) pongType (kind-is ∙ e2)))
-          (record { action = d route; output = silent (firstOf (pongRules (headerIn m))) unchanged route stays out refl })
-          (route-kept (firstOf (pongRules (headerIn m))) unchanged route stays refl)
-        where
-          stays : Step
-          stays = quiet 0 (record { line = withPong (lineIn lines l) (arrivedPong (t .clock) m); taken = false }) route
+    pub act-update : {x : Line} → x ≡ lineIn lines l → Other n h m afterPong → h .kind ≡ routeUpdate → {route′ : List ℕ}
+        → a ≡ actionOf (updateStep room l x m route) → route′ ≡ updateStep room l x m route .route
+        → Done room lines l k m t route out n a out route′
+    unfolding byType updateStep
+    act-update ex o e d f =
+        by-step (updateStep room l (lineIn lines l) m route) (o .unrefused)
+        (rw (o .others .1 .0, o .others .0, its o routeUpdate e))
+        (record { action = d ∙ ap (λ (x : Line). actionOf (updateStep room l x m route)) ex; output = refl })
+        (f ∙ ap (λ (x : Line). updateStep room l x m route .route) ex)
 
-      module _ (n2 : h .kind ≡ pongType → ⊥) where
-        t2 : eqb (kindOf m) pongType ≡ false
-        t2 = ne-eqb (kindOf m) pongType (λ e. n2 (sym kind-is ∙ e))
+    pub act-query : Other n h m afterUpdate → h .kind ≡ queryType → {out′ : List ℕ}
+        → Does (queryStep usualLimit room lines l k m route) a out out′
+        → Done room lines l k m t route out n a out′ route
+    unfolding byType queryStep
+    act-query o e d =
+        by-step (queryStep usualLimit room lines l k m route) (o .unrefused)
+        (rw (o .others .1 .1 .0, o .others .1 .0, o .others .0, its o queryType e)) d
+        (route-kept (firstOf (queryRules usualLimit (headerIn m) (hasText (payloadOf m)) k)) unchanged route
+        (queryTaken usualLimit room lines l m route) refl)
 
-        pub act-update : h .kind ≡ routeUpdate → {a : Action} {route′ : List ℕ} → a ≡ actionOf (updateStep room l (lineIn lines l) m route)
-            → route′ ≡ updateStep room l (lineIn lines l) m route .route → Done n a out route′
-        unfolding byType updateStep
-        act-update e3 d f =
-            by-step (updateStep room l (lineIn lines l) m route) (rw (t1, t2, eq-eqb (kindOf m) routeUpdate (kind-is ∙ e3)))
-            (record { action = d; output = refl }) f
+    pub act-hit : {x : Line} → x ≡ lineIn lines l → Other n h m afterQuery → h .kind ≡ hitType → {out′ : List ℕ}
+        → ((area : List ℕ) → Does (hitStep x k m area) a out out′) → Done room lines l k m t route out n a out′ route
+    unfolding byType hitStep
+    act-hit ex o e {out′} d =
+        by-step (hitStep (lineIn lines l) k m route) (o .unrefused)
+        (rw (o .others .1 .1 .1 .0, o .others .1 .1 .0, o .others .1 .0, o .others .0, its o hitType e))
+        (subst (λ (x : Line). Does (hitStep x k m route) a out out′) ex (d route))
+        (route-kept (firstOf (hitRules (headerIn m) k)) unchanged route (hitTaken (lineIn lines l) k m route) refl)
 
-        module _ (n3 : h .kind ≡ routeUpdate → ⊥) where
-          t3 : eqb (kindOf m) routeUpdate ≡ false
-          t3 = ne-eqb (kindOf m) routeUpdate (λ e. n3 (sym kind-is ∙ e))
-
-          pub act-query : h .kind ≡ queryType → {a : Action} {out′ : List ℕ} → Does (queryStep usualLimit room lines l k m route) a out out′ → Done n a out′ route
-          unfolding byType queryStep
-          act-query e4 d =
-              by-step (queryStep usualLimit room lines l k m route) (rw (t1, t2, t3, eq-eqb (kindOf m) queryType (kind-is ∙ e4))) d
-              (route-kept (firstOf (queryRules usualLimit (headerIn m) (hasText (payloadOf m)) k)) unchanged route
-              (queryTaken usualLimit room lines l m route) refl)
-
-          module _ (n4 : h .kind ≡ queryType → ⊥) where
-            t4 : eqb (kindOf m) queryType ≡ false
-            t4 = ne-eqb (kindOf m) queryType (λ e. n4 (sym kind-is ∙ e))
-
-            pub act-hit : h .kind ≡ hitType → {a : Action} {out′ : List ℕ} → ((area : List ℕ) → Does (hitStep (lineIn lines l) k m area) a out out′) → Done n a out′ route
-            unfolding byType hitStep
-            act-hit e5 d =
-                by-step (hitStep (lineIn lines l) k m route) (rw (t1, t2, t3, t4, eq-eqb (kindOf m) hitType (kind-is ∙ e5))) (d route)
-                (route-kept (firstOf (hitRules (headerIn m) k)) unchanged route (hitTaken (lineIn lines l) k m route) refl)
-
-            pub act-none : (h .kind ≡ hitType → ⊥) → {a : Action} → a ≡ quietAction 7 (lineIn lines l) → Done n a out route
-            unfolding byType
-            act-none n5 d =
-                by-step (quiet 7 (record { line = lineIn lines l; taken = false }) route)
-                (rw (t1, t2, t3, t4, ne-eqb (kindOf m) hitType (λ e. n5 (sym kind-is ∙ e)))) (record { action = d; output = refl }) refl
+    pub act-none : {x : Line} → x ≡ lineIn lines l → Other n h m afterHit → a ≡ quietAction 7 x
+        → Done room lines l k m t route out n a out route
+    unfolding byType
+    act-none ex o d =
+        by-step (quiet 7 unchanged route) (o .unrefused)
+        (rw (o .others .1 .1 .1 .1 .0, o .others .1 .1 .1 .0, o .others .1 .1 .0, o .others .1 .0, o .others .0))
+        (record { action = d ∙ ap (λ (x : Line). quietAction 7 x) ex; output = refl }) refl
 
 -- ---- the first refusal of a call, given what is read off the lines
 
 -- a test of every element, from element i on
-pub all-from : {A : Type 0} (f : A → Bool) (l : List A) (i : ℕ) (d : A) → i < length l → all f (drop i l) ≡ (f (getD l i d) && all f (drop (i + 1) l))
+pub all-from : {A : Type 0} (f : A → Bool) (l : List A) (i : ℕ) (d : A) → i < length l → all f (drop i l)
+    ≡ (f (getD l i d) && all f (drop (i + 1) l))
 all-from f l i d h = ap (all f) (drop-cons l i d h) ∙ ap (λ n. f (getD l i d) && all f (drop n l)) (sym (add-one i))
 
 -- a test of every element is another where the two agree
@@ -215,86 +267,104 @@ module _ (room : ℕ) (lines : List Line) (q : Memory) where
   fits-same a = by (ltb a 8) refl
     where
       by : (b : Bool) → ltb a 8 ≡ b
-          → ((b && getD (livesIn lines) a false) || (eqb a here || eqb a gone)) ≡ ((b && lineIn lines a .live) || (eqb a here || eqb a gone))
+          → ((b && getD (livesIn lines) a false) || (eqb a here || eqb a gone))
+          ≡ ((b && lineIn lines a .live) || (eqb a here || eqb a gone))
       by true e =
           let h : a < 8 = ltb-true a 8 e in
           ap (λ b. b || (eqb a here || eqb a gone)) (eachLine-at (λ k. lineIn lines k .live) a (omega arith))
       by false e = refl
 
   -- the state is in order where its memory and its lines are
-  pub order-is : {b : Bool} → b ≡ (memoryInOrder capacity (λ k. getD (livesIn lines) k false) q && linesInOrder room lines) → b ≡ inOrder state
+  pub order-is : {b : Bool} → b ≡ (memoryInOrder capacity (λ k. getD (livesIn lines) k false) q && linesInOrder room
+      lines) → b ≡ inOrder state
   unfolding inOrder memoryInOrder
   order-is e =
-      e ∙ ap (λ x. every (leb (q .count) capacity ∷ ltb (q .next) capacity ∷ noTwice (queriesIn capacity q) ∷ x ∷ []) && linesInOrder room lines)
+      e ∙ ap (λ x. every (leb (q .count) capacity ∷ ltb (q .next) capacity ∷ noTwice (queriesIn capacity q) ∷ x ∷ [])
+      && linesInOrder room lines)
       (all-same _ _ (λ x. fits-same (x .asker)) (queriesIn capacity q))
 
   module _ (line : ℕ) where
     -- a test of a line that is asked only of the eight
-    same-test : (f : Line → Bool) → (not (ltb line 8) || f (lineIn lines (line % 8))) ≡ (not (ltb line 8) || f (lineIn lines line))
+    same-test : (f : Line → Bool) → (not (ltb line 8) || f (lineIn lines (line % 8)))
+        ≡ (not (ltb line 8) || f (lineIn lines line))
     same-test f = by (ltb line 8) refl
       where
         by : (b : Bool) → ltb line 8 ≡ b → (not b || f (lineIn lines (line % 8))) ≡ (not b || f (lineIn lines line))
         by true e = let h : line < 8 = ltb-true line 8 e in let k : line % 8 ≡ line = omega arith in rw k
         by false e = refl
 
-    pub early-is : (m : List ℕ) (out route : ℕ) {n : ℕ} {order live : Bool} {size : ℕ} → order ≡ inOrder state → live ≡ lineIn lines (line % 8) .live
-        → size ≡ sizeOf m → n ≡ firstOf (earlyRules order room out route line live (length m) size) → n ≡ early state line m out route
+    pub early-is : (m : List ℕ) (out route : ℕ) {n : ℕ} {order live : Bool} {size : ℕ} → order ≡ inOrder state
+        → live ≡ lineIn lines (line % 8) .live
+        → size ≡ sizeOf m → n ≡ firstOf (earlyRules order room out route line live (length m) size)
+        → n ≡ early state line m out route
     unfolding early
     early-is m out route eo el es en =
         en
         ∙ rw (eo, el, es)
-        (ap (λ x. firstOf ((not (inOrder state), 1) ∷ (unfitAreas room out route, 2) ∷ (x, 3) ∷ extentRules (length m) (sizeOf m)))
+        (ap (λ x. firstOf ((not (inOrder state), 1) ∷ (unfitAreas room out route, 2) ∷ (x, 3) ∷ extentRules (length m)
+        (sizeOf m)))
         (same-test (λ x. not (x .live))))
 
 -- given what is read off the lines
 module _ (lines : List Line) (room l : ℕ) {v : View} (ev : v ≡ viewOf lines room l) where
-  pub live-in-view : v .line .live ≡ lineIn lines l .live
-  live-in-view = ap (λ (v : View). v .line .live) ev
+  pub order-in-view : (order : Bool) → (order && v .order) ≡ bothInOrder order room lines
+  order-in-view order = ap (λ (v : View). order && v .order) ev
 
-  pub line-in-view : (b : Bool) (x : Line) {y : Line} → y ≡ cond b x (v .line) → y ≡ cond b x (lineIn lines l)
-  line-in-view b x e = e ∙ ap (λ (v : View). cond b x (v .line)) ev
-
-pub survey-order : (room : ℕ) (lines : List Line) (q : Memory) (l : ℕ) {v : View} {b : Bool} → v ≡ viewOf lines room l
-    → b ≡ (memoryInOrder capacity (λ k. getD (v .live) k false) q && v .order) → b ≡ inOrder (state room lines q)
-survey-order room lines q l {v} ev e =
-    order-is room lines q (e ∙ ap (λ (v : View). memoryInOrder capacity (λ k. getD (v .live) k false) q && v .order) ev)
+  -- a line opened or closed: its record as it stands, or, where the answer is 0, another
+  pub changed-is : (f : Bool → Bool → ℕ) (order live : Bool) {n : ℕ} → n ≡ f (order && v .order) (v .line .live)
+      → {y : Line} → y ≡ cond (eqb n 0) (emptyLine live) (v .line)
+      → _≡_ {A = LineChange} (record { answer = n; line = y })
+      (changedBy (f (bothInOrder order room lines) (lineIn lines l .live)) live (lineIn lines l))
+  changed-is f order live en ey =
+      rw ey (ap (λ k. changedBy k live (v .line)) en)
+      ∙ ap (λ (v : View). changedBy (f (order && v .order) (v .line .live)) live (v .line)) ev
 
 pub line-is : (lines : List Line) (room l : ℕ) {v : View} → v ≡ viewOf lines room l → v .line ≡ lineIn lines l
 line-is lines room l ev = ap (λ (v : View). v .line) ev
 
-pub hit-line : {x y : Line} → x ≡ y → (k : Lookup) (m : List ℕ) {a : Action} {out out′ : List ℕ}
-    → ((area : List ℕ) → Does (hitStep x k m area) a out out′) → (area : List ℕ) → Does (hitStep y k m area) a out out′
-hit-line e k m {a} {out} {out′} d area = subst (λ (x : Line). Does (hitStep x k m area) a out out′) e (d area)
+-- how the ring is surveyed, given the lines that are open: the station is in order where the ring and the lines are
+pub surveyed-order : (room : ℕ) (lines : List Line) (q : Memory) {live : List Bool} → live ≡ livesIn lines
+    → {order : Bool} → order ≡ memoryInOrder capacity (λ k. getD live k false) q
+    → bothInOrder order room lines ≡ inOrder (state room lines q)
+surveyed-order room lines q el e =
+    order-is room lines q
+    (ap (λ b. b && linesInOrder room lines)
+    (e ∙ ap (λ (live : List Bool). memoryInOrder capacity (λ k. getD live k false) q) el))
 
--- the number of a message by its header
+-- the number of a message by its header: what the ring knows of it, and what the ring is after it
 module _ (m : List ℕ) {h : Header} (eh : h ≡ headerIn m) (q : Memory) where
   pub known-is : {k : Lookup} → k ≡ lookupOf (find (queriesIn capacity q) (numberFrom (h .lo) (h .hi)))
       → k ≡ lookupOf (find (queriesIn capacity q) (numberIn m))
   known-is e = e ∙ ap (λ (h : Header). lookupOf (find (queriesIn capacity q) (numberFrom (h .lo) (h .hi)))) eh
 
-  pub ring-after : (taken : Bool) (who : ℕ) {q′ : Memory} → q′ ≡ rememberIf taken capacity q (numberFrom (h .lo) (h .hi)) who
+  pub ring-after : (taken : Bool) (who : ℕ) {q′ : Memory} → q′ ≡ rememberIf taken capacity q
+      (numberFrom (h .lo) (h .hi)) who
       → q′ ≡ rememberIf taken capacity q (numberIn m) who
   ring-after taken who e = e ∙ ap (λ (h : Header). rememberIf taken capacity q (numberFrom (h .lo) (h .hi)) who) eh
 
--- the first refusal of a message, and what it does, from what the survey and the header say
-module _ (room : ℕ) (lines : List Line) (q : Memory) (line : ℕ) {v : View} (ev : v ≡ viewOf lines room (line % 8)) {h : Header} (m : List ℕ)
-    (eh : h ≡ headerIn m) where
-  live-at : getD (v .live) (line % 8) false ≡ lineIn lines (line % 8) .live
-  live-at =
-      ap (λ (v : View). getD (v .live) (line % 8) false) ev ∙ eachLine-at (λ k. lineIn lines k .live) (line % 8) (omega arith)
+-- a message with no first refusal came by one of the eight lines, is whole, and has areas that fit
+module _ (order : Bool) (room out route line : ℕ) (live : Bool) (m : List ℕ) (h : Header) (eh : h ≡ headerIn m) {n : ℕ}
+    (en : n ≡ firstOf (earlyRules order room out route line live (length m) (h .size))) (z : n ≡ 0) where
+  none : NoRefusal (earlyRules order room out route line live (length m) (h .size))
+  none = no-refusal (earlyRules order room out route line live (length m) (h .size)) refl (sym en ∙ z)
 
-  pub first-is : (out route : ℕ) {n : ℕ} {order : Bool} → order ≡ (memoryInOrder capacity (λ k. getD (v .live) k false) q && v .order)
-      → n ≡ firstOf (earlyRules order room out route line (getD (v .live) (line % 8) false) (length m) (h .size))
-      → n ≡ early (state room lines q) line m out route
-  first-is out route eo en =
-      early-is room lines q line m out route (survey-order room lines q (line % 8) ev eo) live-at (ap (λ (h : Header). h .size) eh) en
+  below : line < 8
+  below = ltb-true line 8 (not-false (ltb line 8) (or-fst (not (ltb line 8)) (not live) (none .1 .1 .0)))
 
-  pub acted-is : (t : Terms) (route out : List ℕ) (n : ℕ) (a : Action) (out′ route′ : List ℕ) {known : Lookup}
-      → known ≡ lookupOf (find (queriesIn capacity q) (numberFrom (h .lo) (h .hi)))
-      → Done room lines (line % 8) known m t route out n a out′ route′
-      → Done room lines (line % 8) (lookedUp (state room lines q) (numberIn m)) m t route out n a out′ route′
-  acted-is t route out n a out′ route′ ek d =
-      subst (λ (k : Lookup). Done room lines (line % 8) k m t route out n a out′ route′) (known-is m eh q ek) d
+  pub message-fits : Fit room h m out route
+  message-fits =
+      let es = ap (λ (h : Header). h .size) eh in
+      let a : otherRoom room route ≡ false = or-snd (ltb out largestMessage) (otherRoom room route) (none .1 .0) in
+      let b : not (eqb (route / 8) room) ≡ false = or-snd (shortRoute route) (not (eqb (route / 8) room)) a in
+      record {
+        message = record {
+          header = eh;
+          small = omega (arith, es, ltb-false 4096 (h .size) (none .1 .1 .1 .1 .0));
+          whole = omega (arith, es, ltb-false (length m) (23 + h .size) (none .1 .1 .1 .1 .1 .0));
+        };
+        output = ltb-false out largestMessage (or-fst (ltb out largestMessage) (otherRoom room route) (none .1 .0));
+        rooms = eqb-true (route / 8) room (not-false (eqb (route / 8) room) b);
+      }
 
 -- ---- an arriving message
 
@@ -312,84 +382,102 @@ usedIn q n =
       textlen = q .textlen;
     }
 
-module _ (room : ℕ) (lines : List Line) (q : Memory) (m : List ℕ) (t : Terms) (route out : List ℕ) where
-  -- what a step hands on, stored
-  met-by : (l : ℕ) (x : Number) (r : Step) {a : Action} {out′ route′ : List ℕ} {q′ : Memory} {used : ℕ} → a ≡ actionOf r → out′ ≡ over 0 (r .sent) out
-      → route′ ≡ r .route → q′ ≡ rememberIf (a .remember) capacity q x l → used ≡ cond (unused (a .report .answer)) 0 (23 + sizeOf m)
-      → Met (stored (state room lines q) l x r) (usedOf (r .answer) m) (usedIn (a .report) used) (stationOf room (set lines l (a .line)) q′) out out′ route′
-  met-by l x r ea eo er eq eu =
+-- what is handed on of a message, with the bytes used
+abbrev usedBy : Action → ℕ → Action
+usedBy a n = record { report = usedIn (a .report) n; line = a .line; remember = a .remember }
+
+-- given what is read off the lines, the step is that of the definition
+module _ (order : Bool) (known : Lookup) (room : ℕ) (lines : List Line) (line : ℕ) (m : List ℕ) (t : Terms)
+    (route out : List ℕ) {v : View} (ev : v ≡ viewOf lines room (line % 8)) {h : Header} (eh : h ≡ headerIn m) {n : ℕ}
+    (en : n ≡ firstOf (earlyRules (order && v .order) room (t .out) (length route) line
+    (getD (v .live) (line % 8) false) (length m) (h .size))) where
+  first : n ≡ firstRefusal order room lines line m (t .out) (length route)
+  first =
+      en
+      ∙ ap (λ (v : View). firstOf (earlyRules (order && v .order) room (t .out) (length route) line
+      (getD (v .live) (line % 8) false) (length m) (h .size))) ev
+      ∙ ap (λ b. firstOf (earlyRules (bothInOrder order room lines) room (t .out) (length route) line b
+      (length m) (h .size))) (eachLine-at (λ k. lineIn lines k .live) (line % 8) (omega arith))
+      ∙ ap (λ (h : Header). firstOf (earlyRules (bothInOrder order room lines) room (t .out) (length route) line
+      (lineIn lines (line % 8) .live) (length m) (h .size))) eh
+
+  pub handed-by : {a : Action} {out′ route′ : List ℕ}
+      → Done room lines (line % 8) known m t route out n a out′ route′
+      → {used : ℕ} → used ≡ cond (unused (a .report .answer)) 0 (23 + h .size)
+      → Handed (arrivalStep order known room lines line m t route) m (usedBy a used) out out′ route′
+  unfolding arrivalStep
+  handed-by {a} {out′} {route′} d {used} eu =
+      let e = subst (λ n. Done room lines (line % 8) known m t route out n a out′ route′) first d in
+      let u : used ≡ cond (unused (a .report .answer)) 0 (23 + sizeOf m)
+      = eu ∙ ap (λ (h : Header). cond (unused (a .report .answer)) 0 (23 + h .size)) eh in
       record {
-        report = rw eu (ap (λ (a : Action). usedIn (a .report) (cond (unused (a .report .answer)) 0 (23 + sizeOf m))) ea);
-        state = rw eq (ap (λ (a : Action). stationOf room (set lines l (a .line)) (rememberIf (a .remember) capacity q x l)) ea);
-        output = eo;
-        area = er;
+        action = rw u
+            (ap (λ (a : Action). usedBy a (cond (unused (a .report .answer)) 0 (23 + sizeOf m))) (e .0 .action));
+        output = e .0 .output;
+        area = e .1;
       }
 
-  module _ (line n : ℕ) (en : n ≡ early (state room lines q) line m (t .out) (length route)) where
-    abbrev S : Station
-    S = state room lines q
+module _ (room : ℕ) (lines : List Line) (q : Memory) (m : List ℕ) (t : Terms) (route out : List ℕ) where
+  abbrev S : Station
+  S = state room lines q
 
-    -- a message with no first refusal came by one of the eight lines
-    below : n ≡ 0 → line < 8
-    unfolding early
-    below z =
-        let p : NoRefusal (earlyRules (inOrder S) room (t .out) (length route) line (lineIn lines line .live) (length m) (sizeOf m))
-        = no-refusal (earlyRules (inOrder S) room (t .out) (length route) line (lineIn lines line .live) (length m) (sizeOf m)) refl (sym en ∙ z) in
-        ltb-true line 8 (not-false (ltb line 8) (or-fst (not (ltb line 8)) (not (lineIn lines line .live)) (p .1 .1 .0)))
+  -- what a step hands on, stored
+  met-by : (l : ℕ) (x : Number) (r : Step) {a : Action} {out′ route′ : List ℕ} → Handed r m a out out′ route′
+      → Met (stored S l x r) (usedOf (r .answer) m) (a .report) (stateAfter S l x (changeBy a)) out out′ route′
+  met-by l x r h =
+      record {
+        report = ap (λ (a : Action). a .report) (h .action);
+        state = ap (λ (a : Action). stateAfter S l x (changeBy a)) (h .action);
+        output = h .output;
+        area = h .area;
+      }
 
-    pub message-fits : (h : Header) → h ≡ headerIn m → n ≡ 0 → Fit room h m (t .out) (length route)
-    unfolding early
-    message-fits h eh z =
-        let p : NoRefusal (earlyRules (inOrder S) room (t .out) (length route) line (lineIn lines line .live) (length m) (sizeOf m))
-        = no-refusal (earlyRules (inOrder S) room (t .out) (length route) line (lineIn lines line .live) (length m) (sizeOf m)) refl (sym en ∙ z) in
-        let a : otherRoom room (length route) ≡ false = or-snd (ltb (t .out) largestMessage) (otherRoom room (length route)) (p .1 .0) in
-        let b : not (eqb (length route / 8) room) ≡ false = or-snd (shortRoute (length route)) (not (eqb (length route / 8) room)) a in
-        record {
-          message = record {
-            header = eh;
-            small = ltb-false 4096 (sizeOf m) (p .1 .1 .1 .1 .0);
-            whole = ltb-false (length m) (23 + sizeOf m) (p .1 .1 .1 .1 .1 .0);
-          };
-          output = ltb-false (t .out) largestMessage (or-fst (ltb (t .out) largestMessage) (otherRoom room (length route)) (p .1 .0));
-          rooms = eqb-true (length route / 8) room (not-false (eqb (length route / 8) room) b);
-        }
-
-    module _ {a : Action} {out′ route′ : List ℕ} {q′ : Memory} {used : ℕ}
-        (d : Done room lines (line % 8) (lookedUp S (numberIn m)) m t route out n a out′ route′)
-        (eq : q′ ≡ rememberIf (a .remember) capacity q (numberIn m) (line % 8))
-        (eu : used ≡ cond (unused (a .report .answer)) 0 (23 + sizeOf m)) where
+  module _ (line : ℕ) (order : Bool) (eo : bothInOrder order room lines ≡ inOrder S) where
+    module _ (a : Action) (out′ route′ : List ℕ) where
       abbrev Goal : Outcome → Type 0
-      Goal o = Met o (usedOf (o .answer) m) (usedIn (a .report) used) (stationOf room (set lines (line % 8) (a .line)) q′) out out′ route′
+      Goal o = Met o (usedOf (o .answer) m) (a .report)
+          (stateAfter S (line % 8) (numberIn m) (changeBy a)) out out′ route′
 
-      taken : eqb n 0 ≡ true → Goal (arrived usualLimit S line m t route)
-      taken b =
-          let z : n ≡ 0 = eqb-true n 0 b in
-          let h : line < 8 = below z in
-          let k : line % 8 ≡ line = omega arith in
-          let e : Does (byType usualLimit room lines line (lookedUp S (numberIn m)) m t route) a out out′
-          × (route′ ≡ byType usualLimit room lines line (lookedUp S (numberIn m)) m t route .route) = rw (b, k) at d in
-          rw k (met-by line (numberIn m) (byType usualLimit room lines line (lookedUp S (numberIn m)) m t route)
-          (e .0 .action) (e .0 .output) (e .1) (rw k at eq) eu)
+      module _ {n : ℕ} (en : n ≡ firstRefusal order room lines line m (t .out) (length route))
+          (d : Handed (acting n room lines (line % 8) (lookedUp S (numberIn m)) m t route) m a out out′ route′) where
+        taken : eqb n 0 ≡ true → Goal (arrived usualLimit S line m t route)
+        taken b =
+            let f : line < 8 = below (bothInOrder order room lines) room (t .out) (length route) line
+            (lineIn lines (line % 8) .live) m (headerIn m) refl en (eqb-true n 0 b) in
+            let k : line % 8 ≡ line = omega arith in
+            let e : Handed (byType usualLimit room lines line (lookedUp S (numberIn m)) m t route) m a out out′ route′
+            = rw (b, k) at d in
+            rw k (met-by line (numberIn m) (byType usualLimit room lines line (lookedUp S (numberIn m)) m t route) e)
 
-      refused : eqb n 0 ≡ false → Goal (quiet n S route)
-      refused b =
-          let e : Does (quiet n (record { line = lineIn lines (line % 8); taken = false }) route) a out out′ × (route′ ≡ route) = rw b at d in
-          let w = met-by (line % 8) (numberIn m) (quiet n (record { line = lineIn lines (line % 8); taken = false }) route)
-          (e .0 .action) (e .0 .output) (e .1) eq eu in
-          record {
-            report = w .report;
-            state = w .state ∙ ap (λ (x : List Line). stationOf room x q) (set-getD lines (line % 8) nowhere);
-            output = w .output;
-            area = w .area;
-          }
+        refused : eqb n 0 ≡ false → Goal (quiet n S route)
+        refused b =
+            let e : Handed (quiet n (record { line = lineIn lines (line % 8); taken = false }) route) m a
+            out out′ route′ = rw b at d in
+            let w = met-by (line % 8) (numberIn m)
+            (quiet n (record { line = lineIn lines (line % 8); taken = false }) route) e in
+            record {
+              report = w .report;
+              state = w .state ∙ ap (λ (x : List Line). stationOf room x q) (set-getD lines (line % 8) nowhere);
+              output = w .output;
+              area = w .area;
+            }
 
-      pub message-done : MessageMet S line m t route (usedIn (a .report) used) (stationOf room (set lines (line % 8) (a .line)) q′) out out′ route′
-      unfolding arriving
-      message-done = subst (λ n. Goal (refusedOr n S route (arrived usualLimit S line m t route))) en (by (eqb n 0) refl)
-        where
-          by : (b : Bool) → eqb n 0 ≡ b → Goal (pickResult b (arrived usualLimit S line m t route) (quiet n S route))
-          by true e = taken e
-          by false e = refused e
+        met : Goal (refusedOr (early S line m (t .out) (length route)) S route (arrived usualLimit S line m t route))
+        met = subst (λ n. Goal (refusedOr n S route (arrived usualLimit S line m t route)))
+            (early-is room lines q line m (t .out) (length route) eo refl refl en) (by (eqb n 0) refl)
+          where
+            by : (b : Bool) → eqb n 0 ≡ b → Goal (pickResult b (arrived usualLimit S line m t route) (quiet n S route))
+            by true e = taken e
+            by false e = refused e
+
+    pub message-met : (known : Lookup) → known ≡ lookedUp S (numberIn m) → {a : Action} {out′ route′ : List ℕ}
+        → Handed (arrivalStep order known room lines line m t route) m a out out′ route′
+        → Arrives S line m t route a out out′ route′
+    unfolding arriving arrivalStep
+    message-met known ek {a} {out′} {route′} h =
+        met a out′ route′ refl
+        (subst (λ (k : Lookup). Handed (acting (firstRefusal order room lines line m (t .out) (length route))
+        room lines (line % 8) k m t route) m a out out′ route′) ek h)
 
 -- ---- a line opened or closed
 
@@ -409,60 +497,76 @@ module _ (room : ℕ) (lines : List Line) (q : Memory) (line : ℕ) where
   record-put n x true e h = let f : line < 8 = h (eqb-true n 0 e) in let k : line % 8 ≡ line = omega arith in rw k
   record-put n x false e h = set-getD lines (line % 8) nowhere
 
-  first-two : (order test : Bool) {n : ℕ} → n ≡ firstOf ((not order, 1) ∷ (not (ltb line 8) || test, 3) ∷ []) → n ≡ 0 → line < 8
+  first-two : (order test : Bool) {n : ℕ} → n ≡ firstOf ((not order, 1) ∷ (not (ltb line 8) || test, 3) ∷ [])
+      → n ≡ 0 → line < 8
   first-two order test e z =
       let p : NoRefusal ((not order, 1) ∷ (not (ltb line 8) || test, 3) ∷ [])
       = no-refusal ((not order, 1) ∷ (not (ltb line 8) || test, 3) ∷ []) refl (sym e ∙ z) in
       ltb-true line 8 (not-false (ltb line 8) (or-fst (not (ltb line 8)) test (p .1 .0)))
 
-  module _ {n : ℕ} {order live : Bool} (eo : order ≡ inOrder (state room lines q)) (el : live ≡ lineIn lines (line % 8) .live) where
-    pub opening-done : n ≡ firstOf (openingRules order line live) → {y : Line} → y ≡ cond (eqb n 0) (emptyLine true) (lineIn lines (line % 8))
-        → Changed (opening (state room lines q) line) n (stationOf room (set lines (line % 8) y) q)
-    unfolding opening
-    opening-done en {y} ey = subst (λ k. Changed (refusedOr k S [] (quiet 0 (withLine S line (emptyLine true)) [])) n (stationOf room (set lines (line % 8) y) q)) number
-        (rw ey (by (eqb n 0) refl))
-      where
-        S : Station
-        S = state room lines q
+  abbrev here-is : Station
+  here-is = state room lines q
 
-        number : n ≡ firstOf (openingRules (inOrder S) line (lineIn lines line .live))
-        number = en ∙ rw (eo, el) (ap (λ x. firstOf ((not (inOrder S), 1) ∷ (x, 3) ∷ [])) (same-test room lines q line (λ x. x .live)))
+  -- given whether the station is in order
+  module _ (order : Bool) (eo : bothInOrder order room lines ≡ inOrder here-is) where
+    opening-done : {n : ℕ}
+        → n ≡ firstOf (openingRules (bothInOrder order room lines) line (lineIn lines (line % 8) .live))
+        → Changed (opening here-is line) n
+        (stationOf room (set lines (line % 8) (cond (eqb n 0) (emptyLine true) (lineIn lines (line % 8)))) q)
+    unfolding opening
+    opening-done {n} en = subst
+        (λ k. Changed (refusedOr k here-is [] (quiet 0 (withLine here-is line (emptyLine true)) [])) n
+        (stationOf room (set lines (line % 8) (cond (eqb n 0) (emptyLine true) (lineIn lines (line % 8)))) q)) number
+        (by (eqb n 0) refl)
+      where
+        number : n ≡ firstOf (openingRules (inOrder here-is) line (lineIn lines line .live))
+        number = en ∙ rw eo (ap (λ x. firstOf ((not (inOrder here-is), 1) ∷ (x, 3) ∷ []))
+            (same-test room lines q line (λ x. x .live)))
+
+        put : (b : Bool) → eqb n 0 ≡ b
+            → set lines (line % 8) (cond b (emptyLine true) (lineIn lines (line % 8)))
+            ≡ cond b (set lines line (emptyLine true)) lines
+        put b e = record-put n (emptyLine true) b e (first-two (inOrder here-is) (lineIn lines line .live) number)
 
         by : (b : Bool) → eqb n 0 ≡ b
-            → Changed (pickResult b (quiet 0 (withLine S line (emptyLine true)) []) (quiet n S [])) n
+            → Changed (pickResult b (quiet 0 (withLine here-is line (emptyLine true)) []) (quiet n here-is [])) n
             (stationOf room (set lines (line % 8) (cond b (emptyLine true) (lineIn lines (line % 8)))) q)
         by true e =
             record {
               answered = eqb-true n 0 e;
-              state = ap (λ (x : List Line). stationOf room x q) (record-put n (emptyLine true) true e (first-two (inOrder S) (lineIn lines line .live) number));
+              state = ap (λ (x : List Line). stationOf room x q) (put true e);
             }
         by false e =
-            record {
-              answered = refl;
-              state = ap (λ (x : List Line). stationOf room x q) (record-put n (emptyLine true) false e (first-two (inOrder S) (lineIn lines line .live) number));
-            }
+            record { answered = refl; state = ap (λ (x : List Line). stationOf room x q) (put false e) }
 
-    pub closing-done : n ≡ firstOf (closingRules order line live) → {y : Line} {who : ℕ} {asker : List ℕ}
-        → y ≡ cond (eqb n 0) (emptyLine false) (lineIn lines (line % 8)) → who ≡ cond (eqb n 0) (line % 8) gone → asker ≡ map (left who) (q .asker)
-        → Changed (closing (state room lines q) line) n
-        (stationOf room (set lines (line % 8) y) (memoryOf (q .lo) (q .hi) asker (q .count) (q .next)))
+    pub opening-met : {r : LineChange} → r ≡ openedBy order room lines line
+        → Changed (opening here-is line) (r .answer) (stationOf room (set lines (line % 8) (r .line)) q)
+    opening-met e =
+        subst (λ (r : LineChange). Changed (opening here-is line) (r .answer)
+        (stationOf room (set lines (line % 8) (r .line)) q)) (sym e) (opening-done refl)
+
+    closing-done : {n : ℕ}
+        → n ≡ firstOf (closingRules (bothInOrder order room lines) line (lineIn lines (line % 8) .live))
+        → Changed (closing here-is line) n
+        (stationOf room (set lines (line % 8) (cond (eqb n 0) (emptyLine false) (lineIn lines (line % 8))))
+        (leftAll (cond (eqb n 0) (line % 8) gone) q))
     unfolding closing
-    closing-done en {y} {who} {asker} ey ew ea =
-        subst (λ k. Changed (refusedOr k S [] (quiet 0 (closedState S line) [])) n (stationOf room (set lines (line % 8) y) (memoryOf (q .lo) (q .hi) asker (q .count) (q .next)))) number
-        (rw (ea, ey, ew) (by (eqb n 0) refl))
+    closing-done {n} en =
+        subst (λ k. Changed (refusedOr k here-is [] (quiet 0 (closedState here-is line) [])) n
+        (stationOf room (set lines (line % 8) (cond (eqb n 0) (emptyLine false) (lineIn lines (line % 8))))
+        (leftAll (cond (eqb n 0) (line % 8) gone) q))) number
+        (by (eqb n 0) refl)
       where
-        S : Station
-        S = state room lines q
-
-        number : n ≡ firstOf (closingRules (inOrder S) line (lineIn lines line .live))
-        number = en ∙ rw (eo, el) (ap (λ x. firstOf ((not (inOrder S), 1) ∷ (x, 3) ∷ [])) (same-test room lines q line (λ x. not (x .live))))
+        number : n ≡ firstOf (closingRules (inOrder here-is) line (lineIn lines line .live))
+        number = en ∙ rw eo (ap (λ x. firstOf ((not (inOrder here-is), 1) ∷ (x, 3) ∷ []))
+            (same-test room lines q line (λ x. not (x .live))))
 
         by : (b : Bool) → eqb n 0 ≡ b
-            → Changed (pickResult b (quiet 0 (closedState S line) []) (quiet n S [])) n
+            → Changed (pickResult b (quiet 0 (closedState here-is line) []) (quiet n here-is [])) n
             (stationOf room (set lines (line % 8) (cond b (emptyLine false) (lineIn lines (line % 8))))
-            (memoryOf (q .lo) (q .hi) (map (left (cond b (line % 8) gone)) (q .asker)) (q .count) (q .next)))
+            (leftAll (cond b (line % 8) gone) q))
         by true e =
-            let f : line < 8 = first-two (inOrder S) (not (lineIn lines line .live)) number (eqb-true n 0 e) in
+            let f : line < 8 = first-two (inOrder here-is) (not (lineIn lines line .live)) number (eqb-true n 0 e) in
             let k : line % 8 ≡ line = omega arith in
             rw k (record { answered = eqb-true n 0 e; state = refl })
         by false e =
@@ -472,49 +576,96 @@ module _ (room : ℕ) (lines : List Line) (q : Memory) (line : ℕ) where
                   (set-getD lines (line % 8) nowhere) (gone-stays (q .asker));
             }
 
+    pub closing-met : {r : LineChange} → r ≡ closedBy order room lines line
+        → Changed (closing here-is line) (r .answer)
+        (stationOf room (set lines (line % 8) (r .line)) (leftAll (cond (eqb (r .answer) 0) (line % 8) gone) q))
+    closing-met e =
+        subst (λ (r : LineChange). Changed (closing here-is line) (r .answer)
+        (stationOf room (set lines (line % 8) (r .line)) (leftAll (cond (eqb (r .answer) 0) (line % 8) gone) q)))
+        (sym e) (closing-done refl)
+
 -- ---- an own query
 
+-- one that is not refused has room
+pub own-fits : (order : Bool) (room : ℕ) (text route out : List ℕ) (zero : Bool) (known : Lookup) {n : ℕ}
+    → n ≡ firstOf (ownRules order room (length out) (length route) (length text) zero known) → n ≡ 0
+    → (length text ≤ 4093) × (4119 ≤ length out)
+own-fits order room text route out zero known e z =
+    let rules = ownRules order room (length out) (length route) (length text) zero known in
+    let p : NoRefusal rules = no-refusal rules refl (sym e ∙ z) in (
+      ltb-false 4093 (length text) (p .1 .1 .0),
+      ltb-false (length out) largestMessage
+          (or-fst (ltb (length out) largestMessage) (otherRoom room (length route)) (p .1 .0)),
+    )
+
+-- given what is read off the lines and the text, the answer is that of the definition
+pub own-first : (order : Bool) (known : Lookup) (room : ℕ) (lines : List Line) (text : List ℕ) (out route : ℕ)
+    {v : View} → v ≡ viewOf lines room 0 → {zero : Bool} → zero ≡ any (eqb 0) text → {n : ℕ}
+    → n ≡ firstOf (ownRules (order && v .order) room out route (length text) zero known)
+    → n ≡ ownFirst order known room lines text out route
+own-first order known room lines text out route ev ez en =
+    en
+    ∙ rw ez (ap (λ (v : View). firstOf (ownRules (order && v .order) room out route (length text)
+    (any (eqb 0) text) known)) ev)
+
+-- answered so, and answered as the definition has it
+pub answered-as : (room : ℕ) (lines : List Line) (number text route out : List ℕ) {n k : ℕ} → n ≡ k → {r : Report}
+    {out′ : List ℕ} → Sends (ownSent usualLimit n room lines number text route) r out out′
+    → Sends (ownSent usualLimit k room lines number text route) r out out′
+answered-as room lines number text route out e {r} {out′} d =
+    subst (λ n. Sends (ownSent usualLimit n room lines number text route) r out out′) e d
+
 module _ (room : ℕ) (lines : List Line) (q : Memory) (number text route out : List ℕ) where
-  pub own-is : {n : ℕ} {order zero : Bool} {known : Lookup} → order ≡ inOrder (state room lines q) → zero ≡ any (eqb 0) text
-      → known ≡ lookedUp (state room lines q) (numberIn number)
-      → n ≡ firstOf (ownRules order room (length out) (length route) (length text) zero known)
-      → n ≡ ownAnswer (state room lines q) number text (length out) (length route)
+  abbrev asked : Station
+  asked = state room lines q
+
+  own-done : {n : ℕ} → n ≡ ownAnswer asked number text (length out) (length route) → {r : Report} {out′ : List ℕ}
+      → Sends (ownSent usualLimit n room lines number text route) r out out′
+      → OwnMet asked number text route r (askedState asked number r) out out′
+  unfolding asking ownSent
+  own-done {n} own-is {r} {out′} d =
+      subst (λ k. Met (refusedOr k asked route (ownTaken usualLimit asked number text route)) 0 r
+      (askedState asked number r) out out′ route) own-is
+      (by (eqb n 0) refl d)
+    where
+      sent : Bool → Result Bool
+      sent b = sends (ownLines usualLimit room lines text route)
+          (writtenFor (ownLines usualLimit room lines text route) (ownBytes usualLimit number text)) (quiet 0 b route)
+
+      by : (b : Bool) → eqb n 0 ≡ b → Sends (pickResult b (sent (eqb n 0)) (quiet n (eqb n 0) route)) r out out′
+          → Met (pickResult b (ownTaken usualLimit asked number text route) (quiet n asked route)) 0 r
+          (askedState asked number r) out out′ route
+      by true e w =
+          record {
+            report = w .report;
+            state = ap (askedState asked number) (w .report);
+            output = w .output;
+            area = refl;
+          }
+      by false e w =
+          record {
+            report = w .report;
+            state = ap (askedState asked number) (w .report)
+                ∙ ap (λ b. withMemory asked (rememberIf b capacity q (numberIn number) here)) e;
+            output = w .output;
+            area = refl;
+          }
+
+  pub own-met : (order : Bool) → bothInOrder order room lines ≡ inOrder asked → (known : Lookup)
+      → known ≡ lookedUp asked (numberIn number) → {r : Report} {out′ : List ℕ}
+      → Sends (ownSent usualLimit (ownFirst order known room lines text (length out) (length route)) room lines
+      number text route) r out out′
+      → OwnMet asked number text route r (askedState asked number r) out out′
   unfolding ownAnswer
-  own-is eo ez ek en = en ∙ rw (eo, ez, ek)
-
-  module _ {n : ℕ} (en : n ≡ ownAnswer (state room lines q) number text (length out) (length route)) where
-    pub own-fits : n ≡ 0 → (length text ≤ 4093) × (4119 ≤ length out)
-    unfolding ownAnswer
-    own-fits z =
-        let rules = ownRules (inOrder (state room lines q)) room (length out) (length route) (length text) (any (eqb 0) text)
-        (lookedUp (state room lines q) (numberIn number)) in
-        let p : NoRefusal rules = no-refusal rules refl (sym en ∙ z) in (
-          ltb-false 4093 (length text) (p .1 .1 .0),
-          ltb-false (length out) largestMessage (or-fst (ltb (length out) largestMessage) (otherRoom room (length route)) (p .1 .0)),
-        )
-
-    pub own-done : {r : Report} {out′ : List ℕ} {q′ : Memory} {taken : Bool} → Sends (ownSent usualLimit n room lines number text route) r out out′
-        → taken ≡ eqb n 0 → q′ ≡ rememberIf taken capacity q (numberIn number) here
-        → OwnMet (state room lines q) number text route r (stationOf room lines q′) out out′
-    unfolding asking ownSent
-    own-done {r} {out′} {q′} d et eq =
-        subst (λ k. Met (refusedOr k S route (ownTaken usualLimit S number text route)) 0 r (stationOf room lines q′) out out′ route) en
-        (rw (eq, et) (by (eqb n 0) refl d))
-      where
-        S : Station
-        S = state room lines q
-
-        sent : Bool → Result Bool
-        sent b = sends (ownLines usualLimit room lines text route) (writtenFor (ownLines usualLimit room lines text route) (ownBytes usualLimit number text)) (quiet 0 b route)
-
-        by : (b : Bool) → eqb n 0 ≡ b → Sends (pickResult b (sent (eqb n 0)) (quiet n (eqb n 0) route)) r out out′
-            → Met (pickResult b (ownTaken usualLimit S number text route) (quiet n S route)) 0 r
-            (stationOf room lines (rememberIf b capacity q (numberIn number) here)) out out′ route
-        by true e w = record { report = w .report; state = refl; output = w .output; area = refl }
-        by false e w = record { report = w .report; state = refl; output = w .output; area = refl }
+  own-met order eo known ek d = own-done own-is d
+    where
+      own-is : ownFirst order known room lines text (length out) (length route)
+          ≡ ownAnswer asked number text (length out) (length route)
+      own-is = rw (eo, ek)
 
 -- what is told and written of an own query
-module _ (limit n room : ℕ) (lines : List Line) (l : ℕ) (v : View) (ev : v ≡ viewOf lines room l) (number text route out : List ℕ) where
+module _ (limit n room : ℕ) (lines : List Line) (l : ℕ) (v : View) (ev : v ≡ viewOf lines room l)
+    (number text route out : List ℕ) where
   abbrev told : Report → List ℕ → Type 0
   told r out′ = Sends (ownSent limit n room lines number text route) r out out′
 
@@ -525,31 +676,36 @@ module _ (limit n room : ℕ) (lines : List Line) (l : ℕ) (v : View) (ev : v �
   module _ (z : n ≡ 0) {q : Report} (eq : q ≡ quietReport n) {to : List Bool}
       (et : to ≡ ownTo limit (λ k. getD (v .live) k false) (λ k. heldOf (v .tables) room route k) text) where
     to-is : to ≡ ownLines limit room lines text route
-    to-is = et ∙ ap (λ (v : View). ownTo limit (λ k. getD (v .live) k false) (λ k. heldOf (v .tables) room route k) text) ev
+    to-is = et ∙ ap (λ (v : View). ownTo limit (λ k. getD (v .live) k false) (λ k. heldOf (v .tables) room route k)
+        text) ev
 
     pub own-unsent : any (λ b. b) to ≡ false → told (sentIn q (q .written) to) out
     unfolding ownSent
     own-unsent e =
         let f : any (λ b. b) (ownLines limit room lines text route) ≡ false = sym (ap (any (λ b. b)) to-is) ∙ e in
-        rw (eq-eqb n 0 z, f) (record { report = ap (λ (q : Report). sentIn q (q .written) to) eq ∙ rw (to-is, z); output = refl })
+        rw (eq-eqb n 0 z, f)
+        (record { report = ap (λ (q : Report). sentIn q (q .written) to) eq ∙ rw (to-is, z); output = refl })
 
-    pub own-sent : any (λ b. b) to ≡ true → {w : ℕ} {out′ : List ℕ} → w ≡ length (ownBytes limit number text) → out′ ≡ over 0 (ownBytes limit number text) out
+    pub own-sent : any (λ b. b) to ≡ true → {w : ℕ} {out′ : List ℕ} → w ≡ length (ownBytes limit number text)
+        → out′ ≡ over 0 (ownBytes limit number text) out
         → told (sentIn q w to) out′
     unfolding ownSent
     own-sent e {w} ew eo =
         let f : any (λ b. b) (ownLines limit room lines text route) ≡ true = sym (ap (any (λ b. b)) to-is) ∙ e in
-        rw (eq-eqb n 0 z, f) (record { report = ap (λ (q : Report). sentIn q w to) eq ∙ rw (to-is, z, ew); output = eo })
+        rw (eq-eqb n 0 z, f)
+        (record { report = ap (λ (q : Report). sentIn q w to) eq ∙ rw (to-is, z, ew); output = eo })
 
 -- ---- a fresh state
 
-pub fresh-done : (n : ℕ) {room answer : ℕ} {x : Line} {q : Memory} → room ≡ freshRoom n → answer ≡ freshAnswer n → x ≡ emptyLine false → q ≡ freshMemory
-    → Changed (fresh n) answer (stationOf room (replicate 8 x) q)
+pub fresh-done : (n : ℕ) {room answer : ℕ} {x : Line} → room ≡ freshRoom n → answer ≡ freshAnswer n
+    → x ≡ emptyLine false
+    → Changed (fresh n) answer (stationOf room (replicate 8 x) freshMemory)
 unfolding fresh
-fresh-done n er ea ex eq =
-    record { answered = ea; state = rw (er, ex, eq) }
+fresh-done n er ea ex = record { answered = ea; state = rw (er, ex) }
 
 -- an own query that fits, written
-module _ (limit : ℕ) (number text out : List ℕ) (sixteen : length number ≡ 16) (short : length text ≤ 4093) (room : 4119 ≤ length out) where
+module _ (limit : ℕ) (number text out : List ℕ) (sixteen : length number ≡ 16) (short : length text ≤ 4093)
+    (room : 4119 ≤ length out) where
   can-send : sendable text out ≡ true
   can-send =
       let r : 26 + length text ≤ length out = omega arith in
@@ -559,7 +715,8 @@ module _ (limit : ℕ) (number text out : List ℕ) (sixteen : length number ≡
   unfolding message
   own-long = simp (length-append) (omega arith)
 
-  pub own-counted : {w : ℕ} → w ≡ countIf (sendable text out) (26 + length text) → w ≡ length (ownBytes limit number text)
+  pub own-counted : {w : ℕ} → w ≡ countIf (sendable text out) (26 + length text)
+      → w ≡ length (ownBytes limit number text)
   own-counted e = e ∙ ap (λ b. countIf b (26 + length text)) can-send ∙ sym own-long
 
   pub own-written : {o : List ℕ} → o ≡ ownInto number limit text out → o ≡ over 0 (ownBytes limit number text) out

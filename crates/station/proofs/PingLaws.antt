@@ -41,8 +41,10 @@ use Rattle.station.proofs.ActionLaws.{sentIn, step-refused, step-taken,
 
 -- ---- a ping
 
-module _ (lines : List Line) (l : ℕ) (x : Line) (ex : x ≡ lineIn lines l) (h : Header) (clock : ℕ) (own : Own) (m out area : List ℕ)
-    (p : Whole h m) (room : 4119 ≤ length out) {a : ℕ} (e : a ≡ firstOf (pingRules (x .pinged) (x .pingtime) clock h)) where
+module _ (lines : List Line) (l : ℕ) (x : Line) (ex : x ≡ lineIn lines l) (h : Header) (clock : ℕ) (own : Own)
+    (m out area : List ℕ)
+    (p : Whole h m) (room : 4119 ≤ length out)
+    {a : ℕ} (e : a ≡ firstOf (pingRules (x .pinged) (x .pingtime) clock h)) where
   abbrev terms : Terms
   terms = termsOf clock own (length out)
 
@@ -50,12 +52,14 @@ module _ (lines : List Line) (l : ℕ) (x : Line) (ex : x ≡ lineIn lines l) (h
   step = pingStep lines l terms m area
 
   ping-number : a ≡ firstOf (pingRules (lineIn lines l .pinged) (lineIn lines l .pingtime) clock (headerIn m))
-  ping-number = e ∙ ap₂ (λ (x : Line) (h : Header). firstOf (pingRules (x .pinged) (x .pingtime) clock h)) ex (p .header)
+  ping-number = e ∙ ap₂ (λ (x : Line) (h : Header). firstOf (pingRules (x .pinged) (x .pingtime) clock h)) ex
+      (p .header)
 
   pub ping-refused : {act : Action} → (a ≡ 0 → ⊥) → act ≡ quietAction a x → Does step act out out
   unfolding pingStep
   ping-refused z ea =
-      step-refused _ (lineIn lines l) area (pingTaken lines l terms m area) out ping-number z (ea ∙ ap (quietAction a) ex)
+      step-refused _ (lineIn lines l) area (pingTaken lines l terms m area) out ping-number z
+      (ea ∙ ap (quietAction a) ex)
 
   module _ (z : a ≡ 0) {number : List ℕ} (en : number ≡ numberFilled m) {probe : Bool} (ep : probe ≡ isProbe h) where
     -- the pongs that are written
@@ -76,13 +80,15 @@ module _ (lines : List Line) (l : ℕ) (x : Line) (ex : x ≡ lineIn lines l) (h
         let probe-is : probe ≡ isProbe (headerIn m) = ep ∙ ap isProbe (p .header) in
         step-taken _ (lineIn lines l) area (pingTaken lines l terms m area) out ping-number z
         (record {
-          action = ap (λ (q : Report). record { report = sentIn q w to; line = y; remember = false }) eq ∙ rw (et, ey, w-is, probe-is, ex);
+          action = ap (λ (q : Report). record { report = sentIn q w to; line = y; remember = false }) eq
+              ∙ rw (et, ey, w-is, probe-is, ex);
           output = eo ∙ ap (λ b. over 0 b out) sent-is;
         })
 
 -- ---- a pong
 
-module _ (x : Line) (h : Header) (clock : ℕ) (m area : List ℕ) (p : Whole h m) {a : ℕ} (e : a ≡ firstOf (pongRules h)) where
+module _ (x : Line) (h : Header) (clock : ℕ) (m area : List ℕ) (p : Whole h m)
+    {a : ℕ} (e : a ≡ firstOf (pongRules h)) where
   pong-number : a ≡ firstOf (pongRules (headerIn m))
   pong-number = e ∙ ap (λ (h : Header). firstOf (pongRules h)) (p .header)
 
@@ -109,6 +115,9 @@ module _ (x : Line) (h : Header) (clock : ℕ) (m area : List ℕ) (p : Whole h 
   unfolding pongStep
   pong-done z {bytes} eb ey ea =
       let es = ap (λ (h : Header). h .size) (p .header) in
-      let bytes-are : bytes ≡ take 14 (payloadOf m) = eb ∙ ap pongFilled (payload-part m (h .size) es) ∙ pong-is (payloadOf m) (long z) in
-      let y-is = ey ∙ ap₂ (λ b (h : Header). withPong x (record { bytes = b; hops = h .hops; clock = clock })) bytes-are (p .header) in
-      step-taken _ x area stored [] pong-number z (record { action = ea ∙ ap (quietAction 0) y-is; output = refl }) .action
+      let bytes-are : bytes ≡ take 14 (payloadOf m) = eb ∙ ap pongFilled (payload-part m (h .size) es)
+      ∙ pong-is (payloadOf m) (long z) in
+      let y-is = ey ∙ ap₂ (λ b (h : Header). withPong x (record { bytes = b; hops = h .hops; clock = clock }))
+      bytes-are (p .header) in
+      step-taken _ x area stored [] pong-number z
+      (record { action = ea ∙ ap (quietAction 0) y-is; output = refl }) .action

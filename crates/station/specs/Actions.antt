@@ -19,13 +19,17 @@ use Rattle.protocol.specs.Calls.{byType}
 use Rattle.station.specs.declared.actions.Action.{Action}
 use Rattle.station.specs.declared.lines.View.{View}
 
--- a step as the code hands it on; how many bytes are used is told last
+-- a step as the code hands it on, with the bytes used, which are told last
+abbrev pub handedOn : Step → ℕ → Action
+handedOn r used = record { report = reportOf r used; line = r .state .line; remember = r .state .taken }
+
 abbrev pub actionOf : Step → Action
-actionOf r = record { report = reportOf r 0; line = r .state .line; remember = r .state .taken }
+actionOf r = handedOn r 0
 
 -- what is read off the lines
 abbrev pub viewOf : List Line → ℕ → ℕ → View
-viewOf lines room l = record { order = linesInOrder room lines; line = lineIn lines l; live = livesIn lines; tables = tablesIn lines }
+viewOf lines room l =
+    record { order = linesInOrder room lines; line = lineIn lines l; live = livesIn lines; tables = tablesIn lines }
 
 -- answered n, and nothing is used, sent, searched or delivered
 abbrev pub quietReport : ℕ → Report

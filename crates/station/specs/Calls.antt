@@ -1,19 +1,31 @@
--- What the contracts of the calls say: the outcome of crate protocol, in the report, the state and the areas after the call.
-use Prim.Native.Nat.{ℕ}
+-- What the contracts of the calls say: the outcome of crate protocol, in the report, the state and the areas after
+-- the call; and what their parts are given and hand on.
+use Prim.Native.Nat.{ℕ, _%_}
 use mathlib.Core.Path.{_≡_}
-use mathlib.Core.Bool.{Bool, cond}
-use mathlib.Core.List.{List, []}
+use mathlib.Core.Bool.{Bool, true, false, cond, _&&_}
+use mathlib.Core.List.{List}
 use lib.Dec.{eqb}
 use lib.ListN.{length}
 use Rattle.laws.specs.Parts.{over}
+use Rattle.laws.specs.Tests.{firstOf, any}
+use Rattle.wire.specs.Header.{sizeOf}
 use Rattle.protocol.specs.declared.Line.{Line}
+use Rattle.protocol.specs.declared.Lookup.{Lookup}
 use Rattle.protocol.specs.declared.Report.{Report}
-use Rattle.protocol.specs.State.{Station}
-use Rattle.protocol.specs.Outcomes.{Terms, Result, Outcome, nobody, writtenFor, reportOf, usedOf, quiet, sends, refusedOr}
-use Rattle.protocol.specs.Queries.{ownLines, ownBytes}
-use Rattle.protocol.specs.Calls.{messageOutcome, ownOutcome}
+use Rattle.protocol.specs.Memory.{capacity, numberIn, rememberIf, here}
+use Rattle.protocol.specs.Lines.{lineIn, emptyLine}
+use Rattle.protocol.specs.Order.{linesInOrder}
+use Rattle.protocol.specs.State.{Station, Change, withMemory, stateAfter}
+use Rattle.protocol.specs.Outcomes.{Terms, Result, Outcome, Step, writtenFor, reportOf, usedOf, quiet, sends}
+use Rattle.protocol.specs.Outcomes.{refusedOr}
+use Rattle.protocol.specs.Queries.{usualLimit, ownLines, ownBytes}
+use Rattle.protocol.specs.Calls.{openingRules, closingRules, earlyRules, ownRules, messageOutcome, ownOutcome}
+use Rattle.station.specs.declared.actions.Action.{Action}
+use Rattle.station.specs.declared.changes.LineChange.{LineChange}
+use Rattle.station.specs.Actions.{handedOn, acting}
 
--- a report, the state after, and the output and the route area after are an outcome's, of a message of which so many bytes are used
+-- a report, the state after, and the output and the route area after are an outcome's, of a message of which so many
+-- bytes are used
 pub record Met (o : Outcome) (used : ℕ) (r : Report) (after : Station) (out out′ route′ : List ℕ) : Type 0 where
   pub report : r ≡ reportOf o used
   pub state : after ≡ o .state
@@ -22,22 +34,80 @@ pub record Met (o : Outcome) (used : ℕ) (r : Report) (after : Station) (out ou
 
 abbrev pub MessageMet : Station → ℕ → List ℕ → Terms → List ℕ → Report → Station → List ℕ → List ℕ → List ℕ → Type 0
 MessageMet before line m t route r after out out′ route′ =
-    Met (messageOutcome before line m t route) (usedOf (messageOutcome before line m t route .answer) m) r after out out′ route′
+    Met (messageOutcome before line m t route) (usedOf (messageOutcome before line m t route .answer) m) r
+    after out out′ route′
 
 -- an own query uses no byte of a message, and its route area is only read
 abbrev pub OwnMet : Station → List ℕ → List ℕ → List ℕ → Report → Station → List ℕ → List ℕ → Type 0
-OwnMet before number text route r after out out′ = Met (ownOutcome before number text (length out) route) 0 r after out out′ route
+OwnMet before number text route r after out out′ = Met (ownOutcome before number text (length out) route) 0 r
+    after out out′ route
 
 -- an answer and the state after are those of a fresh state, an opening or a closing
 pub record Changed (o : Outcome) (answer : ℕ) (after : Station) : Type 0 where
   pub answered : answer ≡ o .answer
   pub state : after ≡ o .state
 
--- what is told and written of an own query that is answered n
+-- ---- what a call does but for the ring: given whether the ring is in order, and what it knows of the call's number
+
+-- whether the station is in order
+abbrev pub bothInOrder : Bool → ℕ → List Line → Bool
+bothInOrder order room lines = order && linesInOrder room lines
+
+-- a line opened or closed with this answer: its record after it
+abbrev pub changedBy : ℕ → Bool → Line → LineChange
+changedBy n live x = record { answer = n; line = cond (eqb n 0) (emptyLine live) x }
+
+abbrev pub openedBy : Bool → ℕ → List Line → ℕ → LineChange
+openedBy order room lines line =
+    changedBy (firstOf (openingRules (bothInOrder order room lines) line (lineIn lines (line % 8) .live))) true
+    (lineIn lines (line % 8))
+
+abbrev pub closedBy : Bool → ℕ → List Line → ℕ → LineChange
+closedBy order room lines line =
+    changedBy (firstOf (closingRules (bothInOrder order room lines) line (lineIn lines (line % 8) .live))) false
+    (lineIn lines (line % 8))
+
+-- the first refusal of an arriving message, and its step
+abbrev pub firstRefusal : Bool → ℕ → List Line → ℕ → List ℕ → ℕ → ℕ → ℕ
+firstRefusal order room lines line m out route =
+    firstOf (earlyRules (bothInOrder order room lines) room out route line (lineIn lines (line % 8) .live)
+    (length m) (sizeOf m))
+
+unfoldable pub arrivalStep : Bool → Lookup → ℕ → List Line → ℕ → List ℕ → Terms → List ℕ → Step
+arrivalStep order known room lines line m t route =
+    acting (firstRefusal order room lines line m (t .out) (length route)) room lines (line % 8) known m t route
+
+-- a message's step is met by what is handed on, with the bytes used, and by the two areas
+pub record Handed (r : Step) (m : List ℕ) (a : Action) (out out′ route′ : List ℕ) : Type 0 where
+  pub action : a ≡ handedOn r (usedOf (r .answer) m)
+  pub output : out′ ≡ over 0 (r .sent) out
+  pub area : route′ ≡ r .route
+
+-- what is handed on of a message meets its outcome, once the line's record is stored and its number remembered, if
+-- it is to be
+abbrev pub changeBy : Action → Change
+changeBy a = record { line = a .line; taken = a .remember }
+
+abbrev pub Arrives : Station → ℕ → List ℕ → Terms → List ℕ → Action → List ℕ → List ℕ → List ℕ → Type 0
+Arrives before line m t route a out out′ route′ =
+    MessageMet before line m t route (a .report) (stateAfter before (line % 8) (numberIn m) (changeBy a)) out out′
+    route′
+
+-- the state after an own query: its number is remembered where it is answered 0
+abbrev pub askedState : Station → List ℕ → Report → Station
+askedState before number r = withMemory before
+    (rememberIf (eqb (r .answer) 0) capacity (before .memory) (numberIn number) here)
+
+-- the answer to an own query, and what is told and written of one that is answered n
+abbrev pub ownFirst : Bool → Lookup → ℕ → List Line → List ℕ → ℕ → ℕ → ℕ
+ownFirst order known room lines text out route =
+    firstOf (ownRules (bothInOrder order room lines) room out route (length text) (any (eqb 0) text) known)
+
 unfoldable pub ownSent : ℕ → ℕ → ℕ → List Line → List ℕ → List ℕ → List ℕ → Result Bool
 ownSent limit n room lines number text route =
     refusedOr n (eqb n 0) route
-    (sends (ownLines limit room lines text route) (writtenFor (ownLines limit room lines text route) (ownBytes limit number text))
+    (sends (ownLines limit room lines text route) (writtenFor (ownLines limit room lines text route)
+    (ownBytes limit number text))
     (quiet 0 (eqb n 0) route))
 
 -- it is met by what is told, and by the output area

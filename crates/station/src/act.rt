@@ -23,8 +23,8 @@ use wire::PONG;
 use wire::QUERY;
 use wire::ROUTE_UPDATE;
 
-// `early` is the first refusal, 0 for none; then the message is whole and its areas fit. `known` is what the look-up of its number found. `v` is
-// what is read off the lines, which only a ping looks at again.
+// `early` is the first refusal, 0 for none; then the message is whole and its areas fit. `known` is what the look-up of
+// its number found. `v` is what is read off the lines, which only a ping looks at again.
 pub(crate) fn act(
     early: u8,
     known: Lookup,

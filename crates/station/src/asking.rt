@@ -1,27 +1,23 @@
-// An own query: its refusals, the lines it goes to, and the state after it.
+// An own query: its refusals, and the lines it goes to.
 ghost use mathlib.Core.Path.{_≡_};
 ghost use mathlib.Core.List.{List};
 ghost use Prim.Native.Nat.{ℕ, _≤_};
 ghost use lib.ListN.{length};
 ghost use Rattle.protocol.specs.declared.Line.{Line};
-ghost use Rattle.protocol.specs.Memory.{memoryOf};
-ghost use Rattle.protocol.specs.State.{stationOf};
+ghost use Rattle.protocol.specs.Queries.{usualLimit};
 ghost use Rattle.station.specs.Actions.{viewOf};
-ghost use Rattle.station.specs.Calls.{OwnMet, Sends, ownSent};
+ghost use Rattle.station.specs.Calls.{Sends, ownFirst, ownSent};
 use crate::actions::quiet;
 use crate::lines::View;
 use crate::lines::read_lines;
-use crate::order::survey;
 use forwarding::lines::any_line;
 use forwarding::lines::passing;
 use forwarding::messages::own_query;
 use forwarding::texts::any_zero;
-use memory::remember::remember;
-use protocol::HERE;
+use memory::Survey;
 use protocol::LIMIT;
 use protocol::Line;
 use protocol::Report;
-use wire::read_header;
 
 // An own query that is answered so is written where it goes to some line.
 fn send_own(
@@ -54,13 +50,10 @@ fn send_own(
     report
 }
 
-// A query of this station's own.
+// A query of this station's own, given whether the ring is in order and what it knows of the number, which the ring
+// takes in where the answer is 0.
 pub fn ask(
-    lo: &mut [u64; 512],
-    hi: &mut [u64; 512],
-    asker: &mut [u8; 512],
-    count: &mut usize,
-    next: &mut usize,
+    s: Survey,
     room: usize,
     lines: [Line; 8],
     number: [u8; 16],
@@ -69,22 +62,14 @@ pub fn ask(
     route: &[u8],
 ) -> Report
     ensures { λ r.
-        let before = stationOf room lines
-        (memoryOf (now (lo .entry)) (now (hi .entry)) (now (asker .entry)) (now (count .entry)) (now (next .entry))) in
-        let after = stationOf room lines
-        (memoryOf (now (lo .exit)) (now (hi .exit)) (now (asker .exit)) (now (count .exit)) (now (next .exit))) in
-        ⌜ OwnMet before number (now (text .entry)) (now (route .entry)) r after (now (out .entry)) (now (out .exit)) ⌝ }
+        let n = ownFirst (s .order) (s .known) room lines (now (text .entry)) (length (now (out .entry))) (length (now (route .entry))) in
+        ⌜ Sends (ownSent usualLimit n room lines number (now (text .entry)) (now (route .entry))) r (now (out .entry)) (now (out .exit)) ⌝ }
 {
-    let h = read_header(&number);
-    let n = *count;
-    let p = *next;
     let v = read_lines(lines, room, 0);
-    let live = v.live;
-    let s = survey(lo, hi, asker, n, p, v.order, live, h.lo, h.hi);
     let zero = any_zero(text);
     let known = s.known;
     let answer = refusals::own(
-        s.order,
+        s.order & v.order,
         room,
         out.len(),
         route.len(),
@@ -92,7 +77,5 @@ pub fn ask(
         zero,
         known,
     );
-    let report = send_own(LIMIT, answer, room, v, number, text, out, route);
-    remember(lo, hi, asker, count, next, answer == 0, h.lo, h.hi, HERE);
-    report
+    send_own(LIMIT, answer, room, v, number, text, out, route)
 }

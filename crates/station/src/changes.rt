@@ -3,19 +3,16 @@ ghost use mathlib.Core.Path.{_≡_};
 ghost use mathlib.Core.Bool.{cond};
 ghost use Prim.Native.Nat.{_%_};
 ghost use lib.Dec.{eqb};
-ghost use lib.ListN.{set};
-ghost use Rattle.protocol.specs.Memory.{memoryOf, gone};
+ghost use Rattle.protocol.specs.Memory.{gone};
 ghost use Rattle.protocol.specs.Lines.{emptyLine};
 ghost use Rattle.protocol.specs.State.{stationOf};
-ghost use Rattle.protocol.specs.Calls.{fresh, freshRoom, freshAnswer, opening, closing};
-ghost use Rattle.station.specs.Calls.{Changed};
+ghost use Rattle.protocol.specs.Calls.{fresh, freshRoom, freshAnswer, freshMemory};
+ghost use Rattle.station.specs.Calls.{Changed, openedBy, closedBy};
 use crate::lines::read_lines;
-use crate::order::survey;
-use memory::leave::leave;
 use protocol::GONE;
 use protocol::Line;
 use protocol::Pong;
-use tables::Table;
+use tables::no_table;
 
 // The answer to an opening or closing, and the record of its line after it.
 #[repr(C)]
@@ -43,15 +40,7 @@ fn empty_line(live: bool) -> Line
         clock: 0,
     };
     let pongs = [pong; 10];
-    let table = Table {
-        mark: 0,
-        length: 0,
-        infinity: 0,
-        nextplace: 0,
-        runsize: 0,
-        runbits: 0,
-        nextentry: 0,
-    };
+    let table = no_table();
     Line {
         live,
         pinged: false,
@@ -76,21 +65,10 @@ fn area_answer(n: usize) -> u8
     if n < 32 { 2 } else { 0 }
 }
 
-// A fresh state over a route area of so many bytes.
-pub fn fresh_over(
-    lo: &mut [u64; 512],
-    hi: &mut [u64; 512],
-    asker: &mut [u8; 512],
-    count: &mut usize,
-    next: &mut usize,
-    length: usize,
-) -> Beginning
-    ensures { λ r.
-        let after = stationOf (r .room) (r .lines)
-        (memoryOf (now (lo .exit)) (now (hi .exit)) (now (asker .exit)) (now (count .exit)) (now (next .exit))) in
-        ⌜ Changed (fresh length) (r .answer) after ⌝ }
+// The room and the lines of a fresh state over a route area of so many bytes.
+pub fn begin(length: usize) -> Beginning
+    ensures { λ r. ⌜ Changed (fresh length) (r .answer) (stationOf (r .room) (r .lines) freshMemory) ⌝ }
 {
-    memory::remember::fresh(lo, hi, asker, count, next);
     let room = room_of(length);
     let answer = area_answer(length);
     let line = empty_line(false);
@@ -112,34 +90,19 @@ fn line_after(answer: u8, live: bool, x: Line) -> Line
     empty_line(live)
 }
 
-// A line is opened. The record that comes back belongs at line % 8.
-pub fn open_line<'a>(
-    lo: &'a [u64; 512],
-    hi: &'a [u64; 512],
-    asker: &'a [u8; 512],
-    count: usize,
-    next: usize,
-    room: usize,
-    lines: [Line; 8],
-    line: u32,
-) -> LineChange
-    ensures { λ r.
-        let memory = memoryOf (now (lo .entry)) (now (hi .entry)) (now (asker .entry)) count next in
-        let before = stationOf room lines memory in
-        let after = stationOf room (set lines (line % 8) (r .line)) memory in
-        ⌜ Changed (opening before line) (r .answer) after ⌝ }
+// A line is opened, given whether the ring is in order. The record that comes back belongs at line % 8.
+pub fn open_line(order: bool, room: usize, lines: [Line; 8], line: u32) -> LineChange
+    ensures { λ r. ⌜ r ≡ openedBy order room lines line ⌝ }
 {
     let v = read_lines(lines, room, line % 8);
-    let live = v.live;
-    let s = survey(lo, hi, asker, count, next, v.order, live, 0, 0);
     let x = v.line;
-    let answer = refusals::opening(s.order, line, x.live);
+    let answer = refusals::opening(order & v.order, line, x.live);
     let y = line_after(answer, true, x);
     LineChange { answer, line: y }
 }
 
 // The line whose queries are marked gone; gone itself, which marks nothing, where the closing is refused.
-fn leaver(answer: u8, line: u32) -> u8
+pub fn leaver(answer: u8, line: u32) -> u8
     ensures { λ r. ⌜ r ≡ cond (eqb answer 0) (line % 8) gone ⌝ }
 {
     if answer != 0 {
@@ -148,29 +111,14 @@ fn leaver(answer: u8, line: u32) -> u8
     (line % 8) as u8
 }
 
-// A line is closed. The record that comes back belongs at line % 8; the numbers are lent as the askers are, and stay.
-pub fn close_line(
-    lo: &mut [u64; 512],
-    hi: &mut [u64; 512],
-    asker: &mut [u8; 512],
-    count: usize,
-    next: usize,
-    room: usize,
-    lines: [Line; 8],
-    line: u32,
-) -> LineChange
-    ensures { λ r.
-        let before = stationOf room lines (memoryOf (now (lo .entry)) (now (hi .entry)) (now (asker .entry)) count next) in
-        let after = stationOf room (set lines (line % 8) (r .line))
-        (memoryOf (now (lo .exit)) (now (hi .exit)) (now (asker .exit)) count next) in
-        ⌜ Changed (closing before line) (r .answer) after ⌝ }
+// A line is closed, given whether the ring is in order. The record that comes back belongs at line % 8; the ring
+// marks the queries of `leaver` gone.
+pub fn close_line(order: bool, room: usize, lines: [Line; 8], line: u32) -> LineChange
+    ensures { λ r. ⌜ r ≡ closedBy order room lines line ⌝ }
 {
     let v = read_lines(lines, room, line % 8);
-    let live = v.live;
-    let s = survey(lo, hi, asker, count, next, v.order, live, 0, 0);
     let x = v.line;
-    let answer = refusals::closing(s.order, line, x.live);
+    let answer = refusals::closing(order & v.order, line, x.live);
     let y = line_after(answer, false, x);
-    leave(asker, leaver(answer, line));
     LineChange { answer, line: y }
 }

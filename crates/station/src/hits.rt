@@ -15,6 +15,7 @@ use forwarding::messages::pass_on;
 use protocol::HERE;
 use protocol::Line;
 use protocol::Lookup;
+use wire::HEADER_SIZE;
 use wire::Header;
 
 // `known` is what the look-up of its query's number found, and `line` the record of the line it came by.
@@ -36,7 +37,7 @@ pub(crate) fn hit_step(line: Line, h: Header, known: Lookup, m: &[u8], out: &mut
             remember: false,
         };
     }
-    let n = 23 + h.size as usize;
+    let n = HEADER_SIZE + h.size as usize;
     let to = only_to(asker);
     report.written = pass_on(m, n, h.ttl - 1, h.hops + 1, out);
     report.to = to;

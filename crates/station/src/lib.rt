@@ -1,11 +1,12 @@
-// Floor 5: the station's calls. The rules are the definitions of crate protocol; the work is done by the crates below, each on the slices and numbers it
-// needs. The ring of remembered queries is lent to the calls, room and lines go by value.
+// Floor 5: what the station's calls do, but for the ring of remembered queries: of that they are told whether it is in
+// order and what it knows of the call's number. The rules are the definitions of crate protocol; the work is done by
+// the crates below, each on the slices and numbers it needs. Room and lines go by value.
 mod act;
-mod actions;
+pub mod actions;
 pub mod asking;
 pub mod changes;
 mod hits;
-mod lines;
+pub mod lines;
 pub mod messages;
 pub mod order;
 mod pings;

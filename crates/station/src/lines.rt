@@ -1,10 +1,10 @@
-// What is read off the eight lines, all at once, so that they are copied once.
+// What is read off the eight lines, all at once.
 ghost use mathlib.Core.Path.{_≡_};
 ghost use Prim.Native.Nat.{_<_};
 ghost use Rattle.protocol.specs.Lines.{livesIn, tablesIn};
 ghost use Rattle.protocol.specs.Order.{linesInOrder};
 ghost use Rattle.station.specs.Actions.{viewOf};
-use pinging::order::line_in_order;
+use pongrings::order::line_in_order;
 use protocol::Line;
 use tables::Table;
 
@@ -17,6 +17,7 @@ pub struct View {
     pub tables: [Table; 8],
 }
 
+// Whether all are in order, for each neighbour's table this room.
 fn lines_in_order(lines: [Line; 8], room: usize) -> bool
     ensures { λ r. ⌜ r ≡ linesInOrder room lines ⌝ }
 {
@@ -30,7 +31,8 @@ fn lines_in_order(lines: [Line; 8], room: usize) -> bool
     true
 }
 
-fn lives(lines: [Line; 8]) -> [bool; 8]
+// Which lines are open.
+pub fn lives(lines: [Line; 8]) -> [bool; 8]
     ensures { λ r. ⌜ r ≡ livesIn lines ⌝ }
 {
     [
@@ -45,24 +47,20 @@ fn lives(lines: [Line; 8]) -> [bool; 8]
     ]
 }
 
-fn table_of(x: Line) -> Table
-    ensures { λ r. ⌜ r ≡ x .table ⌝ }
-{
-    x.table
-}
-
 fn tables_of(lines: [Line; 8]) -> [Table; 8]
     ensures { λ r. ⌜ r ≡ tablesIn lines ⌝ }
 {
-    let a = table_of(lines[0]);
-    let b = table_of(lines[1]);
-    let c = table_of(lines[2]);
-    let d = table_of(lines[3]);
-    let e = table_of(lines[4]);
-    let f = table_of(lines[5]);
-    let g = table_of(lines[6]);
-    let h = table_of(lines[7]);
-    [a, b, c, d, e, f, g, h]
+    let x = lines[0];
+    let table = x.table;
+    let mut tables = [table; 8];
+    let mut k = 1;
+    while k < 8 {
+        let x = lines[k];
+        let table = x.table;
+        tables[k] = table;
+        k += 1;
+    }
+    tables
 }
 
 // With the record of line l, for each neighbour's table this room.

@@ -21,6 +21,7 @@ use pinging::store::first_bytes;
 use pinging::store::store_pong;
 use protocol::Line;
 use protocol::Own;
+use wire::HEADER_SIZE;
 use wire::Header;
 
 // The line after an accepted ping: a probe's time is not kept.
@@ -92,8 +93,8 @@ pub(crate) fn pong_step(x: Line, h: Header, clock: u32, m: &[u8]) -> Action
     if answer != 0 {
         return quietly(answer, x);
     }
-    let n = 23 + h.size as usize;
-    let bytes = first_bytes(&m[23..n]);
+    let n = HEADER_SIZE + h.size as usize;
+    let bytes = first_bytes(&m[HEADER_SIZE..n]);
     let y = store_pong(x, bytes, h.hops, clock);
     quietly(0, y)
 }

@@ -16,6 +16,7 @@ use forwarding::lines::going;
 use forwarding::messages::pass_if;
 use forwarding::texts::text_length;
 use protocol::Lookup;
+use wire::HEADER_SIZE;
 use wire::Header;
 
 // The life of a query (RULES 7.2): TTL or limit - Hops, whichever is less.
@@ -27,7 +28,8 @@ fn life_of(limit: u8, ttl: u8, hops: u8) -> u8
     if ttl <= left { ttl } else { left }
 }
 
-// A query by line l, given what is read off the lines, whichever they are; `known` is what the look-up of its number found.
+// A query by line l, given what is read off the lines, whichever they are; `known` is what the look-up of its number
+// found.
 pub(crate) fn query_step(
     limit: u8,
     room: usize,
@@ -45,8 +47,8 @@ pub(crate) fn query_step(
         → Does (queryStep limit room lines l known (now (m .entry)) (now (route .entry))) r (now (out .entry)) (now (out .exit))) ⌝ }
 {
     let line = v.line;
-    let n = 23 + h.size as usize;
-    let payload = &m[23..n];
+    let n = HEADER_SIZE + h.size as usize;
+    let payload = &m[HEADER_SIZE..n];
     let text = text_length(payload);
     let answer = refusals::query(limit, h, text.ended, known);
     if answer != 0 {

@@ -6,6 +6,7 @@ ghost use Rattle.station.specs.Actions.{Arrived, actionOf};
 use crate::actions::Action;
 use crate::actions::quietly;
 use protocol::Line;
+use wire::HEADER_SIZE;
 use wire::Header;
 
 pub(crate) fn update_step(
@@ -23,9 +24,15 @@ pub(crate) fn update_step(
     let j = l as usize;
     let start = j * room;
     let end = start + room;
-    let n = 23 + h.size as usize;
+    let n = HEADER_SIZE + h.size as usize;
     let table = x.table;
-    let u = tablereader::updates::update(table, h.ttl, h.hops, &m[23..n], &mut route[start..end]);
+    let u = tablereader::updates::update(
+        table,
+        h.ttl,
+        h.hops,
+        &m[HEADER_SIZE..n],
+        &mut route[start..end],
+    );
     let mut y = x;
     let t = u.table;
     y.table = t;

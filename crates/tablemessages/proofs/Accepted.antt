@@ -13,7 +13,8 @@ use Rattle.laws.proofs.Chunks.{each-all, each-replicate, one-of, and-first, and
 use Rattle.tables.specs.Patch.{numbers, numberCount}
 use Rattle.tables.specs.Tables.{lengths, goodLength, goodInfinity}
 use Rattle.tables.proofs.PatchFacts.{Width, four, eight, read-packed}
-use Rattle.tablemessages.specs.Writer.{baseOf, bitsFor, allNear, raws, dataOf, partsOf, messagesOf, joined, goodTable, writerAnswer}
+use Rattle.tablemessages.specs.Writer.{baseOf, bitsFor, allNear, raws, dataOf, partsOf, messagesOf, joined}
+use Rattle.tablemessages.specs.Writer.{goodTable, writerAnswer}
 use Rattle.tablemessages.proofs.Differences.{Entries, AllReach, all-near, all-byte, raws-length, raws-below}
 
 -- a table that may be written
@@ -27,7 +28,8 @@ pub good-table : (es : List ℕ) (infinity : ℕ) → goodTable es infinity ≡ 
 unfolding goodTable
 good-table es infinity h =
     let within : ℕ → Bool = λ e. leb 1 e && leb e infinity in
-    let rest : (goodInfinity infinity && all within es) ≡ true = and-second (goodLength (length es)) (goodInfinity infinity && all within es) h in
+    let rest : (goodInfinity infinity && all within es) ≡ true = and-second (goodLength (length es))
+    (goodInfinity infinity && all within es) h in
     let limits : goodInfinity infinity ≡ true = and-first (goodInfinity infinity) (all within es) rest in
     record {
       length-test = and-first (goodLength (length es)) (goodInfinity infinity && all within es) h;
@@ -36,7 +38,10 @@ good-table es infinity h =
       entries = each-all
           within
           (λ e. (1 ≤ e) × (e ≤ infinity))
-          (λ e k. (leb-true 1 e (and-first (leb 1 e) (leb e infinity) k), leb-true e infinity (and-second (leb 1 e) (leb e infinity) k)))
+          (λ e k. (
+            leb-true 1 e (and-first (leb 1 e) (leb e infinity) k),
+            leb-true e infinity (and-second (leb 1 e) (leb e infinity) k),
+          ))
           es
           (and-second (goodInfinity infinity) (all within es) rest);
     }
@@ -92,7 +97,8 @@ module _ (number : List ℕ) (had : Bool) (old : List ℕ) (oldInfinity : ℕ) (
   alike-passed : had ≡ true → (eqb (length old) (length new) && eqb oldInfinity infinity) ≡ true
   unfolding writerAnswer
   alike-passed h =
-      decided (eqb (length old) (length new) && eqb oldInfinity infinity) (λ q. refused (rw (new-passed, h, old-passed h, q) at e))
+      decided (eqb (length old) (length new) && eqb oldInfinity infinity)
+      (λ q. refused (rw (new-passed, h, old-passed h, q) at e))
 
   size-passed : (leb 1 size && leb size 4091) ≡ true
   unfolding writerAnswer
@@ -138,13 +144,16 @@ module _ (number : List ℕ) (had : Bool) (old : List ℕ) (oldInfinity : ℕ) (
       before : had ≡ true → Good old infinity × (length old ≡ length new)
       before h =
           let same : oldInfinity ≡ infinity
-          = eqb-true oldInfinity infinity (and-second (eqb (length old) (length new)) (eqb oldInfinity infinity) (alike-passed h)) in (
+          = eqb-true oldInfinity infinity (and-second (eqb (length old) (length new)) (eqb oldInfinity infinity)
+          (alike-passed h)) in (
             rw same at (good-table old oldInfinity (old-passed h)),
-            eqb-true (length old) (length new) (and-first (eqb (length old) (length new)) (eqb oldInfinity infinity) (alike-passed h)),
+            eqb-true (length old) (length new) (and-first (eqb (length old) (length new)) (eqb oldInfinity infinity)
+                (alike-passed h)),
           )
 
 -- the bits that the writer takes hold every difference
-pub bits-reach : (new base : List ℕ) (infinity : ℕ) → infinity ≤ 127 → length new ≡ length base → Entries infinity new → Entries infinity base
+pub bits-reach : (new base : List ℕ) (infinity : ℕ) → infinity ≤ 127 → length new ≡ length base → Entries infinity new
+    → Entries infinity base
     → Width (bitsFor new base) × AllReach (bitsFor new base) new base
 bits-reach new base infinity limit long p q = go (allNear new base) refl
   where
@@ -163,11 +172,13 @@ pub record Based (new base : List ℕ) (infinity : ℕ) : Type 0 where
   pub same : length new ≡ length base
   pub entries : Entries infinity base
 
-pub based : (had : Bool) (old new : List ℕ) (infinity size : ℕ) → Accepted had old new infinity size → Based new (baseOf had old new infinity) infinity
+pub based : (had : Bool) (old new : List ℕ) (infinity size : ℕ) → Accepted had old new infinity size
+    → Based new (baseOf had old new infinity) infinity
 based true old new infinity size a =
     record { fresh = a .fresh; same = sym (a .before refl .1); entries = a .before refl .0 .entries }
 based false old new infinity size a =
-    let low : 2 ≤ infinity = leb-true 2 infinity (and-first (leb 2 infinity) (leb infinity 127) (a .fresh .limit-test)) in
+    let low : 2 ≤ infinity = leb-true 2 infinity (and-first (leb 2 infinity) (leb infinity 127)
+    (a .fresh .limit-test)) in
     record {
       fresh = a .fresh;
       same = sym (length-replicate (length new) infinity);
@@ -185,4 +196,5 @@ module _ (new base : List ℕ) (infinity : ℕ) (b : Based new base infinity) wh
       let long : length (raws (bitsFor new base) new base) ≡ length new = raws-length (reach .0) new base (reach .1) in
       let fill : (k : ℕ) × (length new ≡ numberCount (bitsFor new base) k)
       = whole-bytes (reach .0) (length new) (good-length (length new) (b .fresh .length-test) .even) in
-      read-packed (reach .0) (raws (bitsFor new base) new base) (fill .0) (raws-below (reach .0) new base (reach .1)) (long ∙ fill .1)
+      read-packed (reach .0) (raws (bitsFor new base) new base) (fill .0) (raws-below (reach .0) new base (reach .1))
+      (long ∙ fill .1)

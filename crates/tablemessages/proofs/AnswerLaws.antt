@@ -10,7 +10,8 @@ use borrow.Author.Tests.{lt-ltb, le-ltb}
 use Rattle.laws.specs.Tests.{firstOf}
 use Rattle.laws.specs.Parts.{over}
 use Rattle.wire.proofs.HeaderLaws.{message-length}
-use Rattle.tablemessages.specs.Writer.{baseOf, bitsFor, dataOf, partsOf, runFrom, update, resetPayload, messagesOf, joined, goodTable, runRules}
+use Rattle.tablemessages.specs.Writer.{baseOf, bitsFor, dataOf, partsOf, runFrom, update, resetPayload}
+use Rattle.tablemessages.specs.Writer.{messagesOf, joined, goodTable, runRules}
 use Rattle.tablemessages.specs.Writer.{writerAnswer, writtenAs, writerBytes, writerResult, writerOut}
 use Rattle.tablemessages.specs.Steps.{mayWrite, resetLength}
 use Rattle.tablemessages.proofs.RunLaws.{parts-joined, run-length}
@@ -36,19 +37,23 @@ first-four true true true true true true true x = refl
 first-four false true true true true true true x = refl
 
 -- what the answer is, by the tests in order
-module _ (number : List ℕ) (had : Bool) (old : List ℕ) (oldInfinity : ℕ) (new : List ℕ) (infinity size : ℕ) (out : List ℕ) where
+module _ (number : List ℕ) (had : Bool) (old : List ℕ) (oldInfinity : ℕ) (new : List ℕ) (infinity size : ℕ)
+    (out : List ℕ) where
   answer-by : writerAnswer number had old oldInfinity new infinity size (length out)
       ≡ cond (mayWrite had old oldInfinity new infinity size)
       (firstOf
-      (runRules (length (partsOf size (dataOf new (baseOf had old new infinity)))) (length (joined (messagesOf number had old new infinity size)))
+      (runRules (length (partsOf size (dataOf new (baseOf had old new infinity))))
+      (length (joined (messagesOf number had old new infinity size)))
       (length out)))
       14
   unfolding writerAnswer mayWrite
   answer-by =
-      first-four (goodTable new infinity) had (goodTable old oldInfinity) (eqb (length old) (length new)) (eqb oldInfinity infinity) (leb 1 size)
+      first-four (goodTable new infinity) had (goodTable old oldInfinity) (eqb (length old) (length new))
+      (eqb oldInfinity infinity) (leb 1 size)
       (leb size 4091) _
 
-  pub bad-given : mayWrite had old oldInfinity new infinity size ≡ false → writerAnswer number had old oldInfinity new infinity size (length out) ≡ 14
+  pub bad-given : mayWrite had old oldInfinity new infinity size ≡ false → writerAnswer number had old oldInfinity new
+      infinity size (length out) ≡ 14
   bad-given h = answer-by ∙ rw h
 
   module _ (h : mayWrite had old oldInfinity new infinity size ≡ true) where
@@ -80,13 +85,15 @@ module _ (number : List ℕ) (had : Bool) (old : List ℕ) (oldInfinity : ℕ) (
 
   -- no refusal: all the messages
   pub accepted : (w : ℕ) (exit : List ℕ) → writerAnswer number had old oldInfinity new infinity size (length out) ≡ 0
-      → w ≡ length (joined (messagesOf number had old new infinity size)) → exit ≡ over 0 (joined (messagesOf number had old new infinity size)) out
+      → w ≡ length (joined (messagesOf number had old new infinity size))
+      → exit ≡ over 0 (joined (messagesOf number had old new infinity size)) out
       → (writtenAs 0 w ≡ writerResult number had old oldInfinity new infinity size out)
       × (exit ≡ writerOut number had old oldInfinity new infinity size out)
   unfolding writerResult writerOut writerBytes
   accepted w exit e f g = (ap₂ writtenAs (sym e) (f ∙ sym (ap length whole)), g ∙ sym (ap (λ b. over 0 b out) whole))
     where
-      whole : writerBytes number had old oldInfinity new infinity size out ≡ joined (messagesOf number had old new infinity size)
+      whole : writerBytes number had old oldInfinity new infinity size out
+          ≡ joined (messagesOf number had old new infinity size)
       whole = ap (λ a. cond (eqb a 0) (joined (messagesOf number had old new infinity size)) []) e
 
 -- a RESET takes 29 bytes at most
@@ -98,7 +105,8 @@ reset-few false = omega arith
 pub bytes-length : (had : Bool) (number old new : List ℕ) (infinity size : ℕ) → length number ≡ 16 → 1 ≤ size
     → length (joined (messagesOf number had old new infinity size))
     ≡ resetLength had
-    + (28 * length (partsOf size (dataOf new (baseOf had old new infinity))) + length (dataOf new (baseOf had old new infinity)))
+    + (28 * length (partsOf size (dataOf new (baseOf had old new infinity))) + length
+    (dataOf new (baseOf had old new infinity)))
 unfolding messagesOf joined
 bytes-length true number old new infinity size h k =
     let d = dataOf new old in

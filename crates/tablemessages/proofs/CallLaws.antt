@@ -7,29 +7,35 @@ use native.Mathlib.Omega.{arith}
 use lib.ListN.{length}
 use Rattle.tables.specs.Patch.{packed}
 use Rattle.tablemessages.specs.declared.Plan.{Plan}
-use Rattle.tablemessages.specs.Writer.{baseOf, allNear, raws, dataOf, partsOf, runFrom, update, resetPayload, messagesOf, joined}
+use Rattle.tablemessages.specs.Writer.{baseOf, allNear, raws, dataOf, partsOf, runFrom, update, resetPayload}
+use Rattle.tablemessages.specs.Writer.{messagesOf, joined}
 use Rattle.tablemessages.specs.Steps.{Fits, dataLength, dataBy, leftOf, allBy, resetLength}
 use Rattle.tablemessages.proofs.DataLaws.{base-length, data-length}
 use Rattle.tablemessages.proofs.RunLaws.{parts-count, parts-joined, run-length}
 use Rattle.tablemessages.proofs.GoodLaws.{GoodCall, call-few}
 
 abbrev pub planOf : Bool → ℕ → Bool → ℕ → ℕ → Plan
-planOf had infinity small size count = record { had = had; infinity = infinity; small = small; size = size; count = count }
+planOf had infinity small size count =
+    record { had = had; infinity = infinity; small = small; size = size; count = count }
 
 -- all the messages of the plan are those of the definition
 pub all-same : (had : Bool) (number old new : List ℕ) (infinity size : ℕ) (small : Bool) (count : ℕ)
-    → small ≡ allNear new (baseOf had old new infinity) → count ≡ length (partsOf size (dataOf new (baseOf had old new infinity)))
+    → small ≡ allNear new (baseOf had old new infinity)
+    → count ≡ length (partsOf size (dataOf new (baseOf had old new infinity)))
     → allBy number (planOf had infinity small size count) old new ≡ joined (messagesOf number had old new infinity size)
 unfolding allBy leftOf dataBy dataOf messagesOf joined
 all-same true number old new infinity size small count s k =
-    ap₂ (λ t n. joined (runFrom number 1 n (cond t 4 8) (partsOf size (packed (cond t 4 8) (raws (cond t 4 8) new old))))) s k
+    ap₂ (λ t n. joined
+    (runFrom number 1 n (cond t 4 8) (partsOf size (packed (cond t 4 8) (raws (cond t 4 8) new old))))) s k
 all-same false number old new infinity size small count s k =
     ap₂
     (λ t n. update number (resetPayload (length new) infinity)
-    ++ joined (runFrom number 1 n (cond t 4 8) (partsOf size (packed (cond t 4 8) (raws (cond t 4 8) new (baseOf false old new infinity))))))
+    ++ joined (runFrom number 1 n (cond t 4 8)
+    (partsOf size (packed (cond t 4 8) (raws (cond t 4 8) new (baseOf false old new infinity))))))
     s k
 
-module _ (number : List ℕ) (sixteen : length number ≡ 16) (had : Bool) (old : List ℕ) (oldInfinity : ℕ) (new : List ℕ) (infinity size : ℕ)
+module _ (number : List ℕ) (sixteen : length number ≡ 16) (had : Bool) (old : List ℕ) (oldInfinity : ℕ) (new : List ℕ)
+    (infinity size : ℕ)
     (g : GoodCall had old oldInfinity new infinity size)
     (small : Bool) (s : small ≡ allNear new (baseOf had old new infinity)) where
   few : length new ≤ 65536
@@ -52,17 +58,21 @@ module _ (number : List ℕ) (sixteen : length number ≡ 16) (had : Bool) (old 
       go false = few
 
   -- the count, as the code has it
-  pub count-same : (d : ℕ) → d ≡ dataLength small (length new) → (d + size - 1) / size ≡ length (partsOf size (dataOf new (baseOf had old new infinity)))
+  pub count-same : (d : ℕ) → d ≡ dataLength small (length new)
+      → (d + size - 1) / size ≡ length (partsOf size (dataOf new (baseOf had old new infinity)))
   count-same d e =
       ap (λ n. (n + size - 1) / size) (e ∙ sym data-count)
-      ∙ sym (parts-count size (g .some) (length (dataOf new (baseOf had old new infinity))) (dataOf new (baseOf had old new infinity)) (omega arith))
+      ∙ sym (parts-count size (g .some) (length (dataOf new (baseOf had old new infinity)))
+      (dataOf new (baseOf had old new infinity)) (omega arith))
 
-  data-same : (count : ℕ) → dataBy (planOf had infinity small size count) old new ≡ dataOf new (baseOf had old new infinity)
+  data-same : (count : ℕ) → dataBy (planOf had infinity small size count) old new ≡ dataOf new
+      (baseOf had old new infinity)
   unfolding dataBy dataOf
   data-same count = ap (λ t. packed (cond t 4 8) (raws (cond t 4 8) new (baseOf had old new infinity))) s
 
   left-length : (count : ℕ) → count ≡ length (partsOf size (dataOf new (baseOf had old new infinity)))
-      → length (leftOf number (planOf had infinity small size count) 1 (dataBy (planOf had infinity small size count) old new))
+      → length (leftOf number (planOf had infinity small size count) 1
+      (dataBy (planOf had infinity small size count) old new))
       ≡ 28 * count + length (dataOf new (baseOf had old new infinity))
   unfolding leftOf
   left-length count k =

@@ -44,7 +44,8 @@ packed-four-length [] = refl
 packed-four-length (u ∷ []) = refl
 packed-four-length (u ∷ v ∷ vs) = omega (arith, packed-four-length vs)
 
-pub packed-four-at : (rs : List ℕ) (j : ℕ) → 2 * j + 1 < length rs → getD (packed 4 rs) j 0 ≡ getD rs (2 * j) 0 * 16 + getD rs (2 * j + 1) 0
+pub packed-four-at : (rs : List ℕ) (j : ℕ) → 2 * j + 1 < length rs → getD (packed 4 rs) j 0
+    ≡ getD rs (2 * j) 0 * 16 + getD rs (2 * j + 1) 0
 unfolding packed
 packed-four-at [] j h = absurd (omega arith)
 packed-four-at (u ∷ []) j h = absurd (omega arith)
@@ -62,11 +63,13 @@ unfolding allNear
 near-at [] bs i h k a = absurd (omega arith)
 near-at (e ∷ es) [] i h k a = absurd (omega arith)
 near-at (e ∷ es) (b ∷ bs) zero h k a = and-eq-true-iff (near e b) (allNear es bs) .0 a .0
-near-at (e ∷ es) (b ∷ bs) (suc i) h k a = near-at es bs i (omega arith) (omega arith) (and-eq-true-iff (near e b) (allNear es bs) .0 a .1)
+near-at (e ∷ es) (b ∷ bs) (suc i) h k a = near-at es bs i (omega arith) (omega arith)
+    (and-eq-true-iff (near e b) (allNear es bs) .0 a .1)
 
 module _ (es bs : List ℕ) (i : ℕ) where
   near-next : i < length es → i < length bs
-      → allNear (drop i es) (drop i bs) ≡ near (getD es i 0) (getD bs i 0) && allNear (drop (i + 1) es) (drop (i + 1) bs)
+      → allNear (drop i es) (drop i bs) ≡ near (getD es i 0) (getD bs i 0) && allNear (drop (i + 1) es)
+      (drop (i + 1) bs)
   unfolding allNear
   near-next h k =
       ap₂ allNear (drop-cons es i 0 h) (drop-cons bs i 0 k)
@@ -96,7 +99,8 @@ base-length false old new infinity h = length-replicate (length new) infinity
 
 -- the run's data from the entries
 module _ (new base : List ℕ) (like : length base ≡ length new) where
-  pub data-length : (small : Bool) → length (packed (cond small 4 8) (raws (cond small 4 8) new base)) ≡ dataLength small (length new)
+  pub data-length : (small : Bool) → length (packed (cond small 4 8) (raws (cond small 4 8) new base))
+      ≡ dataLength small (length new)
   data-length true = packed-four-length (raws 4 new base) ∙ ap (λ n. n / 2) (raws-length 4 new base like)
   data-length false = ap length (packed-eight (raws 8 new base)) ∙ raws-length 8 new base like
 
@@ -106,15 +110,18 @@ module _ (new base : List ℕ) (like : length base ≡ length new) where
       ≡ pairIn new base (2 * j)
   pair-at j h =
       packed-four-at (raws 4 new base) j (omega (arith, raws-length 4 new base like))
-      ∙ ap₂ (λ x y. x * 16 + y) (raws-at 4 new base (2 * j) like (omega arith)) (raws-at 4 new base (2 * j + 1) like (omega arith))
+      ∙ ap₂ (λ x y. x * 16 + y) (raws-at 4 new base (2 * j) like (omega arith))
+      (raws-at 4 new base (2 * j + 1) like (omega arith))
 
-  pub single-at : (j : ℕ) → j < length new → getD (packed 8 (raws 8 new base)) j 0 ≡ rawIn 256 (getD new j 0) (getD base j 0)
+  pub single-at : (j : ℕ) → j < length new → getD (packed 8 (raws 8 new base)) j 0
+      ≡ rawIn 256 (getD new j 0) (getD base j 0)
   single-at j h = ap (λ l. getD l j 0) (packed-eight (raws 8 new base)) ∙ raws-at 8 new base j like h
 
 -- a test against a sum that was cut at 255, which is as much as a byte can be
 pub capped : (e n r : ℕ) → e < 256 → r ≡ min n 255 → leb e r ≡ leb e n
 capped e n r h c =
-    same-test (leb e r) (leb e n) (λ t. le-leb e n (omega (arith, leb-true e r t))) (λ t. le-leb e r (omega (arith, leb-true e n t)))
+    same-test (leb e r) (leb e n) (λ t. le-leb e n (omega (arith, leb-true e r t)))
+    (λ t. le-leb e r (omega (arith, leb-true e n t)))
 
 -- a difference taken modulo 256 ..
 pub raw-eight : (e b : ℕ) → e < 256 → b < 256 → (e + 256 - b) % 256 ≡ rawIn 256 e b
@@ -136,7 +143,8 @@ raw-four e b m n h p q = by (leb b e) refl (leb-true e (b + 7) (k .0)) (leb-true
     by false t up down = omega (arith, leb-false b e t)
 
 -- two such differences, of entries e and f from b and d, which are read as the numbers x and y
-pub pair-raw : (e f b d x y r s : ℕ) → e < 256 → b < 256 → near e b ≡ true → near f d ≡ true → x ≡ e + 256 * f → y ≡ b + 256 * d
+pub pair-raw : (e f b d x y r s : ℕ) → e < 256 → b < 256 → near e b ≡ true → near f d ≡ true
+    → x ≡ e + 256 * f → y ≡ b + 256 * d
     → r ≡ (x % 16 + 16 - y % 16) % 16 → s ≡ (x / 256 % 16 + 16 - y / 256 % 16) % 16
     → r * 16 + s ≡ rawIn 16 e b * 16 + rawIn 16 f d
 pair-raw e f b d x y r s h k n m p q u v =

@@ -1,4 +1,5 @@
--- Differences of entries as numbers of `bits` bits: each is in range, and adding it to the old entry gives the new one. Assumes nothing.
+-- Differences of entries as numbers of `bits` bits: each is in range, and adding it to the old entry gives the new one.
+-- Assumes nothing.
 use Prim.Native.Nat.{ℕ, suc, _+_, _-_, _*_, _^_, _≤_, _<_}
 use mathlib.Core.Path.{_≡_, refl, ap}
 use mathlib.Core.Bool.{Bool, true, false, cond}
@@ -25,7 +26,8 @@ pub record Leads (bits e b v : ℕ) : Type 0 where
 pub raw-leads : {bits : ℕ} → Width bits → (e b : ℕ) → Reaches bits e b → Leads bits e b (raw bits e b)
 raw-leads {bits} w e b r = go (leb b e) refl (twice-half w)
   where
-    go : (t : Bool) → leb b e ≡ t → (2 ^ bits ≡ half bits * 2) × (0 < half bits) → Leads bits e b (cond t (e - b) (2 ^ bits + e - b))
+    go : (t : Bool) → leb b e ≡ t → (2 ^ bits ≡ half bits * 2) × (0 < half bits)
+        → Leads bits e b (cond t (e - b) (2 ^ bits + e - b))
     go true q two =
         let le : b ≤ e = leb-true b e q in
         let up : e < b + half bits = r .up in
@@ -38,7 +40,8 @@ raw-leads {bits} w e b r = go (leb b e) refl (twice-half w)
         let down : b ≤ e + half bits = r .down in
         let high : half bits ≤ 2 ^ bits + e - b = omega arith in
         let g : gain bits (2 ^ bits + e - b) ≡ 0 = large-number bits (2 ^ bits + e - b) high .0 in
-        let l : loss bits (2 ^ bits + e - b) ≡ 2 ^ bits - (2 ^ bits + e - b) = large-number bits (2 ^ bits + e - b) high .1 in
+        let l : loss bits (2 ^ bits + e - b) ≡ 2 ^ bits - (2 ^ bits + e - b) = large-number bits
+        (2 ^ bits + e - b) high .1 in
         record { small = omega arith; sum = rw (g, l) (omega arith) }
 
 -- .. so the sum is e, and fits where e does
@@ -47,7 +50,8 @@ raw-sum {bits} w e b r =
     let s : b + gain bits (raw bits e b) ≡ e + loss bits (raw bits e b) = raw-leads w e b r .sum in
     omega arith
 
-pub raw-fits : {bits : ℕ} → Width bits → (infinity e b : ℕ) → Reaches bits e b → (1 ≤ e) × (e ≤ infinity) → fits bits infinity (raw bits e b) b ≡ true
+pub raw-fits : {bits : ℕ} → Width bits → (infinity e b : ℕ) → Reaches bits e b → (1 ≤ e) × (e ≤ infinity)
+    → fits bits infinity (raw bits e b) b ≡ true
 raw-fits {bits} w infinity e b r h =
     let s : b + gain bits (raw bits e b) ≡ e + loss bits (raw bits e b) = raw-leads w e b r .sum in
     fits-exactly bits infinity (raw bits e b) b .1 (record { low = omega arith; high = omega arith })
@@ -71,8 +75,10 @@ unfolding allNear
 all-near [] [] l h = tt
 all-near [] (b ∷ bs) l h = absurd (omega arith)
 all-near (e ∷ es) [] l h = absurd (omega arith)
-all-near (e ∷ es) (b ∷ bs) l h =
-    (near-reaches e b (and-first (near e b) (allNear es bs) h), all-near es bs (omega arith) (and-second (near e b) (allNear es bs) h))
+all-near (e ∷ es) (b ∷ bs) l h = (
+  near-reaches e b (and-first (near e b) (allNear es bs) h),
+  all-near es bs (omega arith) (and-second (near e b) (allNear es bs) h),
+)
 
 -- entries up to 127 are within 8 bits of each other
 abbrev pub Entries : ℕ → List ℕ → Type 0
@@ -81,7 +87,8 @@ Entries infinity es = Each (λ e. (1 ≤ e) × (e ≤ infinity)) es
 pub byte-reaches : (e b : ℕ) → e ≤ 127 → b ≤ 127 → Reaches 8 e b
 byte-reaches e b p q = record { up = omega arith; down = omega arith }
 
-pub all-byte : (infinity : ℕ) → infinity ≤ 127 → (es bs : List ℕ) → length es ≡ length bs → Entries infinity es → Entries infinity bs → AllReach 8 es bs
+pub all-byte : (infinity : ℕ) → infinity ≤ 127 → (es bs : List ℕ) → length es ≡ length bs → Entries infinity es
+    → Entries infinity bs → AllReach 8 es bs
 all-byte infinity k [] [] l p q = tt
 all-byte infinity k [] (b ∷ bs) l p q = absurd (omega arith)
 all-byte infinity k (e ∷ es) [] l p q = absurd (omega arith)
@@ -111,9 +118,11 @@ module _ {bits : ℕ} (w : Width bits) where
   raws-added (e ∷ es) [] h = absurd h
   raws-added (e ∷ es) (b ∷ bs) h = rw (raw-sum w e b (h .0), raws-added es bs (h .1))
 
-  pub raws-fit : (infinity : ℕ) (es bs : List ℕ) → AllReach bits es bs → Entries infinity es → allFit bits infinity (raws bits es bs) bs ≡ true
+  pub raws-fit : (infinity : ℕ) (es bs : List ℕ) → AllReach bits es bs → Entries infinity es → allFit bits infinity
+      (raws bits es bs) bs ≡ true
   unfolding raws allFit
   raws-fit infinity [] [] h k = refl
   raws-fit infinity [] (b ∷ bs) h k = absurd h
   raws-fit infinity (e ∷ es) [] h k = absurd h
-  raws-fit infinity (e ∷ es) (b ∷ bs) h k = and-both (raw-fits w infinity e b (h .0) (k .0)) (raws-fit infinity es bs (h .1) (k .1))
+  raws-fit infinity (e ∷ es) (b ∷ bs) h k = and-both (raw-fits w infinity e b (h .0) (k .0))
+      (raws-fit infinity es bs (h .1) (k .1))

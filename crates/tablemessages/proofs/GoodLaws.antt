@@ -48,7 +48,8 @@ all-at f (x ∷ xs) (suc i) h k = all-at f xs i (and-eq-true-iff (f x) (all f xs
 
 all-of : (f : ℕ → Bool) (l : List ℕ) → ((i : ℕ) → i < length l → f (getD l i 0) ≡ true) → all f l ≡ true
 all-of f [] h = refl
-all-of f (x ∷ xs) h = and-eq-true-iff (f x) (all f xs) .1 (h 0 (omega arith), all-of f xs (λ i k. h (suc i) (omega arith)))
+all-of f (x ∷ xs) h = and-eq-true-iff (f x) (all f xs) .1
+    (h 0 (omega arith), all-of f xs (λ i k. h (suc i) (omega arith)))
 
 module _ (es : List ℕ) (infinity : ℕ) where
   good-to : goodTable es infinity ≡ true → GoodTable es infinity
@@ -62,7 +63,8 @@ module _ (es : List ℕ) (infinity : ℕ) where
         low = leb-true 2 infinity (c .0);
         high = leb-true infinity 127 (c .1);
         entries = λ i k.
-            let e = and-eq-true-iff (leb 1 (getD es i 0)) (leb (getD es i 0) infinity) .0 (all-at (inRange infinity) es i (b .1) k) in
+            let e = and-eq-true-iff (leb 1 (getD es i 0)) (leb (getD es i 0) infinity) .0
+            (all-at (inRange infinity) es i (b .1) k) in
             (leb-true 1 (getD es i 0) (e .0), leb-true (getD es i 0) infinity (e .1));
       }
 
@@ -70,7 +72,8 @@ module _ (es : List ℕ) (infinity : ℕ) where
   unfolding goodTable
   good-of g =
       rw (g .long, le-leb 2 infinity (g .low), le-leb infinity 127 (g .high))
-      (all-of (inRange infinity) es (λ i k. rw (le-leb 1 (getD es i 0) (g .entries i k .0), le-leb (getD es i 0) infinity (g .entries i k .1))))
+      (all-of (inRange infinity) es
+      (λ i k. rw (le-leb 1 (getD es i 0) (g .entries i k .0), le-leb (getD es i 0) infinity (g .entries i k .1))))
 
   pub good-exactly : (goodTable es infinity ≡ true) ↔ GoodTable es infinity
   good-exactly = (good-to, good-of)
@@ -84,7 +87,8 @@ pub record GoodCall (had : Bool) (old : List ℕ) (oldInfinity : ℕ) (new : Lis
   pub some : 1 ≤ size
   pub most : size ≤ 4091
 
-pub call-to : (had : Bool) (old : List ℕ) (oldInfinity : ℕ) (new : List ℕ) (infinity size : ℕ) → mayWrite had old oldInfinity new infinity size ≡ true
+pub call-to : (had : Bool) (old : List ℕ) (oldInfinity : ℕ) (new : List ℕ) (infinity size : ℕ)
+    → mayWrite had old oldInfinity new infinity size ≡ true
     → GoodCall had old oldInfinity new infinity size
 unfolding mayWrite
 call-to true old oldInfinity new infinity size h =
@@ -113,7 +117,8 @@ call-to false old oldInfinity new infinity size h =
       most = leb-true size 4091 (b .0);
     }
 
-pub call-of : (had : Bool) (old : List ℕ) (oldInfinity : ℕ) (new : List ℕ) (infinity size : ℕ) → GoodCall had old oldInfinity new infinity size
+pub call-of : (had : Bool) (old : List ℕ) (oldInfinity : ℕ) (new : List ℕ) (infinity size : ℕ)
+    → GoodCall had old oldInfinity new infinity size
     → mayWrite had old oldInfinity new infinity size ≡ true
 unfolding mayWrite
 call-of true old oldInfinity new infinity size g =
@@ -130,9 +135,11 @@ call-of false old oldInfinity new infinity size g =
 
 pub call-exactly : (had : Bool) (old : List ℕ) (oldInfinity : ℕ) (new : List ℕ) (infinity size : ℕ)
     → (mayWrite had old oldInfinity new infinity size ≡ true) ↔ GoodCall had old oldInfinity new infinity size
-call-exactly had old oldInfinity new infinity size = (call-to had old oldInfinity new infinity size, call-of had old oldInfinity new infinity size)
+call-exactly had old oldInfinity new infinity size =
+    (call-to had old oldInfinity new infinity size, call-of had old oldInfinity new infinity size)
 
 -- a good call has at most 65,536 entries
-pub call-few : (had : Bool) (old : List ℕ) (oldInfinity : ℕ) (new : List ℕ) (infinity size : ℕ) → GoodCall had old oldInfinity new infinity size
+pub call-few : (had : Bool) (old : List ℕ) (oldInfinity : ℕ) (new : List ℕ) (infinity size : ℕ)
+    → GoodCall had old oldInfinity new infinity size
     → length new ≤ 65536
 call-few had old oldInfinity new infinity size g = length-bound (length new) (g .fresh .long)

@@ -13,7 +13,8 @@ use Rattle.laws.proofs.Over.{over-length}
 use Rattle.laws.proofs.Chunks.{Each, each-append, each-take, each-drop, little-bytes}
 use Rattle.wire.specs.Header.{message, routeUpdate}
 use Rattle.tables.proofs.PatchFacts.{Width, four, eight, Below, packed-bytes}
-use Rattle.tablemessages.specs.Writer.{baseOf, bitsFor, raws, dataOf, chunks, partsOf, runOf, update, resetPayload, patchPayload, runFrom}
+use Rattle.tablemessages.specs.Writer.{baseOf, bitsFor, raws, dataOf, chunks, partsOf, runOf, update}
+use Rattle.tablemessages.specs.Writer.{resetPayload, patchPayload, runFrom}
 use Rattle.tablemessages.specs.Writer.{messagesOf, joined, writerAnswer, writerBytes, writerOut}
 use Rattle.tablemessages.proofs.Differences.{AllReach, raws-below}
 use Rattle.tablemessages.proofs.Accepted.{Accepted, accepted, room-passed, Based, based, reach}
@@ -26,8 +27,10 @@ parts-bytes : (n size : ℕ) (d : List ℕ) → Bytes d → Each Bytes (chunks n
 unfolding chunks
 parts-bytes zero size d h = tt
 parts-bytes (suc n) size [] h = tt
-parts-bytes (suc n) size (b ∷ bs) h =
-    (each-take (λ b. b < 256) size (b ∷ bs) h, parts-bytes n size (drop size (b ∷ bs)) (each-drop (λ b. b < 256) size (b ∷ bs) h))
+parts-bytes (suc n) size (b ∷ bs) h = (
+  each-take (λ b. b < 256) size (b ∷ bs) h,
+  parts-bytes n size (drop size (b ∷ bs)) (each-drop (λ b. b < 256) size (b ∷ bs) h),
+)
 
 joined-bytes : (ms : List (List ℕ)) → Each Bytes ms → Bytes (joined ms)
 unfolding joined
@@ -56,12 +59,14 @@ module _ (number : List ℕ) (bytes : Bytes number) where
       (resetPayload n infinity)
       (omega arith, each-append (λ b. b < 256) (littleBytes 4 n) (infinity ∷ []) (little-bytes 4 n) (omega arith, tt))
 
-  run-bytes : (place size bits : ℕ) (ds : List (List ℕ)) → place + length ds ≤ suc size → size ≤ 255 → bits ≤ 8 → Each Bytes ds
+  run-bytes : (place size bits : ℕ) (ds : List (List ℕ)) → place + length ds ≤ suc size
+      → size ≤ 255 → bits ≤ 8 → Each Bytes ds
       → Each Bytes (runFrom number place size bits ds)
   unfolding runFrom
   run-bytes place size bits [] p s b h = tt
   run-bytes place size bits (d ∷ ds) p s b h = (
-    update-bytes (patchPayload place size bits d) (omega arith, (omega arith, (omega arith, (omega arith, (omega arith, h .0))))),
+    update-bytes (patchPayload place size bits d)
+        (omega arith, (omega arith, (omega arith, (omega arith, (omega arith, h .0))))),
     run-bytes (suc place) size bits ds (omega arith) s b (h .1),
   )
 
@@ -76,12 +81,14 @@ data-bytes new base infinity b =
     packed-bytes (r .0) (raws (bitsFor new base) new base) (raws-below (r .0) new base (r .1))
 
 -- the messages of an accepted table are bytes: each place and the run's size are at most 255
-messages-bytes : (number : List ℕ) → Bytes number → (had : Bool) (old new : List ℕ) (infinity size : ℕ) → Accepted had old new infinity size
+messages-bytes : (number : List ℕ) → Bytes number → (had : Bool) (old new : List ℕ) (infinity size : ℕ)
+    → Accepted had old new infinity size
     → Each Bytes (messagesOf number had old new infinity size)
 unfolding messagesOf
 messages-bytes number bytes had old new infinity size a = go had a
   where
-    run : (base : List ℕ) → Based new base infinity → length (partsOf size (dataOf new base)) ≤ 255 → Each Bytes (runOf number new base size)
+    run : (base : List ℕ) → Based new base infinity → length (partsOf size (dataOf new base)) ≤ 255 → Each Bytes
+        (runOf number new base size)
     run base b short =
         run-bytes
         number
@@ -97,18 +104,24 @@ messages-bytes number bytes had old new infinity size a = go had a
 
     go : (t : Bool) → Accepted t old new infinity size → Each Bytes (messagesOf number t old new infinity size)
     go true k = run old (based true old new infinity size k) (k .run)
-    go false k =
-        (reset-bytes number bytes (length new) infinity (k .fresh .limit), run (baseOf false old new infinity) (based false old new infinity size k) (k .run))
+    go false k = (
+      reset-bytes number bytes (length new) infinity (k .fresh .limit),
+      run (baseOf false old new infinity) (based false old new infinity size k) (k .run),
+    )
 
-pub written-bytes : (number : List ℕ) → Bytes number → (had : Bool) (old : List ℕ) (oldInfinity : ℕ) (new : List ℕ) (infinity size outLength : ℕ)
-    → writerAnswer number had old oldInfinity new infinity size outLength ≡ 0 → Bytes (joined (messagesOf number had old new infinity size))
+pub written-bytes : (number : List ℕ) → Bytes number → (had : Bool) (old : List ℕ) (oldInfinity : ℕ) (new : List ℕ)
+    (infinity size outLength : ℕ)
+    → writerAnswer number had old oldInfinity new infinity size outLength ≡ 0
+    → Bytes (joined (messagesOf number had old new infinity size))
 written-bytes number bytes had old oldInfinity new infinity size outLength e =
     joined-bytes
     (messagesOf number had old new infinity size)
-    (messages-bytes number bytes had old new infinity size (accepted number had old oldInfinity new infinity size outLength e))
+    (messages-bytes number bytes had old new infinity size
+    (accepted number had old oldInfinity new infinity size outLength e))
 
 -- output keeps its length, whatever is answered
-module _ (number : List ℕ) (had : Bool) (old : List ℕ) (oldInfinity : ℕ) (new : List ℕ) (infinity size : ℕ) (out : List ℕ) where
+module _ (number : List ℕ) (had : Bool) (old : List ℕ) (oldInfinity : ℕ) (new : List ℕ) (infinity size : ℕ)
+    (out : List ℕ) where
   pub out-length : length (writerOut number had old oldInfinity new infinity size out) ≡ length out
   unfolding writerOut writerBytes
   out-length = go (eqb answer 0) refl
@@ -121,6 +134,7 @@ module _ (number : List ℕ) (had : Bool) (old : List ℕ) (oldInfinity : ℕ) (
 
       go : (t : Bool) → eqb answer 0 ≡ t → length (over 0 (cond t bytes []) out) ≡ length out
       go true q =
-          let room : length bytes ≤ length out = room-passed number had old oldInfinity new infinity size (length out) (eqb-true answer 0 q) in
+          let room : length bytes ≤ length out = room-passed number had old oldInfinity new infinity size (length out)
+          (eqb-true answer 0 q) in
           over-length 0 bytes out (omega arith)
       go false q = refl

@@ -28,7 +28,8 @@ module _ (p : Plan) (old new : List ℕ) (s : Sound p old new) where
   pub small-length : p .small ≡ true → length (dataBy p old new) ≡ length new / 2
   small-length e = plan-length ∙ ap (λ t. dataLength t (length new)) e
 
-  pub small-at : p .small ≡ true → (j : ℕ) → j < length (dataBy p old new) → getD (dataBy p old new) j 0 ≡ pairIn new (baseBy p old new) (2 * j)
+  pub small-at : p .small ≡ true → (j : ℕ) → j < length (dataBy p old new) → getD (dataBy p old new) j 0 ≡ pairIn new
+      (baseBy p old new) (2 * j)
   unfolding dataBy
   small-at e j h =
       ap (λ t. getD (packed (cond t 4 8) (raws (cond t 4 8) new (baseBy p old new))) j 0) e

@@ -11,9 +11,11 @@ use Rattle.laws.proofs.Chunks.{Each}
 use Rattle.tables.specs.Patch.{numbers}
 use Rattle.tables.specs.Tables.{Held}
 use Rattle.tables.proofs.PatchFacts.{Width}
-use Rattle.tablemessages.specs.Writer.{baseOf, bitsFor, raws, dataOf, partsOf, runFrom, messagesOf, joined, writerAnswer, writerBytes}
+use Rattle.tablemessages.specs.Writer.{baseOf, bitsFor, raws, dataOf, partsOf, runFrom, messagesOf, joined}
+use Rattle.tablemessages.specs.Writer.{writerAnswer, writerBytes}
 use Rattle.tablemessages.specs.Writer.{writerResult, writerOut}
-use Rattle.tablemessages.specs.RoundTrip.{RoundTrip, BytesRoundTrip, ReadAs, Stands, settledAs, runPayloads, payloadsOf}
+use Rattle.tablemessages.specs.RoundTrip.{RoundTrip, BytesRoundTrip, ReadAs, Stands, settledAs, runPayloads}
+use Rattle.tablemessages.specs.RoundTrip.{payloadsOf}
 use Rattle.tablemessages.proofs.Differences.{AllReach, raws-length, raws-added, raws-fit}
 use Rattle.tablemessages.proofs.Parts.{parts-joined}
 use Rattle.tablemessages.proofs.Whole.{Short, all-whole, payloads-short}
@@ -48,12 +50,14 @@ from-reset n infinity =
       entries = refl;
     }
 
-module _ (new base : List ℕ) (infinity : ℕ) (b : Based new base infinity) (room : ℕ) (number : List ℕ) (sixteen : length number ≡ 16)
+module _ (new base : List ℕ) (infinity : ℕ) (b : Based new base infinity) (room : ℕ) (number : List ℕ)
+    (sixteen : length number ≡ 16)
     (h : Held) (from : From h base infinity) where
   r : Width (bitsFor new base) × AllReach (bitsFor new base) new base
   r = reach new base infinity b
 
-  numbers-of : (ds : List (List ℕ)) → joined ds ≡ dataOf new base → numbers (bitsFor new base) (joined ds) ≡ raws (bitsFor new base) new base
+  numbers-of : (ds : List (List ℕ)) → joined ds ≡ dataOf new base → numbers (bitsFor new base) (joined ds)
+      ≡ raws (bitsFor new base) new base
   numbers-of ds e = rw e (data-numbers new base infinity b)
 
   run-fits : (size : ℕ) (ds : List (List ℕ)) → joined ds ≡ dataOf new base → RunFits (bitsFor new base) size 1 ds h
@@ -62,10 +66,12 @@ module _ (new base : List ℕ) (infinity : ℕ) (b : Based new base infinity) (r
       record {
         awaits = from .awaits size (bitsFor new base);
         long = rw (numbers-of ds e, from .at, from .entries) (omega arith);
-        fit = rw (numbers-of ds e, from .at, from .limit, from .entries) (raws-fit (r .0) infinity new base (r .1) (b .fresh .entries));
+        fit = rw (numbers-of ds e, from .at, from .limit, from .entries) (raws-fit (r .0) infinity new base (r .1)
+            (b .fresh .entries));
       }
 
-  run-settles : (ds : List (List ℕ)) → joined ds ≡ dataOf new base → settledTo (bitsFor new base) (joined ds) h ≡ settledAs new infinity
+  run-settles : (ds : List (List ℕ)) → joined ds ≡ dataOf new base → settledTo (bitsFor new base) (joined ds) h
+      ≡ settledAs new infinity
   run-settles ds e =
       rw (numbers-of ds e, from .at, from .limit, from .long, from .entries, raws-added (r .0) new base (r .1), b .same)
 
@@ -80,14 +86,16 @@ module _ (new base : List ℕ) (infinity : ℕ) (b : Based new base infinity) (r
       omega arith
 
   -- a run of parts whose data joined is the writer's
-  pub run-back : (ds : List (List ℕ)) → joined ds ≡ dataOf new base → Each Short (runPayloads 1 (length ds) (bitsFor new base) ds)
+  pub run-back : (ds : List (List ℕ)) → joined ds ≡ dataOf new base
+      → Each Short (runPayloads 1 (length ds) (bitsFor new base) ds)
       → ReadAs room h (runFrom number 1 (length ds) (bitsFor new base) ds) (settledAs new infinity)
   run-back [] e short = absurd (run-some e)
   run-back (d ∷ ds) e short =
       rw
       (run-settles (d ∷ ds) e)
       at
-      (run-read (r .0) room (suc (length ds)) number sixteen 1 d ds h (le-refl 1) (omega arith) short (run-fits (suc (length ds)) (d ∷ ds) e))
+      (run-read (r .0) room (suc (length ds)) number sixteen 1 d ds h (le-refl 1) (omega arith) short
+      (run-fits (suc (length ds)) (d ∷ ds) e))
 
 module _ (number : List ℕ) (sixteen : length number ≡ 16) (old new : List ℕ) (infinity size room : ℕ) (h : Held) where
   with-old : Accepted true old new infinity size → Stands h old infinity
@@ -115,7 +123,8 @@ module _ (number : List ℕ) (sixteen : length number ≡ 16) (old new : List �
       let base : List ℕ = baseOf false old new infinity in
       let most : length new ≤ 65536 = good-length (length new) (a .fresh .length-test) .most in
       read-more
-      (reset-taken room (length new) infinity (omega arith) h number sixteen (a .fresh .length-test) within (a .fresh .limit-test))
+      (reset-taken room (length new) infinity (omega arith) h number sixteen (a .fresh .length-test) within
+      (a .fresh .limit-test))
       (run-back
       new
       base
@@ -132,14 +141,18 @@ module _ (number : List ℕ) (sixteen : length number ≡ 16) (old new : List �
 
 pub round-trip : RoundTrip
 round-trip number true old oldInfinity new infinity size outLength room h sixteen e within stands =
-    with-old number sixteen old new infinity size room h (accepted number true old oldInfinity new infinity size outLength e) (stands refl)
+    with-old number sixteen old new infinity size room h (accepted number true old oldInfinity new infinity size
+    outLength e) (stands refl)
 round-trip number false old oldInfinity new infinity size outLength room h sixteen e within stands =
-    with-none number sixteen old new infinity size room h (accepted number false old oldInfinity new infinity size outLength e) within
+    with-none number sixteen old new infinity size room h (accepted number false old oldInfinity new infinity size
+    outLength e) within
 
 -- and of the bytes
-module _ (number : List ℕ) (had : Bool) (old : List ℕ) (oldInfinity : ℕ) (new : List ℕ) (infinity size : ℕ) (out : List ℕ) where
+module _ (number : List ℕ) (had : Bool) (old : List ℕ) (oldInfinity : ℕ) (new : List ℕ) (infinity size : ℕ)
+    (out : List ℕ) where
   pub written-bytes : writerAnswer number had old oldInfinity new infinity size (length out) ≡ 0
-      → take (writerResult number had old oldInfinity new infinity size out .written) (writerOut number had old oldInfinity new infinity size out)
+      → take (writerResult number had old oldInfinity new infinity size out .written)
+      (writerOut number had old oldInfinity new infinity size out)
       ≡ joined (messagesOf number had old new infinity size)
   unfolding writerResult writerOut writerBytes
   written-bytes e =

@@ -12,7 +12,8 @@ use Rattle.tablemessages.specs.Writer.{chunks, partsOf, runFrom, joined,
 
 -- a part off n bytes leaves one part less
 one-less : (size n r : ℕ) → 1 ≤ size → 1 ≤ n → r ≡ n - size → suc ((r + size - 1) / size) ≡ (n + size - 1) / size
-one-less size n r h k e = sym (div-eq-sub-div h (omega arith) ∙ add-one ((n + size - 1 - size) / size) ∙ ap suc (same (decLe size n)))
+one-less size n r h k e = sym (div-eq-sub-div h (omega arith) ∙ add-one ((n + size - 1 - size) / size)
+    ∙ ap suc (same (decLe size n)))
   where
     same : Dec (size ≤ n) → (n + size - 1 - size) / size ≡ (r + size - 1) / size
     same (yes l) = ap (λ x. x / size) (omega arith)
@@ -38,7 +39,8 @@ module _ (size : ℕ) (some : 1 ≤ size) where
   parts-next [] h = absurd (omega arith)
   parts-next (b ∷ bs) h =
       let l = length-drop size (b ∷ bs) in
-      ap (λ r. take size (b ∷ bs) ∷ r) (enough (length bs) (length (drop size (b ∷ bs))) (drop size (b ∷ bs)) (omega arith) (omega arith))
+      ap (λ r. take size (b ∷ bs) ∷ r) (enough (length bs) (length (drop size (b ∷ bs))) (drop size (b ∷ bs))
+      (omega arith) (omega arith))
 
   -- how many parts: the data's bytes by `size`, rounded up
   pub parts-count : (n : ℕ) (d : List ℕ) → length d ≤ n → length (chunks n size d) ≡ (length d + size - 1) / size
@@ -48,7 +50,8 @@ module _ (size : ℕ) (some : 1 ≤ size) where
   parts-count (suc n) [] h = sym (div-eq-of-lt (omega arith))
   parts-count (suc n) (b ∷ bs) h =
       let l = length-drop size (b ∷ bs) in
-      ap suc (parts-count n (drop size (b ∷ bs)) (omega arith)) ∙ one-less size (length (b ∷ bs)) (length (drop size (b ∷ bs))) some (omega arith) l
+      ap suc (parts-count n (drop size (b ∷ bs)) (omega arith)) ∙ one-less size (length (b ∷ bs))
+      (length (drop size (b ∷ bs))) some (omega arith) l
 
   -- the parts, joined, are the data
   pub parts-joined : (n : ℕ) (d : List ℕ) → length d ≤ n → joined (chunks n size d) ≡ d
@@ -58,7 +61,8 @@ module _ (size : ℕ) (some : 1 ≤ size) where
   parts-joined (suc n) [] h = refl
   parts-joined (suc n) (b ∷ bs) h =
       let l = length-drop size (b ∷ bs) in
-      ap (λ r. take size (b ∷ bs) ++ r) (parts-joined n (drop size (b ∷ bs)) (omega arith)) ∙ take-append-drop size (b ∷ bs)
+      ap (λ r. take size (b ∷ bs) ++ r) (parts-joined n (drop size (b ∷ bs)) (omega arith))
+      ∙ take-append-drop size (b ∷ bs)
 
 -- a run's bytes: 28 for each message, and the data
 pub run-length : (number : List ℕ) (size bits place : ℕ) (ds : List (List ℕ)) → length number ≡ 16

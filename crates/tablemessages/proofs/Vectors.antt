@@ -7,8 +7,10 @@ use lib.ListN.{replicate, drop}
 use Rattle.wire.specs.Header.{message}
 use Rattle.tables.specs.Tables.{heldIn, noTable, goodLength}
 use Rattle.tables.specs.Patch.{numbers, packed, added, allFit}
-use Rattle.tables.specs.Updates.{updateAnswer, updated, goodReset, goodPatch, inTurn, inRange, resetBy, movedOn, patchBy, brokenBy}
-use Rattle.tablemessages.specs.Writer.{allNear, raws, dataOf, chunks, runFrom, messagesOf, joined, goodTable, writerAnswer, writerBytes, writerOut}
+use Rattle.tables.specs.Updates.{updateAnswer, updated, goodReset, goodPatch, inTurn, inRange, resetBy, movedOn}
+use Rattle.tables.specs.Updates.{patchBy, brokenBy}
+use Rattle.tablemessages.specs.Writer.{allNear, raws, dataOf, chunks, runFrom, messagesOf, joined, goodTable}
+use Rattle.tablemessages.specs.Writer.{writerAnswer, writerBytes, writerOut}
 use Rattle.tablemessages.specs.RoundTrip.{afterAll, settledAs}
 
 new : List ℕ
@@ -17,7 +19,8 @@ new = 8 ∷ 1 ∷ 8 ∷ 1 ∷ []
 messages : List (List ℕ)
 messages = messagesOf (replicate 16 7) false [] new 8 1
 
-payloads : map (drop 23) messages ≡ (0 ∷ 4 ∷ 0 ∷ 0 ∷ 0 ∷ 8 ∷ []) ∷ (1 ∷ 1 ∷ 2 ∷ 0 ∷ 4 ∷ 9 ∷ []) ∷ (1 ∷ 2 ∷ 2 ∷ 0 ∷ 4 ∷ 9 ∷ []) ∷ []
+payloads : map (drop 23) messages ≡ (0 ∷ 4 ∷ 0 ∷ 0 ∷ 0 ∷ 8 ∷ []) ∷ (1 ∷ 1 ∷ 2 ∷ 0 ∷ 4 ∷ 9 ∷ [])
+    ∷ (1 ∷ 2 ∷ 2 ∷ 0 ∷ 4 ∷ 9 ∷ []) ∷ []
 unfolding new messages messagesOf allNear raws dataOf chunks runFrom message packed
 payloads = refl
 
@@ -30,12 +33,14 @@ unfolding new messagesOf allNear raws dataOf chunks runFrom message packed write
 short = refl
 
 back : afterAll 4 (heldIn noTable []) messages ≡ settledAs new 8
-unfolding new messages messagesOf allNear raws dataOf chunks runFrom message packed afterAll updateAnswer updated goodReset goodPatch
+unfolding new messages messagesOf allNear raws dataOf chunks runFrom message packed afterAll updateAnswer updated
+    goodReset goodPatch
     inTurn inRange resetBy movedOn patchBy brokenBy goodLength numbers added allFit
 back = refl
 
 -- from the old table: no RESET, and each difference 0 or 7
-onward : map (drop 23) (messagesOf (replicate 16 7) true new (8 ∷ 8 ∷ 8 ∷ 8 ∷ []) 8 2) ≡ (1 ∷ 1 ∷ 1 ∷ 0 ∷ 4 ∷ 0x07 ∷ 0x07 ∷ []) ∷ []
+onward : map (drop 23) (messagesOf (replicate 16 7) true new (8 ∷ 8 ∷ 8 ∷ 8 ∷ []) 8 2)
+    ≡ (1 ∷ 1 ∷ 1 ∷ 0 ∷ 4 ∷ 0x07 ∷ 0x07 ∷ []) ∷ []
 unfolding new messagesOf allNear raws dataOf chunks runFrom message packed
 onward = refl
 
@@ -65,5 +70,6 @@ empty = refl
 
 -- 87 bytes are written, and the two behind them stay
 kept : drop 86 (writerOut (replicate 16 7) false [] 0 new 8 1 (replicate 89 5)) ≡ 9 ∷ 5 ∷ 5 ∷ []
-unfolding new messagesOf allNear raws dataOf chunks runFrom message packed writerAnswer goodTable joined goodLength writerOut writerBytes
+unfolding new messagesOf allNear raws dataOf chunks runFrom message packed writerAnswer goodTable joined goodLength
+    writerOut writerBytes
 kept = refl

@@ -1,5 +1,6 @@
--- Every message of the writer is whole: type, TTL, Hops and payload are read back from its bytes, and its length is its header's and the
--- payload length that the header says. So messages that stand one after another are told apart. Assumes nothing.
+-- Every message of the writer is whole: type, TTL, Hops and payload are read back from its bytes, and its length is its
+-- header's and the payload length that the header says. So messages that stand one after another are told apart.
+-- Assumes nothing.
 use Prim.Native.Nat.{ℕ, zero, suc, _+_, _≤_, _<_}
 use mathlib.Core.Path.{_≡_, refl, sym, ap}
 use mathlib.Core.Bool.{Bool, true, false}
@@ -9,9 +10,11 @@ use native.Mathlib.Nat.{le-refl}
 use lib.ListN.{length, take, drop, length-append, length-drop}
 use lib.Seq.{take-append-le, drop-append-le, take-append-seam, drop-append-seam}
 use Rattle.laws.proofs.Chunks.{Each}
-use Rattle.wire.proofs.HeaderLaws.{message-length, message-kind, message-ttl, message-hops, message-size, message-payload}
+use Rattle.wire.proofs.HeaderLaws.{message-length, message-kind, message-ttl, message-hops, message-size}
+use Rattle.wire.proofs.HeaderLaws.{message-payload}
 use Rattle.wire.specs.Header.{kindOf, ttlOf, hopsOf, sizeOf, payloadOf, routeUpdate}
-use Rattle.tablemessages.specs.Writer.{baseOf, update, resetPayload, patchPayload, bitsFor, dataOf, partsOf, runFrom, messagesOf, joined}
+use Rattle.tablemessages.specs.Writer.{baseOf, update, resetPayload, patchPayload, bitsFor, dataOf, partsOf}
+use Rattle.tablemessages.specs.Writer.{runFrom, messagesOf, joined}
 use Rattle.tablemessages.specs.RoundTrip.{messagesFrom, messagesIn, runPayloads, payloadsOf}
 use Rattle.tablemessages.proofs.Parts.{part-sizes}
 
@@ -46,7 +49,8 @@ module _ (number : List ℕ) (sixteen : length number ≡ 16) where
 
     pub whole : Whole payload (update number payload)
     whole =
-        let size : sizeOf (update number payload) ≡ length payload = message-size number routeUpdate 1 0 payload sixteen short in
+        let size : sizeOf (update number payload) ≡ length payload = message-size number routeUpdate 1 0
+        payload sixteen short in
         record {
           kind = message-kind number routeUpdate 1 0 payload sixteen;
           ttl = message-ttl number routeUpdate 1 0 payload sixteen;
@@ -78,7 +82,8 @@ module _ (number : List ℕ) (sixteen : length number ≡ 16) where
   apart zero [] h k = refl
   apart (suc n) [] h k = refl
   apart zero (p ∷ ps) h k =
-      let some : 1 ≤ length (update number p ++ joined (map (update number) ps)) = some-bytes p (h .0) (joined (map (update number) ps)) in
+      let some : 1 ≤ length (update number p ++ joined (map (update number) ps)) = some-bytes p (h .0)
+      (joined (map (update number) ps)) in
       absurd (omega arith)
   apart (suc n) (p ∷ ps) h k =
       let m : List ℕ = update number p in
@@ -94,10 +99,12 @@ module _ (number : List ℕ) (sixteen : length number ≡ 16) where
       )
 
   -- every message of the writer: an update with its payload
-  run-updates : (place size bits : ℕ) (ds : List (List ℕ)) → runFrom number place size bits ds ≡ map (update number) (runPayloads place size bits ds)
+  run-updates : (place size bits : ℕ) (ds : List (List ℕ)) → runFrom number place size bits ds ≡ map (update number)
+      (runPayloads place size bits ds)
   unfolding runFrom runPayloads
   run-updates place size bits [] = refl
-  run-updates place size bits (d ∷ ds) = ap (λ (r : List (List ℕ)). update number (patchPayload place size bits d) ∷ r) (run-updates (suc place) size bits ds)
+  run-updates place size bits (d ∷ ds) = ap (λ (r : List (List ℕ)). update number (patchPayload place size bits d) ∷ r)
+      (run-updates (suc place) size bits ds)
 
   pub updates : (had : Bool) (old new : List ℕ) (infinity size : ℕ)
       → messagesOf number had old new infinity size ≡ map (update number) (payloadsOf had old new infinity size)
@@ -119,14 +126,16 @@ module _ (number : List ℕ) (sixteen : length number ≡ 16) where
   payloads-back (p ∷ ps) h = rw (whole p (h .0) .content, payloads-back ps (h .1))
 
 -- payloads are small where the data size is, and so they are short
-run-small : (place size bits limit : ℕ) (ds : List (List ℕ)) → limit ≤ 4091 → Each (λ d. length d ≤ limit) ds → Each Small (runPayloads place size bits ds)
+run-small : (place size bits limit : ℕ) (ds : List (List ℕ)) → limit ≤ 4091 → Each (λ d. length d ≤ limit) ds
+    → Each Small (runPayloads place size bits ds)
 unfolding runPayloads
 run-small place size bits limit [] k h = tt
 run-small place size bits limit (d ∷ ds) k h =
     let here : length d ≤ limit = h .0 in
     (omega arith, run-small (suc place) size bits limit ds k (h .1))
 
-pub payloads-small : (had : Bool) (old new : List ℕ) (infinity size : ℕ) → size ≤ 4091 → Each Small (payloadsOf had old new infinity size)
+pub payloads-small : (had : Bool) (old new : List ℕ) (infinity size : ℕ) → size ≤ 4091 → Each Small
+    (payloadsOf had old new infinity size)
 unfolding payloadsOf
 payloads-small true old new infinity size k =
     run-small 1 (length (partsOf size (dataOf new old))) (bitsFor new old) size (partsOf size (dataOf new old)) k
@@ -142,14 +151,17 @@ short-of-small : (ps : List (List ℕ)) → Each Small ps → Each Short ps
 short-of-small [] h = tt
 short-of-small (p ∷ ps) h = let here : length p ≤ 4096 = h .0 in (omega arith, short-of-small ps (h .1))
 
-pub payloads-short : (had : Bool) (old new : List ℕ) (infinity size : ℕ) → size ≤ 4091 → Each Short (payloadsOf had old new infinity size)
-payloads-short had old new infinity size k = short-of-small (payloadsOf had old new infinity size) (payloads-small had old new infinity size k)
+pub payloads-short : (had : Bool) (old new : List ℕ) (infinity size : ℕ) → size ≤ 4091 → Each Short
+    (payloadsOf had old new infinity size)
+payloads-short had old new infinity size k = short-of-small (payloadsOf had old new infinity size)
+    (payloads-small had old new infinity size k)
 
 -- every message is whole, their payloads are those written, and from the bytes alone they are told apart
 pub record AllWhole (number : List ℕ) (had : Bool) (old new : List ℕ) (infinity size : ℕ) : Type 0 where
   pub each : Each (λ m. Whole (payloadOf m) m) (messagesOf number had old new infinity size)
   pub payloads : map payloadOf (messagesOf number had old new infinity size) ≡ payloadsOf had old new infinity size
-  pub bytes : messagesIn (joined (messagesOf number had old new infinity size)) ≡ messagesOf number had old new infinity size
+  pub bytes : messagesIn (joined (messagesOf number had old new infinity size)) ≡ messagesOf number had
+      old new infinity size
 
 pub all-whole : (number : List ℕ) (had : Bool) (old new : List ℕ) (infinity size : ℕ) → length number ≡ 16 → size ≤ 4091
     → AllWhole number had old new infinity size
@@ -162,5 +174,6 @@ all-whole number had old new infinity size sixteen k =
       bytes =
           rw
           (updates number sixteen had old new infinity size)
-          (apart number sixteen (length (joined (map (update number) ps))) ps short (le-refl (length (joined (map (update number) ps)))));
+          (apart number sixteen (length (joined (map (update number) ps))) ps short
+          (le-refl (length (joined (map (update number) ps)))));
     }

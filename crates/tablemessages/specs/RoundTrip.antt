@@ -1,5 +1,5 @@
--- Reading what was written: from the old table, settled and with room, or from anything where there was none, every message is answered 0
--- and the new table stands, settled.
+-- Reading what was written: from the old table, settled and with room, or from anything where there was none, every
+-- message is answered 0 and the new table stands, settled.
 use Prim.Native.Nat.{ℕ, zero, suc, _+_, _≤_}
 use mathlib.Core.Path.{_≡_}
 use mathlib.Core.Bool.{Bool, true, cond}
@@ -9,7 +9,8 @@ use Rattle.wire.specs.Header.{ttlOf, hopsOf, sizeOf, payloadOf}
 use Rattle.tables.specs.declared.Table.{Table}
 use Rattle.tables.specs.Tables.{Held, settled}
 use Rattle.tables.specs.Updates.{updateAnswer, updated}
-use Rattle.tablemessages.specs.Writer.{baseOf, bitsFor, dataOf, partsOf, resetPayload, patchPayload, messagesOf, writerAnswer, writerResult, writerOut}
+use Rattle.tablemessages.specs.Writer.{baseOf, bitsFor, dataOf, partsOf, resetPayload, patchPayload, messagesOf}
+use Rattle.tablemessages.specs.Writer.{writerAnswer, writerResult, writerOut}
 
 -- a whole message handed to the table's rules
 abbrev pub answerTo : ℕ → Held → List ℕ → ℕ
@@ -31,7 +32,8 @@ afterAll room h (m ∷ ms) = afterAll room (after room h m) ms
 unfoldable pub messagesFrom : ℕ → List ℕ → List (List ℕ)
 messagesFrom zero bytes = []
 messagesFrom (suc n) [] = []
-messagesFrom (suc n) (b ∷ bs) = take (23 + sizeOf (b ∷ bs)) (b ∷ bs) ∷ messagesFrom n (drop (23 + sizeOf (b ∷ bs)) (b ∷ bs))
+messagesFrom (suc n) (b ∷ bs) = take (23 + sizeOf (b ∷ bs)) (b ∷ bs) ∷ messagesFrom n
+    (drop (23 + sizeOf (b ∷ bs)) (b ∷ bs))
 
 abbrev pub messagesIn : List ℕ → List (List ℕ)
 messagesIn bytes = messagesFrom (length bytes) bytes
@@ -52,7 +54,8 @@ payloadsOf had old new infinity size =
 
 -- a settled table of these entries
 abbrev pub settledTable : ℕ → ℕ → Table
-settledTable n infinity = record { mark = settled; length = n; infinity = infinity; nextplace = 1; runsize = 0; runbits = 0; nextentry = 0 }
+settledTable n infinity =
+    record { mark = settled; length = n; infinity = infinity; nextplace = 1; runsize = 0; runbits = 0; nextentry = 0 }
 
 abbrev pub settledAs : List ℕ → ℕ → Held
 settledAs es infinity = record { table = settledTable (length es) infinity; entries = es }
@@ -75,7 +78,8 @@ pub record ReadAs (room : ℕ) (h : Held) (ms : List (List ℕ)) (last : Held) :
 -- old table, whatever is held
 abbrev pub RoundTrip : Type 0
 RoundTrip =
-    (number : List ℕ) (had : Bool) (old : List ℕ) (oldInfinity : ℕ) (new : List ℕ) (infinity size outLength room : ℕ) (h : Held)
+    (number : List ℕ) (had : Bool) (old : List ℕ) (oldInfinity : ℕ) (new : List ℕ) (infinity size outLength room : ℕ)
+    (h : Held)
     → length number ≡ 16
     → writerAnswer number had old oldInfinity new infinity size outLength ≡ 0
     → length new ≤ room
@@ -85,7 +89,8 @@ RoundTrip =
 -- the same of the output alone: as many of its bytes as the writer says it wrote, cut into messages and read
 abbrev pub BytesRoundTrip : Type 0
 BytesRoundTrip =
-    (number : List ℕ) (had : Bool) (old : List ℕ) (oldInfinity : ℕ) (new : List ℕ) (infinity size : ℕ) (out : List ℕ) (room : ℕ) (h : Held)
+    (number : List ℕ) (had : Bool) (old : List ℕ) (oldInfinity : ℕ) (new : List ℕ) (infinity size : ℕ) (out : List ℕ)
+    (room : ℕ) (h : Held)
     → length number ≡ 16
     → writerResult number had old oldInfinity new infinity size out .answer ≡ 0
     → length new ≤ room

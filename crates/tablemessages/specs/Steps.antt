@@ -7,7 +7,8 @@ use lib.Dec.{eqb, leb}
 use lib.ListN.{length, getD}
 use Rattle.tables.specs.Patch.{packed}
 use Rattle.tablemessages.specs.declared.Plan.{Plan}
-use Rattle.tablemessages.specs.Writer.{baseOf, allNear, raws, partsOf, update, resetPayload, patchPayload, runFrom, joined, goodTable}
+use Rattle.tablemessages.specs.Writer.{baseOf, allNear, raws, partsOf, update, resetPayload, patchPayload}
+use Rattle.tablemessages.specs.Writer.{runFrom, joined, goodTable}
 
 -- the tables and the data size may be written: all that is 14 but a run that is too long
 unfoldable pub mayWrite : Bool → List ℕ → ℕ → List ℕ → ℕ → ℕ → Bool
@@ -15,7 +16,8 @@ mayWrite had old oldInfinity new infinity size =
     leb 1 size
     && (leb size 4091
     && cond had
-    (eqb (length old) (length new) && (eqb oldInfinity infinity && (goodTable old oldInfinity && goodTable new infinity)))
+    (eqb (length old) (length new)
+    && (eqb oldInfinity infinity && (goodTable old oldInfinity && goodTable new infinity)))
     (goodTable new infinity))
 
 -- e - b in two's complement, `full` being 2 to the power of the bits
@@ -71,7 +73,8 @@ resetLength had = cond had 0 29
 
 -- all the messages of a plan: the RESET, then the run
 unfoldable pub allBy : List ℕ → Plan → List ℕ → List ℕ → List ℕ
-allBy number p old new = cond (p .had) [] (update number (resetPayload (length new) (p .infinity))) ++ leftOf number p 1 (dataBy p old new)
+allBy number p old new = cond (p .had) [] (update number (resetPayload (length new) (p .infinity))) ++ leftOf number p
+    1 (dataBy p old new)
 
 -- a plan whose messages have room, of tables that a RESET may carry
 pub record Fits (number : List ℕ) (p : Plan) (old new : List ℕ) (room : ℕ) : Type 0 where

@@ -1,5 +1,5 @@
--- The writer of updates (RULES 13): the new table, the old one if any, a message number and a data size give a RESET, where
--- there was no old table, and a run of PATCH messages.
+-- The writer of updates (RULES 13): the new table, the old one if any, a message number and a data size give a RESET,
+-- where there was no old table, and a run of PATCH messages.
 use Prim.Native.Nat.{ℕ, zero, suc, _+_, _-_, _^_}
 use mathlib.Core.Bool.{Bool, true, cond, not, _&&_}
 use mathlib.Core.List.{List, [], _∷_, _++_}
@@ -65,7 +65,8 @@ patchPayload place size bits d = 1 ∷ place ∷ size ∷ 0 ∷ bits ∷ d
 -- the messages of a run of `size`, from `place` on
 unfoldable pub runFrom : List ℕ → ℕ → ℕ → ℕ → List (List ℕ) → List (List ℕ)
 runFrom number place size bits [] = []
-runFrom number place size bits (d ∷ ds) = update number (patchPayload place size bits d) ∷ runFrom number (suc place) size bits ds
+runFrom number place size bits (d ∷ ds) = update number (patchPayload place size bits d) ∷ runFrom number
+    (suc place) size bits ds
 
 abbrev pub runOf : List ℕ → List ℕ → List ℕ → ℕ → List (List ℕ)
 runOf number new base size =
@@ -74,7 +75,8 @@ runOf number new base size =
 -- all the messages, and their bytes
 unfoldable pub messagesOf : List ℕ → Bool → List ℕ → List ℕ → ℕ → ℕ → List (List ℕ)
 messagesOf number had old new infinity size =
-    cond had [] (update number (resetPayload (length new) infinity) ∷ []) ++ runOf number new (baseOf had old new infinity) size
+    cond had [] (update number (resetPayload (length new) infinity) ∷ []) ++ runOf number new
+    (baseOf had old new infinity) size
 
 unfoldable pub joined : List (List ℕ) → List ℕ
 joined [] = []
@@ -100,12 +102,14 @@ writerAnswer number had old oldInfinity new infinity size room =
     ∷ (had && not (goodTable old oldInfinity), 14)
     ∷ (had && not (eqb (length old) (length new) && eqb oldInfinity infinity), 14)
     ∷ (not (leb 1 size && leb size 4091), 14)
-    ∷ runRules (length (partsOf size (dataOf new (baseOf had old new infinity)))) (length (joined (messagesOf number had old new infinity size))) room)
+    ∷ runRules (length (partsOf size (dataOf new (baseOf had old new infinity))))
+    (length (joined (messagesOf number had old new infinity size))) room)
 
 abbrev pub writtenAs : ℕ → ℕ → Written
 writtenAs n w = record { answer = n; written = w }
 
-module _ (number : List ℕ) (had : Bool) (old : List ℕ) (oldInfinity : ℕ) (new : List ℕ) (infinity size : ℕ) (out : List ℕ) where
+module _ (number : List ℕ) (had : Bool) (old : List ℕ) (oldInfinity : ℕ) (new : List ℕ) (infinity size : ℕ)
+    (out : List ℕ) where
   -- the bytes that are written: none where the answer is not 0
   unfoldable pub writerBytes : List ℕ
   writerBytes =

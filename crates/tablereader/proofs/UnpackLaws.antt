@@ -51,22 +51,17 @@ added-widened [] es = refl
 added-widened (v ∷ vs) [] = refl
 added-widened (v ∷ vs) (e ∷ es) = cc (sum-widened v e, added-widened vs es)
 
--- the numbers of a part of 4-bit data are a part of its numbers
-pub numbers-take : (k : ℕ) (bytes : List ℕ) → numbers 4 (take k bytes) ≡ take (k * 2) (numbers 4 bytes)
+-- 4-bit data cut behind k bytes has its numbers cut behind twice as many
+pub numbers-cut : (k : ℕ) (bytes : List ℕ)
+    → (numbers 4 (take k bytes) ≡ take (k * 2) (numbers 4 bytes))
+    × (numbers 4 (drop k bytes) ≡ drop (k * 2) (numbers 4 bytes))
 unfolding numbers
-numbers-take zero bytes = refl
-numbers-take (suc k) [] = sym (take-nil (suc k * 2))
-numbers-take (suc k) (b ∷ bytes) =
+numbers-cut zero bytes = (refl, refl)
+numbers-cut (suc k) [] = (sym (take-nil (suc k * 2)), sym (drop-nil (suc k * 2)))
+numbers-cut (suc k) (b ∷ bytes) =
     let e : suc k * 2 ≡ suc (suc (k * 2)) = omega arith in
-    rw e (ap (λ l. b / 16 ∷ b % 16 ∷ l) (numbers-take k bytes))
-
-pub numbers-drop : (k : ℕ) (bytes : List ℕ) → numbers 4 (drop k bytes) ≡ drop (k * 2) (numbers 4 bytes)
-unfolding numbers
-numbers-drop zero bytes = refl
-numbers-drop (suc k) [] = sym (drop-nil (suc k * 2))
-numbers-drop (suc k) (b ∷ bytes) =
-    let e : suc k * 2 ≡ suc (suc (k * 2)) = omega arith in
-    rw e (numbers-drop k bytes)
+    let rest = numbers-cut k bytes in
+    (rw e (ap (λ l. b / 16 ∷ b % 16 ∷ l) (rest .0)), rw e (rest .1))
 
 -- what is known while bytes are unpacked one by one, when those before byte i are
 pub record Unpacking (bytes old ns : List ℕ) (i : ℕ) : Type 0 where
@@ -79,7 +74,8 @@ unfolding numbers
 unpacking-first bytes old = record { within = omega arith; same = refl; front = refl }
 
 module _ (bytes old ns : List ℕ) (i : ℕ) (u : Unpacking bytes old ns i) where
-  pub unpacking-more : (high low : ℕ) → i < length bytes → length bytes * 2 ≤ length old → high ≡ widened (getD bytes i 0 / 16)
+  pub unpacking-more : (high low : ℕ) → i < length bytes → length bytes * 2 ≤ length old
+      → high ≡ widened (getD bytes i 0 / 16)
       → low ≡ widened (getD bytes i 0 % 16) → Unpacking bytes old (set (set ns (i * 2) high) (i * 2 + 1) low) (i + 1)
   unfolding numbers
   unpacking-more high low h room p q =
@@ -111,7 +107,7 @@ module _ (at end : ℕ) (bytes es : List ℕ) (rising : at ≤ end) (within : en
   vs = numbers 4 bytes
 
   block : numbers 4 (take (end - at) (drop at bytes)) ≡ take ((end - at) * 2) (drop (at * 2) vs)
-  block = numbers-take (end - at) (drop at bytes) ∙ ap (take ((end - at) * 2)) (numbers-drop at bytes)
+  block = numbers-cut (end - at) (drop at bytes) .0 ∙ ap (take ((end - at) * 2)) (numbers-cut at bytes .1)
 
   ends : at * 2 + (end - at) * 2 ≡ end * 2
   ends = omega arith
@@ -120,15 +116,18 @@ module _ (at end : ℕ) (bytes es : List ℕ) (rising : at ≤ end) (within : en
   inside = omega (arith, numbers-length 4 bytes)
 
   pub block-tested : (infinity : ℕ) (good fit : Bool)
-      → fit ≡ allFit 4 infinity (numbers 4 (take (end - at) (drop at bytes))) (take (length es - at * 2) (drop (at * 2) es))
-      → (good && allFit 4 infinity (drop (at * 2) vs) (drop (at * 2) es)) ≡ ((good && fit) && allFit 4 infinity (drop (end * 2) vs) (drop (end * 2) es))
+      → fit ≡ allFit 4 infinity (numbers 4 (take (end - at) (drop at bytes)))
+      (take (length es - at * 2) (drop (at * 2) es))
+      → (good && allFit 4 infinity (drop (at * 2) vs) (drop (at * 2) es))
+      ≡ ((good && fit) && allFit 4 infinity (drop (end * 2) vs) (drop (end * 2) es))
   block-tested infinity good fit e =
       rw ends at
       (testing-on 4 infinity (at * 2) ((end - at) * 2) vs es good fit inside
       (e ∙ rw (block, part-tail (at * 2) es)))
 
   module _ (old : List ℕ) (a : Adding 4 vs old es (at * 2)) where
-    pub block-fits : allFit 4 255 (numbers 4 (take (end - at) (drop at bytes))) (take (length es - at * 2) (drop (at * 2) es)) ≡ true
+    pub block-fits : allFit 4 255 (numbers 4 (take (end - at) (drop at bytes)))
+        (take (length es - at * 2) (drop (at * 2) es)) ≡ true
     block-fits =
         rw (block, part-tail (at * 2) es)
         (both-true
@@ -137,7 +136,8 @@ module _ (at end : ℕ) (bytes es : List ℕ) (rising : at ≤ end) (within : en
         (sym (fit-cut 4 255 (at * 2) ((end - at) * 2) vs es inside) ∙ a .fit)
         .0)
 
-    pub block-added : (ys : List ℕ) → ys ≡ added 4 (numbers 4 (take (end - at) (drop at bytes))) (take (length es - at * 2) (drop (at * 2) es))
+    pub block-added : (ys : List ℕ) → ys ≡ added 4 (numbers 4 (take (end - at) (drop at bytes)))
+        (take (length es - at * 2) (drop (at * 2) es))
         → Adding 4 vs old (putMid (at * 2) (length es - at * 2) es ys) (end * 2)
     block-added ys e =
         let long : length (drop (at * 2) es) ≤ length es - at * 2 = simp length-drop (omega arith) in

@@ -1,13 +1,10 @@
-// Whether a table withholds a query.
+// Whether a table stops the queries that have a keyword.
 ghost use mathlib.Core.Path.{_≡_};
 ghost use lib.ListN.{take, getD};
-ghost use Rattle.keywords.specs.Keywords.{keywordsOf};
 ghost use Rattle.keywords.specs.Hash.{scaled};
 ghost use Rattle.tables.specs.Tables.{heldIn};
-ghost use Rattle.tables.specs.Admission.{stops, withholds};
+ghost use Rattle.tables.specs.Admission.{stops};
 use crate::fields::entry_count;
-use keywords::cut::first_keyword;
-use keywords::hash::hash;
 use keywords::hash::scaled_place;
 use tables::SETTLED;
 use tables::Table;
@@ -38,24 +35,4 @@ pub fn stops(table: Table, part: &[u8], ttl: u8, hash: u32) -> bool
         return true;
     }
     ttl < entry
-}
-
-// Whether the table withholds a query with this text, to be sent with this TTL: some keyword stops it.
-pub fn withheld(table: Table, part: &[u8], ttl: u8, text: &[u8]) -> bool
-    ensures { λ r. ⌜ r ≡ withholds (heldIn table (now (part .entry))) (keywordsOf (now (text .entry))) ttl ⌝ }
-{
-    let mut rest = text;
-    loop {
-        let cut = first_keyword(rest);
-        let start = cut.start;
-        let end = cut.end;
-        if end <= start {
-            return false;
-        }
-        let number = hash(&rest[start..end]);
-        if stops(table, part, ttl, number) {
-            return true;
-        }
-        rest = &rest[end..];
-    }
 }

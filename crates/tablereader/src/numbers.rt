@@ -1,5 +1,6 @@
-// The numbers of a PATCH, of 4 or 8 bits each: tried against entries, and added to them. Data of 4 bits is unpacked, a block at a time, to numbers
-// of 8 bits with the same values, so that every number goes through the loops of `bytes_fit` and `add_bytes`.
+// The numbers of a PATCH, of 4 or 8 bits each: tried against entries, and added to them. Data of 4 bits is unpacked, a
+// block at a time, to numbers of 8 bits with the same values, so that every number goes through the loops of
+// `bytes_fit` and `add_bytes`.
 use wire::wide;
 ghost use mathlib.Core.Path.{_≡_};
 ghost use mathlib.Core.Bool.{true};
@@ -29,7 +30,8 @@ fn sum_of(number: u8, entry: u8) -> u8
     ((wide(entry) + wide(number)) % 256) as u8
 }
 
-// The entry with an 8-bit number added is in 1..infinity. A number below 128 adds: the sum must not come out below the entry; any other takes away.
+// The entry with an 8-bit number added is in 1..infinity. A number below 128 adds: the sum must not come out below the
+// entry; any other takes away.
 fn number_fits(infinity: u8, number: u8, entry: u8) -> bool
     ensures { λ r. ⌜ r ≡ fits 8 infinity number entry ⌝ }
 {
@@ -41,7 +43,8 @@ fn number_fits(infinity: u8, number: u8, entry: u8) -> bool
     within & (sum < entry)
 }
 
-// Each 8-bit number, added to the entry at its place, gives one in 1..infinity. No way out before the end: the turns are alike.
+// Each 8-bit number, added to the entry at its place, gives one in 1..infinity. No way out before the end: the turns
+// are alike.
 fn bytes_fit(numbers: &[u8], entries: &[u8], infinity: u8) -> bool
     requires { ⌜ length (now numbers) ≤ length (now entries) ⌝ }
     ensures { λ r. ⌜ r ≡ allFit 8 infinity (now (numbers .entry)) (now (entries .entry)) ⌝ }

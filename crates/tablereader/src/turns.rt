@@ -1,4 +1,5 @@
-// A PATCH against a table: whether it is in turn, whether its numbers lead outside 1..Infinity, and where it moves the run.
+// A PATCH against a table: whether it is in turn, whether its numbers lead outside 1..Infinity, and where it moves the
+// run.
 ghost use mathlib.Core.Path.{_≡_};
 ghost use mathlib.Core.Bool.{true, false};
 ghost use Prim.Native.Nat.{_+_, _≤_, _<_, _^_};

@@ -12,10 +12,12 @@ use Rattle.laws.specs.Tests.{firstOf}
 use Rattle.laws.proofs.Over.{over-own}
 use Rattle.tables.specs.declared.Table.{Table}
 use Rattle.tables.specs.Tables.{Held, heldIn, marked, broken}
-use Rattle.tables.specs.Updates.{isPatch, goodReset, goodPatch, inTurn, inRange, resetBy, patchBy, updateAnswer, updated, brokenBy, pickHeld, partWith}
+use Rattle.tables.specs.Updates.{isPatch, goodReset, goodPatch, inTurn, inRange, resetBy, patchBy, updateAnswer}
+use Rattle.tables.specs.Updates.{updated, brokenBy, pickHeld, partWith}
 use Rattle.tables.proofs.UpdateLaws.{no-reset, no-patch}
 
--- ---- the tests of an update in order: sent as it must be, a good RESET or PATCH, a PATCH out of turn, a PATCH out of range
+-- ---- the tests of an update in order: sent as it must be, a good RESET or PATCH, a PATCH out of turn, a PATCH out of
+-- range
 
 abbrev answerOf : Bool → Bool → Bool → Bool → ℕ
 answerOf a b c d = firstOf ((not a, 14) ∷ (not b, 14) ∷ (c, 15) ∷ (d, 16) ∷ [])
@@ -36,7 +38,8 @@ by-tests P i j k l m false b c d = i b c d
 
 -- ---- the three ways an update goes
 
--- refused, with the answer that says so; a RESET that is as it must be; a PATCH that is as it must be, in turn and in range
+-- refused, with the answer that says so; a RESET that is as it must be; a PATCH that is as it must be, in turn and in
+-- range
 pub record Refused (room : ℕ) (h : Held) (ttl hops : ℕ) (p : List ℕ) : Type 0 where
   pub number : updateAnswer room h ttl hops p ≡ 0 → ⊥
   pub left : updated room h ttl hops p ≡ brokenBy h
@@ -66,7 +69,8 @@ module _ (room : ℕ) (h : Held) (ttl hops : ℕ) (p : List ℕ) where
   taken-left e = rw e
 
   zero-tests : n ≡ 0
-      → ((goodReset room p || goodPatch p) ≡ true) × ((isPatch p && not (inTurn h p)) ≡ false) × ((isPatch p && not (inRange h p)) ≡ false)
+      → ((goodReset room p || goodPatch p) ≡ true) × ((isPatch p && not (inTurn h p)) ≡ false)
+      × ((isPatch p && not (inRange h p)) ≡ false)
   unfolding updateAnswer
   zero-tests =
       by-tests (λ a b c d. answerOf a b c d ≡ 0 → (b ≡ true) × (c ≡ false) × (d ≡ false))
@@ -140,7 +144,8 @@ module _ (room : ℕ) (h : Held) (ttl hops : ℕ) (p : List ℕ) where
       ≡ (not sent || not (goodReset room p || goodPatch p))
   unfolding updateAnswer
   fourteen =
-      by-tests (λ a b c d. eqb (answerOf a b c d) 14 ≡ (not a || not b)) (λ b c d. refl) (λ c d. refl) (λ d. refl) refl refl
+      by-tests (λ a b c d. eqb (answerOf a b c d) 14 ≡ (not a || not b)) (λ b c d. refl) (λ c d. refl)
+      (λ d. refl) refl refl
       sent
       (goodReset room p || goodPatch p)
       (isPatch p && not (inTurn h p))
@@ -151,7 +156,8 @@ module _ (room : ℕ) (h : Held) (ttl hops : ℕ) (p : List ℕ) where
       ≡ ((sent && (goodReset room p || goodPatch p)) && (isPatch p && not (inTurn h p)))
   unfolding updateAnswer
   fifteen =
-      by-tests (λ a b c d. eqb (answerOf a b c d) 15 ≡ ((a && b) && c)) (λ b c d. refl) (λ c d. refl) (λ d. refl) refl refl
+      by-tests (λ a b c d. eqb (answerOf a b c d) 15 ≡ ((a && b) && c)) (λ b c d. refl) (λ c d. refl)
+      (λ d. refl) refl refl
       sent
       (goodReset room p || goodPatch p)
       (isPatch p && not (inTurn h p))
@@ -159,10 +165,12 @@ module _ (room : ℕ) (h : Held) (ttl hops : ℕ) (p : List ℕ) where
 
   -- 16: none of that, and a PATCH that leads outside 1..Infinity
   pub sixteen : eqb (updateAnswer room h ttl hops p) 16
-      ≡ ((sent && (goodReset room p || goodPatch p)) && (not (isPatch p && not (inTurn h p)) && (isPatch p && not (inRange h p))))
+      ≡ ((sent && (goodReset room p || goodPatch p))
+      && (not (isPatch p && not (inTurn h p)) && (isPatch p && not (inRange h p))))
   unfolding updateAnswer
   sixteen =
-      by-tests (λ a b c d. eqb (answerOf a b c d) 16 ≡ ((a && b) && (not c && d))) (λ b c d. refl) (λ c d. refl) (λ d. refl) refl refl
+      by-tests (λ a b c d. eqb (answerOf a b c d) 16 ≡ ((a && b) && (not c && d))) (λ b c d. refl) (λ c d. refl)
+      (λ d. refl) refl refl
       sent
       (goodReset room p || goodPatch p)
       (isPatch p && not (inTurn h p))

@@ -11,19 +11,24 @@ use lib.Dec.{eqb, ltb, leb}
 use lib.ListN.{length, getD, drop, replicate, length-append, length-drop, List·getD-append}
 use lib.Seq.{getD-drop, getD-append-seam}
 use lib.IntN.{pos, negℤ, _+ℤ_, subℕ, +ℤ-assoc, pos-+ℤ-pos}
-use borrow.Author.Tests.{ltb-true, ltb-false, lt-ltb, le-ltb, eqb-true, eqb-false, eq-eqb, ne-eqb, leb-true, leb-false, le-leb, not-true}
+use borrow.Author.Tests.{ltb-true, ltb-false, lt-ltb, le-ltb, eqb-true, eqb-false, eq-eqb, ne-eqb, leb-true, leb-false}
+use borrow.Author.Tests.{le-leb, not-true}
 use Rattle.laws.specs.Tests.{any}
 use Rattle.laws.proofs.Chunks.{failed}
 use Rattle.laws.proofs.Refusals.{clash, and-fst, and-snd, and-intro, or-left, or-right, each, every-of}
 use Rattle.tables.specs.Patch.{gain, loss, fits, allFit}
 use Rattle.tables.specs.Tables.{Held, lengths, goodLength}
-use Rattle.tables.specs.Updates.{lengthIn, infinityIn, placeIn, sizeIn, bitsIn, numbersIn, resetTests, patchTests, goodReset, goodPatch, inTurn}
+use Rattle.tables.specs.Updates.{lengthIn, infinityIn, placeIn, sizeIn, bitsIn, numbersIn, resetTests, patchTests}
+use Rattle.tables.specs.Updates.{goodReset, goodPatch, inTurn}
 use Rattle.tables.specs.Updates.{inRange, updateAnswer, updated, resetBy}
-use Rattle.tables.specs.History.{byte, lengthBytes, carried, Update, messages, ended, underWay, lengthNamed, infinityNamed, sumAt}
-use Rattle.tables.specs.Answers.{Filled, Sent, answerTo, after, history, MayReset, MayPatch, LikeFirst, InTurn, entryThen, outside, LeadsOut}
+use Rattle.tables.specs.History.{byte, lengthBytes, carried, Update, messages, ended, underWay, lengthNamed}
+use Rattle.tables.specs.History.{infinityNamed, sumAt}
+use Rattle.tables.specs.Answers.{Filled, Sent, answerTo, after, history, MayReset, MayPatch, LikeFirst, InTurn}
+use Rattle.tables.specs.Answers.{entryThen, outside, LeadsOut}
 use Rattle.tables.specs.Answers.{Answers, EveryAnswer, EveryReset, Numbered, WholeRun, Runs, EveryRun}
 use Rattle.tables.proofs.PatchFacts.{fits-exactly, fit-exactly}
-use Rattle.tables.proofs.HistoryLaws.{FourOrEight, length-bytes, signed, carried-is, carried-length, patch-tests, patch-width, signed-parts}
+use Rattle.tables.proofs.HistoryLaws.{FourOrEight, length-bytes, signed, carried-is, carried-length, patch-tests}
+use Rattle.tables.proofs.HistoryLaws.{patch-width, signed-parts}
 use Rattle.tables.proofs.HistoryLaws.{brought-more, Accounts, update, turn-ready, turn-of, turn-is, accounts}
 
 -- ---- powers of two
@@ -59,8 +64,10 @@ is-power n b (suc k) c l m e = by (eqb c b) refl (λ l′ m′. is-power n (suc 
   where
     by : (t : Bool) → eqb c b ≡ t → (suc b ≤ c → c < suc b + k → any (eqb n) (powers (suc b) k) ≡ true)
         → (eqb n (2 ^ b) || any (eqb n) (powers (suc b) k)) ≡ true
-    by true z on = or-left (eqb n (2 ^ b)) (any (eqb n) (powers (suc b) k)) (eq-eqb n (2 ^ b) (e ∙ ap (λ x. 2 ^ x) (eqb-true c b z)))
-    by false z on = let d = eqb-false c b z in or-right (eqb n (2 ^ b)) (any (eqb n) (powers (suc b) k)) (on (omega arith) (omega arith))
+    by true z on = or-left (eqb n (2 ^ b)) (any (eqb n) (powers (suc b) k))
+        (eq-eqb n (2 ^ b) (e ∙ ap (λ x. 2 ^ x) (eqb-true c b z)))
+    by false z on = let d = eqb-false c b z in or-right (eqb n (2 ^ b)) (any (eqb n) (powers (suc b) k))
+        (on (omega arith) (omega arith))
 
 -- ---- the fields of a RESET and of a PATCH
 
@@ -225,7 +232,8 @@ getD-map f (x ∷ xs) zero d c l = refl
 getD-map f (x ∷ xs) (suc j) d c l = getD-map f xs j d c (omega arith)
 
 -- a PATCH that is in turn: the rules' test of its numbers is that none leads out
-module _ (h : Held) (us : List Update) (q : Accounts h us) (p : List ℕ) (w : FourOrEight (bitsIn p)) (turn : inTurn h p ≡ true) where
+module _ (h : Held) (us : List Update) (q : Accounts h us) (p : List ℕ) (w : FourOrEight (bitsIn p))
+    (turn : inTurn h p ≡ true) where
   abbrev at : ℕ
   at = h .table .nextentry
 
@@ -298,7 +306,8 @@ module _ (room : ℕ) (h : Held) (us : List Update) (q : Accounts h us) (s : Sen
 
   other-way : near s ≡ true → goodReset room (s .payload) ≡ false → goodPatch (s .payload) ≡ false → Way
   unfolding updateAnswer
-  other-way e r g = malformed (rw (e, r, g)) (⊎-elim (λ m. clash (is-reset room s m) r) (λ m. clash (is-patch room s m) g))
+  other-way e r g = malformed (rw (e, r, g)) (⊎-elim (λ m. clash (is-reset room s m) r)
+      (λ m. clash (is-patch room s m) g))
 
   reset-way : near s ≡ true → goodReset room (s .payload) ≡ true → Way
   unfolding updateAnswer
@@ -310,7 +319,8 @@ module _ (room : ℕ) (h : Held) (us : List Update) (q : Accounts h us) (s : Sen
 
     turn-way : inTurn h (s .payload) ≡ false → Way
     unfolding updateAnswer
-    turn-way u = untimely (rw (e, r, g, fields .variant, u)) fields (λ t. clash (turn-is h us q (s .payload) (fields .width) t) u)
+    turn-way u = untimely (rw (e, r, g, fields .variant, u)) fields
+        (λ t. clash (turn-is h us q (s .payload) (fields .width) t) u)
 
     range-way : inTurn h (s .payload) ≡ true → inRange h (s .payload) ≡ false → Way
     unfolding updateAnswer
@@ -335,7 +345,8 @@ module _ (room : ℕ) (h : Held) (us : List Update) (q : Accounts h us) (s : Sen
       (inTurn h (s .payload)) refl
       (inRange h (s .payload)) refl
     where
-      by : (a : Bool) → near s ≡ a → (b : Bool) → goodReset room (s .payload) ≡ b → (c : Bool) → goodPatch (s .payload) ≡ c
+      by : (a : Bool) → near s ≡ a → (b : Bool) → goodReset room (s .payload) ≡ b → (c : Bool)
+          → goodPatch (s .payload) ≡ c
           → (d : Bool) → inTurn h (s .payload) ≡ d → (f : Bool) → inRange h (s .payload) ≡ f → Way
       by false e b r c g d u f x = far-way e
       by true e true r c g d u f x = reset-way e r

@@ -11,7 +11,8 @@ use Rattle.laws.specs.Tests.{all}
 use Rattle.laws.proofs.Refusals.{all-take}
 use Rattle.tables.specs.Patch.{sumOf, fits, added, allFit}
 use Rattle.tables.specs.Tables.{Held, inBounds, entriesInBounds}
-use Rattle.tables.specs.Updates.{lengthIn, infinityIn, bitsIn, numbersIn, resetTests, turnTests, goodReset, inTurn, inRange, resetBy, patchBy}
+use Rattle.tables.specs.Updates.{lengthIn, infinityIn, bitsIn, numbersIn, resetTests, turnTests, goodReset}
+use Rattle.tables.specs.Updates.{inTurn, inRange, resetBy, patchBy}
 use Rattle.tables.specs.Updates.{updated, brokenBy}
 use Rattle.tables.proofs.TestLaws.{both-true, every-true}
 use Rattle.tables.proofs.PatchFacts.{fits-exactly}
@@ -33,7 +34,8 @@ module _ {A : Type 0} (f : A → Bool) where
   all-replicate (suc k) x a = rw a (all-replicate k x a)
 
 -- a sum that fits is in bounds, and so are all
-pub added-bounds : (bits infinity : ℕ) (vs es : List ℕ) → allFit bits infinity vs es ≡ true → all (inBounds infinity) es ≡ true
+pub added-bounds : (bits infinity : ℕ) (vs es : List ℕ) → allFit bits infinity vs es ≡ true → all (inBounds infinity) es
+    ≡ true
     → all (inBounds infinity) (added bits vs es) ≡ true
 unfolding allFit added
 added-bounds bits infinity [] es a b = b
@@ -55,21 +57,26 @@ module _ (room : ℕ) (h : Held) (ttl hops : ℕ) (p : List ℕ) where
   bounds-reset : goodReset room p ≡ true → entriesInBounds (resetBy p) ≡ true
   unfolding goodReset resetBy entriesInBounds
   bounds-reset g =
-      let i = both-true (leb 2 (infinityIn p)) (leb (infinityIn p) 127) (every-true (resetTests room p) g .1 .1 .1 .1 .0) in
+      let i = both-true (leb 2 (infinityIn p)) (leb (infinityIn p) 127)
+      (every-true (resetTests room p) g .1 .1 .1 .1 .0) in
       let w = leb-true 2 (infinityIn p) (i .0) in
       all-replicate (inBounds (infinityIn p)) (lengthIn p) (infinityIn p)
       (rw (le-leb 1 (infinityIn p) (omega arith), le-leb (infinityIn p) (infinityIn p) (omega arith)))
 
-  bounds-patched : entriesInBounds h ≡ true → inTurn h p ≡ true → inRange h p ≡ true → entriesInBounds (patchBy h p) ≡ true
+  bounds-patched : entriesInBounds h ≡ true → inTurn h p ≡ true → inRange h p ≡ true → entriesInBounds (patchBy h p)
+      ≡ true
   unfolding patchBy inTurn inRange entriesInBounds
   bounds-patched b u r =
       let i = h .table .infinity in
       let a : all (inBounds i) (h .entries) ≡ true = rw (every-true (turnTests h p) u .0) at b in
-      let s = all-append (inBounds i) (take (h .table .nextentry) (h .entries)) (added (bitsIn p) (numbersIn p) (drop (h .table .nextentry) (h .entries)))
+      let s = all-append (inBounds i) (take (h .table .nextentry) (h .entries))
+      (added (bitsIn p) (numbersIn p) (drop (h .table .nextentry) (h .entries)))
       (all-take (inBounds i) (h .table .nextentry) (h .entries) a)
-      (added-bounds (bitsIn p) i (numbersIn p) (drop (h .table .nextentry) (h .entries)) r (all-drop (inBounds i) (h .table .nextentry) (h .entries) a)) in
+      (added-bounds (bitsIn p) i (numbersIn p) (drop (h .table .nextentry) (h .entries)) r
+      (all-drop (inBounds i) (h .table .nextentry) (h .entries) a)) in
       rw (moved-keeps (λ u. u .infinity) (h .table) p refl refl, s, or-true)
 
   pub keeps-bounds : entriesInBounds h ≡ true → entriesInBounds (updated room h ttl hops p) ≡ true
   keeps-bounds b =
-      each-way room h ttl hops p (λ u. entriesInBounds u ≡ true) bounds-refused bounds-reset (λ g u r. bounds-patched b u r)
+      each-way room h ttl hops p (λ u. entriesInBounds u ≡ true) bounds-refused bounds-reset
+      (λ g u r. bounds-patched b u r)

@@ -16,15 +16,18 @@ use Rattle.laws.proofs.Refusals.{clash, and-fst, and-snd, and-intro, Each, each
 use Rattle.tables.specs.declared.Table.{Table}
 use Rattle.tables.specs.Patch.{numbers, gain, loss, sumOf, fits, added, allFit}
 use Rattle.tables.specs.Tables.{Held, ready, running, settled}
-use Rattle.tables.specs.Updates.{lengthIn, infinityIn, placeIn, sizeIn, bitsIn, numbersIn, isLast, resetTests, patchTests, turnTests, goodReset}
-use Rattle.tables.specs.Updates.{goodPatch, inTurn, inRange, updateAnswer, updated, resetBy, onward, movedOn, patchBy, brokenBy}
-use Rattle.tables.specs.History.{byte, lengthBytes, halves, carried, Update, isReset, messages, brought, underWay, wholeRuns, lengthNamed}
+use Rattle.tables.specs.Updates.{lengthIn, infinityIn, placeIn, sizeIn, bitsIn, numbersIn, isLast, resetTests}
+use Rattle.tables.specs.Updates.{patchTests, turnTests, goodReset}
+use Rattle.tables.specs.Updates.{goodPatch, inTurn, inRange, updateAnswer, updated, resetBy, onward, movedOn}
+use Rattle.tables.specs.Updates.{patchBy, brokenBy}
+use Rattle.tables.specs.History.{byte, lengthBytes, halves, carried, Update, isReset, messages, brought, underWay}
+use Rattle.tables.specs.History.{wholeRuns, lengthNamed}
 use Rattle.tables.specs.History.{infinityNamed, total, sumAt, beforeRun, spoiled, speaks, markAfter}
 use Rattle.tables.specs.Answers.{Sent, noHeld, after, history, LikeFirst, InTurn, EveryTable}
 use Rattle.tables.proofs.TestLaws.{either}
 use Rattle.tables.proofs.PatchFacts.{fits-exactly}
 use Rattle.tables.proofs.AnswerLaws.{ways}
-use Rattle.tables.proofs.KeepLaws.{patched-length}
+use Rattle.tables.proofs.KeepLaws.{moved-length, moved-infinity, patched-length}
 
 -- ---- the bytes as the rules read them
 
@@ -82,7 +85,8 @@ patch-width p g =
 pub signed-parts : (bits v : ℕ) → signed bits v ≡ pos (gain bits v) +ℤ negℤ (pos (loss bits v))
 signed-parts bits v = parts (ltb v (2 ^ (bits - 1))) (2 ^ bits - v)
   where
-    parts : (below : Bool) (d : ℕ) → cond below (pos v) (negℤ (pos d)) ≡ pos (cond below v 0) +ℤ negℤ (pos (cond below 0 d))
+    parts : (below : Bool) (d : ℕ) → cond below (pos v) (negℤ (pos d)) ≡ pos (cond below v 0) +ℤ negℤ
+        (pos (cond below 0 d))
     parts true d = sym (+ℤ-idr (pos v))
     parts false d = sym (+ℤ-idl (negℤ (pos d)))
 
@@ -110,11 +114,14 @@ added-each : (bits inf : ℕ) (vs es : List ℕ) (j : ℕ) → allFit bits inf v
 unfolding added allFit
 added-each bits inf [] es j f l = sym (+ℤ-idr (pos (getD es j 0)))
 added-each bits inf (v ∷ vs) [] j f l = absurd (omega arith)
-added-each bits inf (v ∷ vs) (e ∷ es) zero f l = sum-signed bits inf v e (and-fst (fits bits inf v e) (allFit bits inf vs es) f)
-added-each bits inf (v ∷ vs) (e ∷ es) (suc j) f l = added-each bits inf vs es j (and-snd (fits bits inf v e) (allFit bits inf vs es) f) (omega arith)
+added-each bits inf (v ∷ vs) (e ∷ es) zero f l = sum-signed bits inf v e
+    (and-fst (fits bits inf v e) (allFit bits inf vs es) f)
+added-each bits inf (v ∷ vs) (e ∷ es) (suc j) f l = added-each bits inf vs es j
+    (and-snd (fits bits inf v e) (allFit bits inf vs es) f) (omega arith)
 
 added-from : (from bits inf : ℕ) (vs es : List ℕ) (j : ℕ) → allFit bits inf vs (drop from es) ≡ true → j < length es
-    → pos (getD (take from es ++ added bits vs (drop from es)) j 0) ≡ pos (getD es j 0) +ℤ given (map (signed bits) vs) from j
+    → pos (getD (take from es ++ added bits vs (drop from es)) j 0) ≡ pos (getD es j 0) +ℤ given
+    (map (signed bits) vs) from j
 added-from zero bits inf vs es j f l =
     let e : j - 0 ≡ j = omega arith in
     rw (le-ltb j 0 zero-le, e) (added-each bits inf vs es j f l)
@@ -137,7 +144,8 @@ joined-at (r ∷ rs) ss (suc j) =
 -- a message more
 pub brought-more : (ms : List (List ℕ)) (p : List ℕ) → brought (ms ++ (p ∷ [])) ≡ brought ms ++ carried p
 brought-more [] p = append-nil (carried p)
-brought-more (m ∷ ms) p = ap (λ r. carried m ++ r) (brought-more ms p) ∙ sym (append-assoc (carried m) (brought ms) (carried p))
+brought-more (m ∷ ms) p = ap (λ r. carried m ++ r) (brought-more ms p)
+    ∙ sym (append-assoc (carried m) (brought ms) (carried p))
 
 -- ---- the account
 
@@ -184,7 +192,8 @@ update p n = record { payload = p; answer = n }
 
 -- the test of size and bits says that they are the first one's
 like-first : (ms : List (List ℕ)) (t : Table) (p : List ℕ) → AfterFirst ms t
-    → (not (eqb (t .mark) running) || (eqb (sizeIn p) (t .runsize) && eqb (bitsIn p) (t .runbits))) ≡ true → LikeFirst ms p
+    → (not (eqb (t .mark) running) || (eqb (sizeIn p) (t .runsize) && eqb (bitsIn p) (t .runbits))) ≡ true
+    → LikeFirst ms p
 like-first [] t p a e = tt
 like-first (m ∷ ms) t p a e =
     let f : (eqb (sizeIn p) (t .runsize) && eqb (bitsIn p) (t .runbits)) ≡ true = rw (a .0) at e in (
@@ -196,7 +205,8 @@ first-like : (ms : List (List ℕ)) (t : Table) (p : List ℕ) → AfterFirst ms
     → (not (eqb (t .mark) running) || (eqb (sizeIn p) (t .runsize) && eqb (bitsIn p) (t .runbits))) ≡ true
 first-like [] t p a l = rw a
 first-like (m ∷ ms) t p a l =
-    rw (a .0) (and-intro _ _ (eq-eqb (sizeIn p) (t .runsize) (l .0 ∙ sym (a .1))) (eq-eqb (bitsIn p) (t .runbits) (l .1 ∙ sym (a .2))))
+    rw (a .0) (and-intro _ _ (eq-eqb (sizeIn p) (t .runsize) (l .0 ∙ sym (a .1)))
+    (eq-eqb (bitsIn p) (t .runbits) (l .1 ∙ sym (a .2))))
 
 after-first : (ms : List (List ℕ)) (t : Table) (p : List ℕ) → LikeFirst ms p → AfterFirst (ms ++ (p ∷ [])) (onward t p)
 after-first [] t p l = (refl, refl, refl)
@@ -212,7 +222,8 @@ module _ (h : Held) (us : List Update) (q : Accounts h us) (p : List ℕ) (w : F
   clean r = sym (q .patchable) ∙ r
 
   -- what the run has with this message
-  reach : ready (h .table .mark) ≡ true → h .table .nextentry + length (numbersIn p) ≡ length (underWay us) + length (carried p)
+  reach : ready (h .table .mark) ≡ true → h .table .nextentry + length (numbersIn p)
+      ≡ length (underWay us) + length (carried p)
   reach r = ap₂ (λ a b. a + b) (q .reached r) (sym (carried-length p w))
 
   pub turn-of : inTurn h p ≡ true → InTurn us p
@@ -225,18 +236,22 @@ module _ (h : Held) (us : List Update) (q : Accounts h us) (p : List ℕ) (w : F
         unspoiled = not-true (spoiled us) (and-snd (any isReset us) (not (spoiled us)) (clean r));
         next = eqb-true (placeIn p) (h .table .nextplace) (t .1 .0) ∙ q .placed r;
         alike = like-first (messages us) (h .table) p (q .first r) (t .1 .1 .0);
-        within = rw (reach r, q .long) at (leb-true (h .table .nextentry + length (numbersIn p)) (length (h .entries)) (t .1 .1 .1 .0));
+        within = rw (reach r, q .long) at (leb-true (h .table .nextentry + length (numbersIn p)) (length (h .entries))
+            (t .1 .1 .1 .0));
         whole = λ e. sym (reach r) ∙ last e (t .1 .1 .1 .1 .0) ∙ q .long;
       }
     where
-      last : placeIn p ≡ sizeIn p → (not (isLast p) || eqb (h .table .nextentry + length (numbersIn p)) (length (h .entries))) ≡ true
+      last : placeIn p ≡ sizeIn p → (not (isLast p) || eqb (h .table .nextentry + length (numbersIn p))
+          (length (h .entries))) ≡ true
           → h .table .nextentry + length (numbersIn p) ≡ length (h .entries)
-      last e f = eqb-true (h .table .nextentry + length (numbersIn p)) (length (h .entries)) (rw (eq-eqb (placeIn p) (sizeIn p) e) at f)
+      last e f = eqb-true (h .table .nextentry + length (numbersIn p)) (length (h .entries))
+          (rw (eq-eqb (placeIn p) (sizeIn p) e) at f)
 
   pub turn-is : InTurn us p → inTurn h p ≡ true
   unfolding inTurn
   turn-is t =
-      let r : ready (h .table .mark) ≡ true = q .patchable ∙ and-intro (any isReset us) (not (spoiled us)) (t .begun) (rw (t .unspoiled)) in
+      let r : ready (h .table .mark) ≡ true = q .patchable ∙ and-intro (any isReset us) (not (spoiled us)) (t .begun)
+      (rw (t .unspoiled)) in
       every-of (turnTests h p) (
         r,
         (
@@ -244,7 +259,8 @@ module _ (h : Held) (us : List Update) (q : Accounts h us) (p : List ℕ) (w : F
           (
             first-like (messages us) (h .table) p (q .first r) (t .alike),
             (
-              le-leb (h .table .nextentry + length (numbersIn p)) (length (h .entries)) (rw (reach r, q .long) (t .within)),
+              le-leb (h .table .nextentry + length (numbersIn p)) (length (h .entries))
+                  (rw (reach r, q .long) (t .within)),
               (last r (isLast p) refl, tt),
             ),
           ),
@@ -290,7 +306,8 @@ module _ (h : Held) (us : List Update) (q : Accounts h us) (p : List ℕ) where
         reached = λ _. rw e;
         placed = λ _. rw e;
         first = λ _. rw e refl;
-        totals = λ j l. rw (e, getD-replicate (lengthIn p) j (infinityIn p) 0 (rw length-replicate at l)) (sym (+ℤ-idr (pos (infinityIn p))));
+        totals = λ j l. rw (e, getD-replicate (lengthIn p) j (infinityIn p) 0 (rw length-replicate at l))
+            (sym (+ℤ-idr (pos (infinityIn p))));
       }
 
   module _ (v : byte p 0 ≡ 1) (w : FourOrEight (bitsIn p)) (turn : inTurn h p ≡ true) (range : inRange h p ≡ true) where
@@ -313,11 +330,13 @@ module _ (h : Held) (us : List Update) (q : Accounts h us) (p : List ℕ) where
     unfolding patchBy inRange
     sums-patch j l =
         let k : j < length (h .entries) = subst (λ (n : ℕ). j < n) (patched-length h p) l in
-        let g : given (map (signed (bitsIn p)) (numbersIn p)) (h .table .nextentry) j ≡ given (carried p) (length (underWay us)) j
+        let g : given (map (signed (bitsIn p)) (numbersIn p)) (h .table .nextentry) j ≡ given (carried p)
+        (length (underWay us)) j
         = ap₂ (λ c n. given c n j) (sym (carried-is p w)) (q .reached r) in
         added-from (h .table .nextentry) (bitsIn p) (h .table .infinity) (numbersIn p) (h .entries) j range k
         ∙ ap₂ (λ x y. x +ℤ y) (q .totals j k) g
-        ∙ moved (pos (h .table .infinity)) (getD (underWay us) j (pos 0)) (total j (wholeRuns us)) (given (carried p) (length (underWay us)) j)
+        ∙ moved (pos (h .table .infinity)) (getD (underWay us) j (pos 0)) (total j (wholeRuns us))
+        (given (carried p) (length (underWay us)) j)
         ∙ ap (λ x. pos (h .table .infinity) +ℤ (x +ℤ total j (wholeRuns us)))
         (sym (joined-at (underWay us) (carried p) j) ∙ ap (λ x. getD x j (pos 0)) (sym (brought-more (messages us) p)))
       where
@@ -326,37 +345,33 @@ module _ (h : Held) (us : List Update) (q : Accounts h us) (p : List ℕ) where
             +ℤ-assoc i (a +ℤ b) c
             ∙ ap (λ x. i +ℤ x) (+ℤ-assoc a b c ∙ ap (λ x. a +ℤ x) (+ℤ-comm b c) ∙ sym (+ℤ-assoc a c b))
 
+    -- by whether the message is its run's last
+    last-or-not : {A : Type 0} → (isLast p ≡ true → A) → (isLast p ≡ false → A) → A
+    last-or-not {A} f g = go (isLast p) refl
+      where
+        go : (b : Bool) → isLast p ≡ b → A
+        go true e = f e
+        go false e = g e
+
     after-patch : Accounts (patchBy h p) (update p 0 ∷ us)
     unfolding patchBy movedOn
-    after-patch = go (isLast p) refl
-      where
-        go : (b : Bool) → isLast p ≡ b → Accounts (patchBy h p) (update p 0 ∷ us)
-        go true e =
-            record {
-              long = simp v (patched-length h p ∙ q .long);
-              known = simp (e, v) (q .known);
-              infinity = simp (e, v) (q .infinity);
-              patchable = simp (e, v, t .begun, t .unspoiled);
-              mark = simp (e, v, t .begun, t .unspoiled);
-              speaking = simp (e, v, t .begun, t .unspoiled);
-              reached = λ _. simp (e, v);
-              placed = λ _. simp (e, v);
-              first = λ _. simp (e, v) refl;
-              totals = λ j l. simp (e, v, +ℤ-idl) (sums-patch j l);
-            }
-        go false e =
-            record {
-              long = simp v (patched-length h p ∙ q .long);
-              known = simp (e, v) (q .known);
-              infinity = simp (e, v) (q .infinity);
-              patchable = simp (e, v, t .begun, t .unspoiled);
-              mark = simp (e, v, t .begun, t .unspoiled);
-              speaking = simp (e, v, t .begun, t .unspoiled) (inside-quiet (beforeRun us));
-              reached = λ _. simp (e, v) (sym grown);
-              placed = λ _. simp (e, v) (ap (λ n. n + 1) (t .next) ∙ ap (λ n. n + 1) (sym (length-append (messages us) (p ∷ []))));
-              first = λ _. simp (e, v) (after-first (messages us) (h .table) p (t .alike));
-              totals = λ j l. simp (e, v) (sums-patch j l);
-            }
+    after-patch =
+        record {
+          long = simp v (patched-length h p ∙ q .long);
+          known = simp v (moved-length (h .table) p ∙ q .known);
+          infinity = simp v (moved-infinity (h .table) p ∙ q .infinity);
+          patchable = last-or-not (λ e. simp (e, v, t .begun, t .unspoiled)) (λ e. simp (e, v, t .begun, t .unspoiled));
+          mark = last-or-not (λ e. simp (e, v, t .begun, t .unspoiled)) (λ e. simp (e, v, t .begun, t .unspoiled));
+          speaking = last-or-not (λ e. simp (e, v, t .begun, t .unspoiled))
+              (λ e. simp (e, v, t .begun, t .unspoiled) (inside-quiet (beforeRun us)));
+          reached = λ _. last-or-not (λ e. simp (e, v)) (λ e. simp (e, v) (sym grown));
+          placed = λ _. last-or-not (λ e. simp (e, v))
+              (λ e. simp (e, v) (ap (λ n. n + 1) (t .next)
+              ∙ ap (λ n. n + 1) (sym (length-append (messages us) (p ∷ [])))));
+          first = λ _. last-or-not (λ e. simp (e, v) refl)
+              (λ e. simp (e, v) (after-first (messages us) (h .table) p (t .alike)));
+          totals = λ j l. last-or-not (λ e. simp (e, v, +ℤ-idl) (sums-patch j l)) (λ e. simp (e, v) (sums-patch j l));
+        }
 
   reset-variant : (room : ℕ) → goodReset room p ≡ true → byte p 0 ≡ 0
   unfolding goodReset
@@ -366,19 +381,23 @@ module _ (h : Held) (us : List Update) (q : Accounts h us) (p : List ℕ) where
   patch-variant g = eqb-true (byte p 0) 1 (patch-tests p g .1 .0)
 
   -- an update, whatever it is answered
-  pub after-update : (room ttl hops : ℕ) → Accounts (updated room h ttl hops p) (update p (updateAnswer room h ttl hops p) ∷ us)
+  pub after-update : (room ttl hops : ℕ) → Accounts (updated room h ttl hops p)
+      (update p (updateAnswer room h ttl hops p) ∷ us)
   after-update room ttl hops =
       ⊎-elim
-      (λ x. rw (x .left) (after-refusal (updateAnswer room h ttl hops p) (ne-eqb (updateAnswer room h ttl hops p) 0 (x .number))))
+      (λ x. rw (x .left) (after-refusal (updateAnswer room h ttl hops p)
+      (ne-eqb (updateAnswer room h ttl hops p) 0 (x .number))))
       (⊎-elim
       (λ x. rw (x .left, x .number) (after-reset (reset-variant room (x .fields))))
-      (λ x. rw (x .left, x .number) (after-patch (patch-variant (x .fields)) (patch-width p (x .fields)) (x .turn) (x .range))))
+      (λ x. rw (x .left, x .number) (after-patch (patch-variant (x .fields)) (patch-width p (x .fields))
+      (x .turn) (x .range))))
       (ways room h ttl hops p)
 
 -- every list of updates from no table
 pub accounts : (room : ℕ) (ss : List Sent) → Accounts (after room ss) (history room ss)
 accounts room [] = nothing-yet
-accounts room (s ∷ ss) = after-update (after room ss) (history room ss) (accounts room ss) (s .payload) room (s .ttl) (s .hops)
+accounts room (s ∷ ss) = after-update (after room ss) (history room ss) (accounts room ss) (s .payload) room (s .ttl)
+    (s .hops)
 
 pub every-table : EveryTable
 every-table room ss =

@@ -11,7 +11,8 @@ use Rattle.laws.proofs.Over.{over-own, over-front-of, over-length, over-behind}
 use Rattle.tables.specs.declared.Table.{Table}
 use Rattle.tables.specs.Patch.{added}
 use Rattle.tables.specs.Tables.{Held, heldIn, atRest, settled}
-use Rattle.tables.specs.Updates.{lengthIn, infinityIn, bitsIn, numbersIn, isLast, resetTests, goodReset, resetBy, patchBy, onward, movedOn}
+use Rattle.tables.specs.Updates.{lengthIn, infinityIn, bitsIn, numbersIn, isLast, resetTests, goodReset, resetBy}
+use Rattle.tables.specs.Updates.{patchBy, onward, movedOn}
 use Rattle.tables.specs.Updates.{updated, brokenBy, partWith}
 use Rattle.tables.proofs.TestLaws.{every-true}
 use Rattle.tables.proofs.PatchFacts.{added-length, added-rest}
@@ -32,6 +33,9 @@ moved-keeps f t p a b = by (isLast p)
 pub moved-length : (t : Table) (p : List ℕ) → movedOn t p .length ≡ t .length
 moved-length t p = moved-keeps (λ u. u .length) t p refl refl
 
+pub moved-infinity : (t : Table) (p : List ℕ) → movedOn t p .infinity ≡ t .infinity
+moved-infinity t p = moved-keeps (λ u. u .infinity) t p refl refl
+
 -- a PATCH leaves as many entries as there were
 pub patched-length : (h : Held) (p : List ℕ) → length (patchBy h p .entries) ≡ length (h .entries)
 unfolding patchBy
@@ -41,7 +45,8 @@ module _ (t : Table) (part : List ℕ) (ttl hops : ℕ) (p : List ℕ) where
   abbrev after : Held
   after = updated (length part) (heldIn t part) ttl hops p
 
-  after-refused : heldIn (brokenBy (heldIn t part) .table) (partWith (brokenBy (heldIn t part)) part) ≡ brokenBy (heldIn t part)
+  after-refused : heldIn (brokenBy (heldIn t part) .table) (partWith (brokenBy (heldIn t part)) part)
+      ≡ brokenBy (heldIn t part)
   unfolding brokenBy
   after-refused = rw (over-own (t .length) part)
 
@@ -53,7 +58,8 @@ module _ (t : Table) (part : List ℕ) (ttl hops : ℕ) (p : List ℕ) where
       (over-front-of (lengthIn p) (replicate (lengthIn p) (infinityIn p)) part
       (simp (length-replicate, length-take) (omega arith)))
 
-  after-patched : heldIn (patchBy (heldIn t part) p .table) (partWith (patchBy (heldIn t part) p) part) ≡ patchBy (heldIn t part) p
+  after-patched : heldIn (patchBy (heldIn t part) p .table) (partWith (patchBy (heldIn t part) p) part)
+      ≡ patchBy (heldIn t part) p
   unfolding patchBy
   after-patched =
       rw (
@@ -73,13 +79,15 @@ module _ (t : Table) (part : List ℕ) (ttl hops : ℕ) (p : List ℕ) where
 
   pub held-after : heldIn (after .table) (partWith after part) ≡ after
   held-after =
-      each-way (length part) (heldIn t part) ttl hops p (λ u. heldIn (u .table) (partWith u part) ≡ u) after-refused after-reset (λ g u r. after-patched)
+      each-way (length part) (heldIn t part) ttl hops p (λ u. heldIn (u .table) (partWith u part) ≡ u) after-refused
+      after-reset (λ g u r. after-patched)
 
   -- the part keeps its length, and what is behind the entries stays
   pub keeps-part : length (partWith after part) ≡ length part
   keeps-part =
       over-length 0 (after .entries) part
-      (each-way (length part) (heldIn t part) ttl hops p (λ u. 0 + length (u .entries) ≤ length part) refused-fits reset-fits
+      (each-way (length part) (heldIn t part) ttl hops p (λ u. 0 + length (u .entries) ≤ length part)
+      refused-fits reset-fits
       (λ g u r. rw (patched-length (heldIn t part) p) (omega (arith, length-take (t .length) part))))
 
   pub keeps-behind : drop (length (after .entries)) (partWith after part) ≡ drop (length (after .entries)) part
@@ -98,7 +106,8 @@ patched-before h p w =
     (length-take-le (h .table .nextentry) (h .entries) w)
 
 pub patched-behind : (h : Held) (p : List ℕ) → h .table .nextentry ≤ length (h .entries)
-    → drop (h .table .nextentry + length (numbersIn p)) (patchBy h p .entries) ≡ drop (h .table .nextentry + length (numbersIn p)) (h .entries)
+    → drop (h .table .nextentry + length (numbersIn p)) (patchBy h p .entries)
+    ≡ drop (h .table .nextentry + length (numbersIn p)) (h .entries)
 unfolding patchBy
 patched-behind h p w =
     let es = h .entries in

@@ -13,7 +13,8 @@ use borrow.Author.Tests.{eqb-true, ne-eqb, lt-ltb, le-leb, ltb-true, ltb-false, 
 use Rattle.tables.specs.Patch.{goodBits, numbers, gain, loss, fits, sumOf, allFit, added}
 use Rattle.laws.proofs.Chunks.{and-both}
 use Rattle.tables.proofs.TestLaws.{either, both-true, same-test}
-use Rattle.tables.proofs.PatchFacts.{SumWithin, fits-exactly, small-number, large-number, addedAt, addedAt-length, added-twice, fit-twice, allFit-append}
+use Rattle.tables.proofs.PatchFacts.{SumWithin, fits-exactly, small-number, large-number, addedAt}
+use Rattle.tables.proofs.PatchFacts.{addedAt-length, added-twice, fit-twice, allFit-append}
 
 -- a width that is not 4 is 8
 pub eight : (bits : ℕ) → goodBits bits ≡ true → (bits ≡ 4 → ⊥) → bits ≡ 8
@@ -39,7 +40,8 @@ unfolding allFit
 fit-long bits infinity [] es h = omega arith
 fit-long bits infinity (v ∷ vs) [] h = absurd (false≢true h)
 fit-long bits infinity (v ∷ vs) (e ∷ es) h =
-    let k : length vs ≤ length es = fit-long bits infinity vs es (both-true (fits bits infinity v e) (allFit bits infinity vs es) h .1) in
+    let k : length vs ≤ length es = fit-long bits infinity vs es
+    (both-true (fits bits infinity v e) (allFit bits infinity vs es) h .1) in
     omega arith
 
 -- the entries once the number at j is added: those from j + 1 on are left to do
@@ -76,7 +78,8 @@ module _ (bits j : ℕ) (vs old es : List ℕ) (a : Adding bits vs old es j) whe
       (sym (fit-more bits 255 j vs es h (omega arith)) ∙ a .fit)
       .0
 
-  pub adding-more : (s : ℕ) → j < length vs → s ≡ sumOf bits (getD vs j 0) (getD es j 0) → Adding bits vs old (set es j s) (j + 1)
+  pub adding-more : (s : ℕ) → j < length vs → s ≡ sumOf bits (getD vs j 0) (getD es j 0) → Adding bits vs old
+      (set es j s) (j + 1)
   adding-more s h e =
       record {
         within = omega arith;
@@ -99,8 +102,10 @@ module _ (bits j : ℕ) (vs old es : List ℕ) (a : Adding bits vs old es j) whe
       ∙ ap (λ l. take j es ++ added bits l (drop j es)) (sym (drop-of-length-le vs h))
       ∙ a .left
 
--- an entry and an 8-bit number whose sum modulo 256 is s: the number fits where s is in range and, by the test t, the sum did not go round
-module _ (infinity v e s : ℕ) (small : infinity < 256) (entry : e < 256) (byte : v < 256) (sum : s ≡ (e + v) % 256) where
+-- an entry and an 8-bit number whose sum modulo 256 is s: the number fits where s is in range and, by the test t, the
+-- sum did not go round
+module _ (infinity v e s : ℕ) (small : infinity < 256) (entry : e < 256) (byte : v < 256)
+    (sum : s ≡ (e + v) % 256) where
   fits-straight : (t : Bool) → (t ≡ true → s + loss 8 v ≡ e + gain 8 v) → (SumWithin 8 infinity v e → t ≡ true)
       → ((leb 1 s && leb s infinity) && t) ≡ fits 8 infinity v e
   fits-straight t straight back =
@@ -141,7 +146,8 @@ sum-wraps infinity v e small byte h = by (ltb v 128) refl
 -- the test of all numbers from place j on: the next k, then those behind them
 pub fit-cut : (bits infinity j k : ℕ) (vs es : List ℕ) → j + k ≤ length vs
     → allFit bits infinity (drop j vs) (drop j es)
-    ≡ (allFit bits infinity (take k (drop j vs)) (drop j es) && allFit bits infinity (drop (j + k) vs) (drop (j + k) es))
+    ≡ (allFit bits infinity (take k (drop j vs)) (drop j es) && allFit bits infinity
+    (drop (j + k) vs) (drop (j + k) es))
 fit-cut bits infinity j k vs es h =
     let ws = take k (drop j vs) in
     let size : length ws ≡ k = length-take-le k (drop j vs) (simp length-drop (omega arith)) in
@@ -151,10 +157,12 @@ fit-cut bits infinity j k vs es h =
 
 pub testing-on : (bits infinity j k : ℕ) (vs es : List ℕ) (good fit : Bool) → j + k ≤ length vs
     → fit ≡ allFit bits infinity (take k (drop j vs)) (drop j es)
-    → (good && allFit bits infinity (drop j vs) (drop j es)) ≡ ((good && fit) && allFit bits infinity (drop (j + k) vs) (drop (j + k) es))
+    → (good && allFit bits infinity (drop j vs) (drop j es))
+    ≡ ((good && fit) && allFit bits infinity (drop (j + k) vs) (drop (j + k) es))
 testing-on bits infinity j k vs es good fit h e =
     ap (λ t. good && t) (fit-cut bits infinity j k vs es h)
-    ∙ sym (and-assoc good (allFit bits infinity (take k (drop j vs)) (drop j es)) (allFit bits infinity (drop (j + k) vs) (drop (j + k) es)))
+    ∙ sym (and-assoc good (allFit bits infinity (take k (drop j vs)) (drop j es))
+    (allFit bits infinity (drop (j + k) vs) (drop (j + k) es)))
     ∙ rw e refl
 
 -- k numbers from place j on added at once
@@ -179,24 +187,29 @@ adding-on bits j k vs old es a h =
           .1);
       left =
           rw size at
-          (added-twice bits j ws es within (drop (j + k) vs) ∙ ap (λ l. take j es ++ added bits l (drop j es)) rest ∙ a .left);
+          (added-twice bits j ws es within (drop (j + k) vs) ∙ ap (λ l. take j es ++ added bits l (drop j es)) rest
+          ∙ a .left);
     }
 
 -- a test of all numbers with those before place j tested, once the one at j is tested too
 pub testing-more : (bits infinity j : ℕ) (vs es : List ℕ) (good fit : Bool) → j < length vs → j < length es
     → fit ≡ fits bits infinity (getD vs j 0) (getD es j 0)
-    → (good && allFit bits infinity (drop j vs) (drop j es)) ≡ ((good && fit) && allFit bits infinity (drop (j + 1) vs) (drop (j + 1) es))
+    → (good && allFit bits infinity (drop j vs) (drop j es))
+    ≡ ((good && fit) && allFit bits infinity (drop (j + 1) vs) (drop (j + 1) es))
 testing-more bits infinity j vs es good fit h k e =
     ap (λ t. good && t) (fit-more bits infinity j vs es h k)
-    ∙ sym (and-assoc good (fits bits infinity (getD vs j 0) (getD es j 0)) (allFit bits infinity (drop (j + 1) vs) (drop (j + 1) es)))
+    ∙ sym (and-assoc good (fits bits infinity (getD vs j 0) (getD es j 0))
+    (allFit bits infinity (drop (j + 1) vs) (drop (j + 1) es)))
     ∙ rw e refl
 
-pub testing-end : (bits infinity j : ℕ) (vs es : List ℕ) (good : Bool) → length vs ≤ j → (good && allFit bits infinity (drop j vs) (drop j es)) ≡ good
+pub testing-end : (bits infinity j : ℕ) (vs es : List ℕ) (good : Bool)
+    → length vs ≤ j → (good && allFit bits infinity (drop j vs) (drop j es)) ≡ good
 unfolding allFit
 testing-end bits infinity j vs es good h = rw (drop-of-length-le vs h) (and-true good)
 
 -- numbers that fit below an Infinity fit below a larger one
-pub fit-wider : (bits low high : ℕ) (vs es : List ℕ) → low ≤ high → allFit bits low vs es ≡ true → allFit bits high vs es ≡ true
+pub fit-wider : (bits low high : ℕ) (vs es : List ℕ) → low ≤ high → allFit bits low vs es ≡ true
+    → allFit bits high vs es ≡ true
 unfolding allFit
 fit-wider bits low high [] es h a = refl
 fit-wider bits low high (v ∷ vs) [] h a = a

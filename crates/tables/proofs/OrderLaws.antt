@@ -9,8 +9,10 @@ use lib.ListN.{length, length-take}
 use borrow.Author.Tests.{eqb-false, le-leb}
 use Rattle.tables.specs.declared.Table.{Table}
 use Rattle.tables.specs.Patch.{fits}
-use Rattle.tables.specs.Tables.{heldIn, broken, running, ready, goodLength, goodInfinity, insideRun, betweenRuns, withinLimits, tableInOrder}
-use Rattle.tables.specs.Updates.{placeIn, sizeIn, numbersIn, isLast, resetTests, turnTests, goodReset, goodPatch, inTurn, resetBy, patchBy}
+use Rattle.tables.specs.Tables.{heldIn, broken, running, ready, goodLength, goodInfinity, insideRun, betweenRuns}
+use Rattle.tables.specs.Tables.{withinLimits, tableInOrder}
+use Rattle.tables.specs.Updates.{placeIn, sizeIn, numbersIn, isLast, resetTests, turnTests, goodReset, goodPatch}
+use Rattle.tables.specs.Updates.{inTurn, resetBy, patchBy}
 use Rattle.tables.specs.Updates.{movedOn, updated, brokenBy}
 use Rattle.tables.proofs.TestLaws.{both-true, every-true}
 use Rattle.tables.proofs.TurnLaws.{PatchFields, patch-fields, turn-within}
@@ -26,7 +28,8 @@ pub record Limits (room : ℕ) (t : Table) : Type 0 where
 pub limits : (room : ℕ) (t : Table) → tableInOrder room t ≡ true → ready (t .mark) ≡ true → Limits room t
 unfolding tableInOrder
 limits room t o r =
-    let w : withinLimits room t ≡ true = rw r at (both-true (leb (t .mark) broken) (not (ready (t .mark)) || withinLimits room t) o .1) in
+    let w : withinLimits room t ≡ true =
+    rw r at (both-true (leb (t .mark) broken) (not (ready (t .mark)) || withinLimits room t) o .1) in
     let e =
     every-true
     (goodLength (t .length)
@@ -48,7 +51,8 @@ module _ (room : ℕ) (t : Table) (part : List ℕ) (ttl hops : ℕ) (p : List �
       let e = every-true (resetTests room p) g in
       rw (e .1 .1 .0, e .1 .1 .1 .0, e .1 .1 .1 .1 .0)
 
-  order-patched : goodPatch p ≡ true → inTurn (heldIn t part) p ≡ true → tableInOrder room (patchBy (heldIn t part) p .table) ≡ true
+  order-patched : goodPatch p ≡ true → inTurn (heldIn t part) p ≡ true → tableInOrder room
+      (patchBy (heldIn t part) p .table) ≡ true
   unfolding patchBy movedOn tableInOrder inTurn
   order-patched g u =
       let l = limits room t o (every-true (turnTests (heldIn t part) p) u .0) in
@@ -66,9 +70,11 @@ module _ (room : ℕ) (t : Table) (part : List ℕ) (ttl hops : ℕ) (p : List �
             le-leb 2 (placeIn p + 1) (omega arith),
             le-leb (placeIn p + 1) (sizeIn p) (omega arith),
             f .width,
-            le-leb (t .nextentry + length (numbersIn p)) (t .length) (omega (arith, turn-within t p part u, length-take (t .length) part)),
+            le-leb (t .nextentry + length (numbersIn p)) (t .length)
+                (omega (arith, turn-within t p part u, length-take (t .length) part)),
           )
 
   pub keeps-order : tableInOrder room (updated room (heldIn t part) ttl hops p .table) ≡ true
   keeps-order =
-      each-way room (heldIn t part) ttl hops p (λ u. tableInOrder room (u .table) ≡ true) order-refused order-reset (λ g u r. order-patched g u)
+      each-way room (heldIn t part) ttl hops p (λ u. tableInOrder room (u .table) ≡ true) order-refused order-reset
+      (λ g u r. order-patched g u)

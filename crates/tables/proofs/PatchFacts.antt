@@ -1,5 +1,6 @@
--- Facts on the numbers of a PATCH, each once for both widths: how many there are and in which range, that packing and reading are
--- inverse, that the messages of a run add what their numbers joined would add, and exactly when sums leave 1..Infinity.
+-- Facts on the numbers of a PATCH, each once for both widths: how many there are and in which range, that packing and
+-- reading are inverse, that the messages of a run add what their numbers joined would add, and exactly when sums leave
+-- 1..Infinity.
 -- Assumes nothing.
 use Prim.Native.Nat.{ℕ, zero, suc, _+_, _-_, _*_, _/_, _%_, _^_, _≤_, _<_}
 use mathlib.Core.Path.{_≡_, refl, sym, ap, _∙_}
@@ -183,7 +184,8 @@ allFit-append bits infinity [] ws es = refl
 allFit-append bits infinity (v ∷ vs) ws [] = refl
 allFit-append bits infinity (v ∷ vs) ws (e ∷ es) =
     rw (allFit-append bits infinity vs ws es)
-    (sym (and-assoc (fits bits infinity v e) (allFit bits infinity vs es) (allFit bits infinity ws (drop (length vs) es))))
+    (sym (and-assoc (fits bits infinity v e) (allFit bits infinity vs es)
+    (allFit bits infinity ws (drop (length vs) es))))
 
 -- the messages of a run in turn, each at the entry where the one before ended ..
 abbrev pub addedAt : ℕ → ℕ → List ℕ → List ℕ → List ℕ
@@ -193,11 +195,13 @@ abbrev pub fitAt : ℕ → ℕ → ℕ → List ℕ → List ℕ → Bool
 fitAt bits infinity at vs es = allFit bits infinity vs (drop at es)
 
 -- .. as an accepted PATCH adds them and as they are tested
-pub patched : (h : Held) (p : List ℕ) → patchBy h p .entries ≡ addedAt (bitsIn p) (h .table .nextentry) (numbersIn p) (h .entries)
+pub patched : (h : Held) (p : List ℕ) → patchBy h p .entries ≡ addedAt (bitsIn p) (h .table .nextentry)
+    (numbersIn p) (h .entries)
 unfolding patchBy
 patched h p = refl
 
-pub tested : (h : Held) (p : List ℕ) → inRange h p ≡ fitAt (bitsIn p) (h .table .infinity) (h .table .nextentry) (numbersIn p) (h .entries)
+pub tested : (h : Held) (p : List ℕ) → inRange h p ≡ fitAt (bitsIn p) (h .table .infinity) (h .table .nextentry)
+    (numbersIn p) (h .entries)
 unfolding inRange
 tested h p = refl
 
@@ -227,19 +231,24 @@ module _ (bits at : ℕ) (vs es : List ℕ) (within : at + length vs ≤ length 
       ∙ added-rest bits vs (drop at es)
       ∙ drop-drop (length vs) at es
 
-  addedAt-front : take (at + length vs) (addedAt bits at vs es) ≡ take at es ++ take (length vs) (added bits vs (drop at es))
+  addedAt-front : take (at + length vs) (addedAt bits at vs es) ≡ take at es ++ take (length vs)
+      (added bits vs (drop at es))
   addedAt-front = take-past (take at es) (added bits vs (drop at es)) at front (length vs)
 
   -- two messages in turn are one with the numbers of both
-  pub added-twice : (ws : List ℕ) → addedAt bits (at + length vs) ws (addedAt bits at vs es) ≡ addedAt bits at (vs ++ ws) es
+  pub added-twice : (ws : List ℕ) → addedAt bits (at + length vs) ws (addedAt bits at vs es)
+      ≡ addedAt bits at (vs ++ ws) es
   added-twice ws =
       rw
       (addedAt-front, addedAt-rest, ← drop-drop (length vs) at es, added-append bits vs ws (drop at es))
-      (append-assoc (take at es) (take (length vs) (added bits vs (drop at es))) (added bits ws (drop (length vs) (drop at es))))
+      (append-assoc (take at es) (take (length vs) (added bits vs (drop at es)))
+      (added bits ws (drop (length vs) (drop at es))))
 
   pub fit-twice : (infinity : ℕ) (ws : List ℕ)
-      → (fitAt bits infinity at vs es && fitAt bits infinity (at + length vs) ws (addedAt bits at vs es)) ≡ fitAt bits infinity at (vs ++ ws) es
-  fit-twice infinity ws = rw (addedAt-rest, ← drop-drop (length vs) at es) (sym (allFit-append bits infinity vs ws (drop at es)))
+      → (fitAt bits infinity at vs es && fitAt bits infinity (at + length vs) ws (addedAt bits at vs es))
+      ≡ fitAt bits infinity at (vs ++ ws) es
+  fit-twice infinity ws = rw (addedAt-rest, ← drop-drop (length vs) at es)
+      (sym (allFit-append bits infinity vs ws (drop at es)))
 
 -- .. add what their numbers add when they come at once
 module _ (bits : ℕ) where
@@ -250,7 +259,8 @@ module _ (bits : ℕ) where
   run-at-once at (vs ∷ vss) es h =
       let long : at + (length vs + length (together vss)) ≤ length es = rw (length-append vs (together vss)) at h in
       let here : at + length vs ≤ length es = omega arith in
-      let on : at + length vs + length (together vss) ≤ length (addedAt bits at vs es) = rw (addedAt-length bits at vs es here) (omega arith) in
+      let on : at + length vs + length (together vss) ≤ length (addedAt bits at vs es) =
+      rw (addedAt-length bits at vs es here) (omega arith) in
       run-at-once (at + length vs) vss (addedAt bits at vs es) on ∙ added-twice bits at vs es here (together vss)
 
   pub fit-at-once : (infinity at : ℕ) (vss : List (List ℕ)) (es : List ℕ) → at + length (together vss) ≤ length es
@@ -260,8 +270,10 @@ module _ (bits : ℕ) where
   fit-at-once infinity at (vs ∷ vss) es h =
       let long : at + (length vs + length (together vss)) ≤ length es = rw (length-append vs (together vss)) at h in
       let here : at + length vs ≤ length es = omega arith in
-      let on : at + length vs + length (together vss) ≤ length (addedAt bits at vs es) = rw (addedAt-length bits at vs es here) (omega arith) in
-      rw (fit-at-once infinity (at + length vs) vss (addedAt bits at vs es) on) (fit-twice bits at vs es here infinity (together vss))
+      let on : at + length vs + length (together vss) ≤ length (addedAt bits at vs es) =
+      rw (addedAt-length bits at vs es here) (omega arith) in
+      rw (fit-at-once infinity (at + length vs) vss (addedAt bits at vs es) on)
+      (fit-twice bits at vs es here infinity (together vss))
 
 -- the sum of a number and an entry is in 1..Infinity
 pub record SumWithin (bits infinity v e : ℕ) : Type 0 where
@@ -274,14 +286,16 @@ fits-exactly bits infinity v e = (from, to)
     from : fits bits infinity v e ≡ true → SumWithin bits infinity v e
     from h =
         record {
-          low = ltb-true (loss bits v) (e + gain bits v) (and-first (ltb (loss bits v) (e + gain bits v)) (leb (e + gain bits v) (infinity + loss bits v)) h);
+          low = ltb-true (loss bits v) (e + gain bits v) (and-first (ltb (loss bits v) (e + gain bits v))
+              (leb (e + gain bits v) (infinity + loss bits v)) h);
           high =
               leb-true (e + gain bits v) (infinity + loss bits v)
               (and-second (ltb (loss bits v) (e + gain bits v)) (leb (e + gain bits v) (infinity + loss bits v)) h);
         }
 
     to : SumWithin bits infinity v e → fits bits infinity v e ≡ true
-    to h = and-both (lt-ltb (loss bits v) (e + gain bits v) (h .low)) (le-leb (e + gain bits v) (infinity + loss bits v) (h .high))
+    to h = and-both (lt-ltb (loss bits v) (e + gain bits v) (h .low))
+        (le-leb (e + gain bits v) (infinity + loss bits v) (h .high))
 
 -- such a sum, as a number
 pub sum-in : (bits infinity v e : ℕ) → SumWithin bits infinity v e → (1 ≤ sumOf bits v e) × (sumOf bits v e ≤ infinity)
@@ -300,12 +314,14 @@ module _ (bits infinity : ℕ) where
   unfolding allFit
   each-within [] es h = record { long = omega arith; sums = λ i k. absurd (omega arith) }
   each-within (v ∷ vs) [] h = absurd (false≢true h)
-  each-within (v ∷ vs) (e ∷ es) h = go (each-within vs es (and-second (fits bits infinity v e) (allFit bits infinity vs es) h))
+  each-within (v ∷ vs) (e ∷ es) h =
+      go (each-within vs es (and-second (fits bits infinity v e) (allFit bits infinity vs es) h))
     where
       here : SumWithin bits infinity v e
       here = fits-exactly bits infinity v e .0 (and-first (fits bits infinity v e) (allFit bits infinity vs es) h)
 
-      sums : EachWithin bits infinity vs es → (i : ℕ) → i < suc (length vs) → SumWithin bits infinity (getD (v ∷ vs) i 0) (getD (e ∷ es) i 0)
+      sums : EachWithin bits infinity vs es → (i : ℕ) → i < suc (length vs) → SumWithin bits infinity
+          (getD (v ∷ vs) i 0) (getD (e ∷ es) i 0)
       sums on zero k = here
       sums on (suc i) k = on .sums i (omega arith)
 
@@ -332,6 +348,7 @@ module _ (bits infinity : ℕ) where
   added-in [] es h k = k
   added-in (v ∷ vs) [] h k = tt
   added-in (v ∷ vs) (e ∷ es) h k = (
-    sum-in bits infinity v e (fits-exactly bits infinity v e .0 (and-first (fits bits infinity v e) (allFit bits infinity vs es) h)),
+    sum-in bits infinity v e
+        (fits-exactly bits infinity v e .0 (and-first (fits bits infinity v e) (allFit bits infinity vs es) h)),
     added-in vs es (and-second (fits bits infinity v e) (allFit bits infinity vs es) h) (k .1),
   )

@@ -12,7 +12,8 @@ use Rattle.laws.proofs.Parts.{part-tail}
 use Rattle.tables.specs.declared.Table.{Table}
 use Rattle.tables.specs.Patch.{goodBits, numbers, numberCount, allFit}
 use Rattle.tables.specs.Tables.{heldIn, ready, running}
-use Rattle.tables.specs.Updates.{placeIn, sizeIn, bitsIn, numbersIn, isLast, patchTests, turnTests, goodPatch, inTurn, inRange}
+use Rattle.tables.specs.Updates.{placeIn, sizeIn, bitsIn, numbersIn, isLast, patchTests, turnTests, goodPatch}
+use Rattle.tables.specs.Updates.{inTurn, inRange}
 use Rattle.tables.proofs.TestLaws.{every-true}
 use Rattle.tables.proofs.PatchFacts.{numbers-length}
 
@@ -35,7 +36,8 @@ patch-fields p h =
     }
 
 -- the data of a PATCH in turn ends within the table
-pub turn-within : (t : Table) (p part : List ℕ) → inTurn (heldIn t part) p ≡ true → t .nextentry + length (numbersIn p) ≤ length (take (t .length) part)
+pub turn-within : (t : Table) (p part : List ℕ) → inTurn (heldIn t part) p ≡ true → t .nextentry + length (numbersIn p)
+    ≤ length (take (t .length) part)
 unfolding inTurn
 turn-within t p part h = leb-true _ _ (every-true (turnTests (heldIn t part) p) h .1 .1 .1 .0)
 
@@ -75,13 +77,15 @@ module _ (t : Table) (p part : List ℕ) (end : ℕ) (e : end ≡ min (t .length
       ap (λ k. take (k - t .nextentry) (drop (t .nextentry) part)) (e ∙ sym (length-take (t .length) part))
       ∙ rest-front part (t .nextentry) (t .length)
 
-  pub lent-range : allFit (bitsIn p) (t .infinity) (numbers (bitsIn p) (take (length p - 5) (drop 5 p))) (take (end - t .nextentry) (drop (t .nextentry) part))
+  pub lent-range : allFit (bitsIn p) (t .infinity) (numbers (bitsIn p) (take (length p - 5) (drop 5 p)))
+      (take (end - t .nextentry) (drop (t .nextentry) part))
       ≡ inRange (heldIn t part) p
   unfolding inRange
   lent-range = rw (lent-entries, part-tail 5 p)
 
   pub lent-room : inTurn (heldIn t part) p ≡ true
-      → numberCount (bitsIn p) (length (take (length p - 5) (drop 5 p))) ≤ length (take (end - t .nextentry) (drop (t .nextentry) part))
+      → numberCount (bitsIn p) (length (take (length p - 5) (drop 5 p))) ≤ length (take (end - t .nextentry)
+      (drop (t .nextentry) part))
   lent-room h =
       rw (lent-entries, part-tail 5 p)
       (simp length-drop (rw (← count-in p) (omega (arith, turn-within t p part h))))

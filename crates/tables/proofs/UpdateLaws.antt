@@ -16,8 +16,10 @@ use Rattle.tables.specs.declared.Table.{Table}
 use Rattle.tables.specs.declared.Updated.{Updated}
 use Rattle.tables.specs.Patch.{numbers, added, allFit}
 use Rattle.tables.specs.Tables.{Held, heldIn, atRest, waiting}
-use Rattle.tables.specs.Updates.{lengthIn, infinityIn, bitsIn, numbersIn, resetTests, isPatch, goodReset, goodPatch, inTurn, inRange}
-use Rattle.tables.specs.Updates.{resetAnswer, resetHeld, resetBy, patchAnswer, patchedHeld, patchBy, movedOn, updateAnswer, updated, brokenBy}
+use Rattle.tables.specs.Updates.{lengthIn, infinityIn, bitsIn, numbersIn, resetTests, isPatch, goodReset}
+use Rattle.tables.specs.Updates.{goodPatch, inTurn, inRange}
+use Rattle.tables.specs.Updates.{resetAnswer, resetHeld, resetBy, patchAnswer, patchedHeld, patchBy, movedOn}
+use Rattle.tables.specs.Updates.{updateAnswer, updated, brokenBy}
 use Rattle.tables.specs.Updates.{refusedBy, answered, partWith}
 use Rattle.tables.proofs.TestLaws.{every-true}
 use Rattle.tables.proofs.NumberLaws.{fit-wider}
@@ -55,7 +57,8 @@ module _ (t : Table) (p part : List ℕ) where
       → n ≡ lengthIn p
       → next ≡ atRest waiting n (infinityIn p)
       → ys ≡ over 0 (replicate n (infinityIn p)) part
-      → Done part (resetAnswer (length part) p) (resetHeld (length part) (heldIn t part) p) (record { answer = 0; table = next }) ys
+      → Done part (resetAnswer (length part) p) (resetHeld (length part) (heldIn t part) p)
+      (record { answer = 0; table = next }) ys
   unfolding resetHeld resetBy
   reset-taken e n next ys m x y = rw e (record { result = rw (x, m) refl; entries = rw (y, m) refl })
 
@@ -70,7 +73,8 @@ taken h p e =
     let t = by (goodPatch p) (inTurn h p) (inRange h p) e in
     record { fields = t .0; turn = t .1; range = t .2 }
   where
-    by : (a b c : Bool) → firstOf ((not a, 14) ∷ (not b, 15) ∷ (not c, 16) ∷ []) ≡ 0 → (a ≡ true) × (b ≡ true) × (c ≡ true)
+    by : (a b c : Bool) → firstOf ((not a, 14) ∷ (not b, 15) ∷ (not c, 16) ∷ []) ≡ 0 → (a ≡ true)
+        × (b ≡ true) × (c ≡ true)
     by true true true e = (refl, refl, refl)
     by true true false e = absurd (omega arith)
     by true false c e = absurd (omega arith)
@@ -84,7 +88,8 @@ module _ (t : Table) (p part : List ℕ) (n : ℕ) (e : n ≡ patchAnswer (heldI
 
   pub patch-taken : n ≡ 0 → (end : ℕ) (ys : List ℕ) (next : Table)
       → end ≡ min (t .length) (length part)
-      → ys ≡ added (bitsIn p) (numbers (bitsIn p) (take (length p - 5) (drop 5 p))) (take (end - t .nextentry) (drop (t .nextentry) part))
+      → ys ≡ added (bitsIn p) (numbers (bitsIn p) (take (length p - 5) (drop 5 p)))
+      (take (end - t .nextentry) (drop (t .nextentry) part))
       → next ≡ movedOn t p
       → Done part (patchAnswer (heldIn t part) p) (patchedHeld (heldIn t part) p)
       (record { answer = 0; table = next })
@@ -93,7 +98,8 @@ module _ (t : Table) (p part : List ℕ) (n : ℕ) (e : n ≡ patchAnswer (heldI
   patch-taken z end ys next m a b =
       let k : end ≡ length (take (t .length) part) = m ∙ sym (length-take (t .length) part) in
       let w = turn-within t p part (taken (heldIn t part) p (sym e ∙ z) .turn) in
-      let y : ys ≡ added (bitsIn p) (numbersIn p) (drop (t .nextentry) (take (t .length) part)) = rw (lent-entries t p part end m, part-tail 5 p) at a in
+      let y : ys ≡ added (bitsIn p) (numbersIn p) (drop (t .nextentry) (take (t .length) part)) =
+      rw (lent-entries t p part end m, part-tail 5 p) at a in
       rw (← e, z)
       (record {
         result = rw b refl;
@@ -102,13 +108,15 @@ module _ (t : Table) (p part : List ℕ) (n : ℕ) (e : n ≡ patchAnswer (heldI
             (over-lent (t .nextentry) (t .length) part
             (added (bitsIn p) (numbersIn p) (drop (t .nextentry) (take (t .length) part)))
             (omega arith)
-            (added-length (bitsIn p) (numbersIn p) (drop (t .nextentry) (take (t .length) part)) ∙ length-drop (t .nextentry) (take (t .length) part)));
+            (added-length (bitsIn p) (numbersIn p) (drop (t .nextentry) (take (t .length) part))
+            ∙ length-drop (t .nextentry) (take (t .length) part)));
       })
 
 -- the numbers that the code adds fit a byte
 pub lent-fit : (t : Table) (p part : List ℕ) (end : ℕ) → end ≡ min (t .length) (length part) → t .infinity ≤ 255
     → inRange (heldIn t part) p ≡ true
-    → allFit (bitsIn p) 255 (numbers (bitsIn p) (take (length p - 5) (drop 5 p))) (take (end - t .nextentry) (drop (t .nextentry) part)) ≡ true
+    → allFit (bitsIn p) 255 (numbers (bitsIn p) (take (length p - 5) (drop 5 p)))
+    (take (end - t .nextentry) (drop (t .nextentry) part)) ≡ true
 lent-fit t p part end e i r =
     fit-wider (bitsIn p) (t .infinity) 255
     (numbers (bitsIn p) (take (length p - 5) (drop 5 p)))
@@ -170,16 +178,14 @@ module _ (t : Table) (p part : List ℕ) (ttl hops : ℕ) where
   pub bad-hops : (hops ≡ 0 → ⊥) → Done part n u (refusedBy 14 t) part
   bad-hops e = refused-by (fourteen-hops e)
 
-  pub by-patch : ttl ≡ 1 → hops ≡ 0 → isPatch p ≡ true → (r : Updated) (left : List ℕ)
+  -- with a TTL and Hops that are right, what the variant's function leaves is what the update leaves
+  pub by-patch : ttl ≡ 1 → hops ≡ 0 → isPatch p ≡ true → {r : Updated} {left : List ℕ}
       → (r ≡ answered (patchAnswer h p) (patchedHeld h p)) × (left ≡ partWith (patchedHeld h p) part)
-      → Done part n u r left
-  by-patch a b e r left w =
-      rw (a, b, patch-answer-alone (length part) h p e, patch-alone (length part) h p e)
-      (record { result = w .0; entries = w .1 })
+      → (r ≡ answered n u) × (left ≡ partWith u part)
+  by-patch a b e w = rw (a, b, patch-answer-alone (length part) h p e, patch-alone (length part) h p e) w
 
-  pub by-reset : ttl ≡ 1 → hops ≡ 0 → isPatch p ≡ false → (r : Updated) (left : List ℕ)
-      → (r ≡ answered (resetAnswer (length part) p) (resetHeld (length part) h p)) × (left ≡ partWith (resetHeld (length part) h p) part)
-      → Done part n u r left
-  by-reset a b e r left w =
-      rw (a, b, reset-answer-alone (length part) h p e, reset-alone (length part) h p e)
-      (record { result = w .0; entries = w .1 })
+  pub by-reset : ttl ≡ 1 → hops ≡ 0 → isPatch p ≡ false → {r : Updated} {left : List ℕ}
+      → (r ≡ answered (resetAnswer (length part) p) (resetHeld (length part) h p))
+      × (left ≡ partWith (resetHeld (length part) h p) part)
+      → (r ≡ answered n u) × (left ≡ partWith u part)
+  by-reset a b e w = rw (a, b, reset-answer-alone (length part) h p e, reset-alone (length part) h p e) w

@@ -39,8 +39,8 @@ Withheld h entry keywords ttl =
     (h .table .mark ≡ settled)
     × ((k : List ℕ) × List·Memᴰ k keywords × ((entry k ≡ h .table .infinity) ⊎ (ttl < entry k)))
 
--- this is exactly when a table of 2 to the power b entries withholds, a keyword's entry being the one at its place, which
--- is the top b bits of its hash
+-- this is exactly when a table of 2 to the power b entries withholds, a keyword's entry being the one at its place,
+-- which is the top b bits of its hash
 abbrev pub WithheldExactly : Type 0
 WithheldExactly = (h : Held) (b : ℕ) → b ≤ 32 → h .table .length ≡ 2 ^ b → (keywords : List (List ℕ)) (ttl : ℕ)
     → (withholds h keywords ttl ≡ true) ↔ Withheld h (λ k. getD (h .entries) (placeOf b k) 0) keywords ttl

@@ -1,6 +1,6 @@
--- When an update is answered 0, 14, 15 or 16 (RULES 12), and what a list of updates leaves of a table that begins as no table:
--- in words of the bytes and of the updates before (specs/History), not of the rules that the code cites. They are
--- laws of those rules, proved in proofs/HistoryLaws (the table) and proofs/Answers.
+-- When an update is answered 0, 14, 15 or 16 (RULES 12), and what a list of updates leaves of a table that begins as no
+-- table: in words of the bytes and of the updates before (specs/History), not of the rules that the code cites. They
+-- are laws of those rules, proved in proofs/HistoryLaws (the table) and proofs/Answers.
 use Prim.Native.Nat.{ℕ, _+_, _^_, _≤_, _<_}
 use mathlib.Core.Path.{_≡_}
 use mathlib.Core.Bool.{Bool, true, false, _||_}
@@ -12,7 +12,8 @@ use lib.ListN.{length, getD, replicate}
 use Rattle.laws.specs.Tests.{any}
 use Rattle.tables.specs.Tables.{Held, noTable, settled}
 use Rattle.tables.specs.Updates.{updateAnswer, updated}
-use Rattle.tables.specs.History.{byte, lengthBytes, carried, Update, isReset, messages, ended, brought, underWay, lengthNamed, infinityNamed}
+use Rattle.tables.specs.History.{byte, lengthBytes, carried, Update, isReset, messages, ended, brought, underWay}
+use Rattle.tables.specs.History.{lengthNamed, infinityNamed}
 use Rattle.tables.specs.History.{sumAt, spoiled, speaks, markAfter}
 
 -- an update as it arrives
@@ -101,7 +102,8 @@ pub record Answers (room : ℕ) (us : List Update) (s : Sent) (n : ℕ) : Type 0
   pub sixteen : (n ≡ 16) ↔ (MayPatch s × InTurn us (s .payload) × LeadsOut us (s .payload))
 
 abbrev pub EveryAnswer : Type 0
-EveryAnswer = (room : ℕ) (ss : List Sent) (s : Sent) → Answers room (history room ss) s (answerTo room (after room ss) s)
+EveryAnswer = (room : ℕ) (ss : List Sent) (s : Sent) → Answers room (history room ss) s
+    (answerTo room (after room ss) s)
 
 -- what a list of updates leaves: as many entries as the last accepted RESET named, its Infinity, each entry that
 -- Infinity plus the sum of its numbers, and the mark, which is settled exactly where no quiet period is

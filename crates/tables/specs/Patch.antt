@@ -23,7 +23,8 @@ packed bits [] = []
 packed bits (u ∷ []) = cond (eqb bits 4) [] (u ∷ [])
 packed bits (u ∷ v ∷ vs) = cond (eqb bits 4) ((u * 16 + v) ∷ packed bits vs) (u ∷ packed bits (v ∷ vs))
 
--- a raw number v of `bits` bits is in two's complement: it adds v where that is below half, else it takes 2 ^ bits - v away
+-- a raw number v of `bits` bits is in two's complement: it adds v where that is below half, else it takes 2 ^ bits - v
+-- away
 abbrev pub half : ℕ → ℕ
 half bits = 2 ^ (bits - 1)
 

@@ -69,9 +69,11 @@ goodInfinity n = leb 2 n && leb n 127
 abbrev pub ready : ℕ → Bool
 ready k = eqb k waiting || (eqb k running || eqb k settled)
 
--- the run position: inside a run the next place, the run's size and bits and the next entry; else place 1 and entry 0 are next
+-- the run position: inside a run the next place, the run's size and bits and the next entry; else place 1 and entry 0
+-- are next
 abbrev pub insideRun : Table → Bool
-insideRun t = every (leb 2 (t .nextplace) ∷ leb (t .nextplace) (t .runsize) ∷ goodBits (t .runbits) ∷ leb (t .nextentry) (t .length) ∷ [])
+insideRun t = every (leb 2 (t .nextplace) ∷ leb (t .nextplace) (t .runsize) ∷ goodBits (t .runbits) ∷ leb (t .nextentry)
+    (t .length) ∷ [])
 
 abbrev pub betweenRuns : Table → Bool
 betweenRuns t = eqb (t .nextplace) 1 && eqb (t .nextentry) 0
@@ -86,7 +88,8 @@ withinLimits room t =
     ∷ cond (eqb (t .mark) running) (insideRun t) (betweenRuns t)
     ∷ [])
 
--- a table in order (RULES 4.7, 4.8): a mark among the five, and within the limits where the mark is waiting, running or settled
+-- a table in order (RULES 4.7, 4.8): a mark among the five, and within the limits where the mark is waiting, running or
+-- settled
 unfoldable pub tableInOrder : ℕ → Table → Bool
 tableInOrder room t = leb (t .mark) broken && (not (ready (t .mark)) || withinLimits room t)
 

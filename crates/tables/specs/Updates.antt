@@ -11,7 +11,8 @@ use Rattle.laws.specs.Parts.{over}
 use Rattle.tables.specs.declared.Table.{Table}
 use Rattle.tables.specs.declared.Updated.{Updated}
 use Rattle.tables.specs.Patch.{goodBits, numbers, added, allFit}
-use Rattle.tables.specs.Tables.{Held, atRest, marked, waiting, running, settled, broken, goodLength, goodInfinity, ready}
+use Rattle.tables.specs.Tables.{Held, atRest, marked, waiting, running, settled, broken, goodLength, goodInfinity}
+use Rattle.tables.specs.Tables.{ready}
 
 -- RESET: 00, length (4 bytes), Infinity
 abbrev pub lengthIn : List ℕ → ℕ
@@ -64,7 +65,8 @@ patchTests p =
 unfoldable pub goodPatch : List ℕ → Bool
 goodPatch p = every (patchTests p)
 
--- a PATCH in turn: a table to add to, the place awaited, size and bits as the run's first, no data past the table's end, and none left over after the last
+-- a PATCH in turn: a table to add to, the place awaited, size and bits as the run's first, no data past the table's
+-- end, and none left over after the last
 abbrev pub turnTests : Held → List ℕ → List Bool
 turnTests h p =
     ready (h .table .mark)
@@ -103,7 +105,8 @@ updateAnswer room h ttl hops p =
 
 -- an accepted RESET: every entry Infinity, mark waiting, place 1 and the first entry next
 unfoldable pub resetBy : List ℕ → Held
-resetBy p = record { table = atRest waiting (lengthIn p) (infinityIn p); entries = replicate (lengthIn p) (infinityIn p) }
+resetBy p =
+    record { table = atRest waiting (lengthIn p) (infinityIn p); entries = replicate (lengthIn p) (infinityIn p) }
 
 -- an accepted PATCH moves the run on; its last message settles the table, and place 1 and the first entry are next
 abbrev pub onward : Table → List ℕ → Table
@@ -125,7 +128,8 @@ unfoldable pub patchBy : Held → List ℕ → Held
 patchBy h p =
     record {
       table = movedOn (h .table) p;
-      entries = take (h .table .nextentry) (h .entries) ++ added (bitsIn p) (numbersIn p) (drop (h .table .nextentry) (h .entries));
+      entries = take (h .table .nextentry) (h .entries) ++ added (bitsIn p) (numbersIn p)
+          (drop (h .table .nextentry) (h .entries));
     }
 
 -- refused: only the mark changes

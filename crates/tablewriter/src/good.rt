@@ -1,4 +1,6 @@
 // Whether tables may be written, and whether their differences are small.
+use crate::MOST_DATA;
+use crate::Wanted;
 use tablereader::bounds::good_infinity;
 use tablereader::bounds::good_length;
 ghost use mathlib.Core.Path.{_≡_};
@@ -88,20 +90,17 @@ pub(crate) fn all_near<'a>(had: bool, old: &'a [u8], infinity: u8, new: &'a [u8]
 }
 
 // The tables and the data size may be written.
-pub(crate) fn may_write<'a>(
-    had: bool,
-    old: &'a [u8],
-    old_infinity: u8,
-    new: &'a [u8],
-    infinity: u8,
-    size: usize,
-) -> bool
-    ensures { λ r. ⌜ r ≡ mayWrite had (now (old .entry)) «old_infinity» (now (new .entry)) infinity size ⌝ }
+pub(crate) fn may_write<'a>(w: Wanted, old: &'a [u8], new: &'a [u8]) -> bool
+    ensures { λ r. ⌜ r ≡ mayWrite (w .had) (now (old .entry)) (w .was) (now (new .entry)) (w .infinity) (w .size) ⌝ }
 {
+    let had = w.had;
+    let was = w.was;
+    let infinity = w.infinity;
+    let size = w.size;
     if size < 1 {
         return false;
     }
-    if 4091 < size {
+    if MOST_DATA < size {
         return false;
     }
     if !had {
@@ -110,10 +109,10 @@ pub(crate) fn may_write<'a>(
     if old.len() != new.len() {
         return false;
     }
-    if old_infinity != infinity {
+    if was != infinity {
         return false;
     }
-    let good = good_table(old, old_infinity);
+    let good = good_table(old, was);
     if !good {
         return false;
     }

@@ -1,4 +1,5 @@
-// Floor 2: the updates that turn one route table into another, written as messages, by the rules of crate tablemessages.
+// Floor 2: the updates that turn one route table into another, written as messages, by the rules of crate
+// tablemessages.
 mod data;
 mod good;
 mod run;
@@ -9,9 +10,27 @@ use good::may_write;
 use run::put_all;
 use tablemessages::Plan;
 use tablemessages::Written;
+use wire::HEADER_SIZE;
+use wire::LARGEST_PAYLOAD;
 ghost use mathlib.Core.Path.{_≡_};
 ghost use Rattle.tablemessages.specs.Writer.{writtenAs, writerResult, writerOut};
 ghost use Rattle.tablemessages.specs.Steps.{resetLength};
+
+// How many bytes a RESET has, a PATCH in front of its data, and the most data of one PATCH.
+const RESET_SIZE: usize = HEADER_SIZE + 6;
+
+const PATCH_HEAD: usize = HEADER_SIZE + 5;
+
+const MOST_DATA: usize = LARGEST_PAYLOAD - 5;
+
+// What is wanted beside the tables' entries: whether there was an old table and with which Infinity, the new one's
+// Infinity, and how many bytes of data each PATCH of the run has but the last.
+pub struct Wanted {
+    pub had: bool,
+    pub was: u8,
+    pub infinity: u8,
+    pub size: usize,
+}
 
 fn answered(answer: u8, written: usize) -> Written
     ensures { λ r. ⌜ r ≡ writtenAs answer written ⌝ }
@@ -26,25 +45,28 @@ fn reset_length(had: bool) -> usize
     if had {
         return 0;
     }
-    29
+    RESET_SIZE
 }
 
-// The messages that turn the old table into the new one, each of the run with `size` bytes of data but the last. Where `had` is false there is
-// no old table, and `old` and `old_infinity` are not looked at.
+// The messages that turn the old table into the new one. Where there is no old table, `old` and its Infinity are not
+// looked at.
 pub fn write_table<'a>(
     number: [u8; 16],
-    had: bool,
+    w: Wanted,
     old: &'a [u8],
-    old_infinity: u8,
     new: &'a [u8],
-    infinity: u8,
-    size: usize,
     out: &mut [u8],
 ) -> Written
-    ensures result { λ r. ⌜ r ≡ writerResult number had (now (old .entry)) «old_infinity» (now (new .entry)) infinity size (now (out .entry)) ⌝ }
-    ensures bytes { λ r. ⌜ now (out .exit) ≡ writerOut number had (now (old .entry)) «old_infinity» (now (new .entry)) infinity size (now (out .entry)) ⌝ }
+    ensures result { λ r.
+        ⌜ r ≡ writerResult number (w .had) (now (old .entry)) (w .was) (now (new .entry)) (w .infinity) (w .size) (now (out .entry)) ⌝ }
+    ensures bytes { λ r.
+        ⌜ now (out .exit)
+        ≡ writerOut number (w .had) (now (old .entry)) (w .was) (now (new .entry)) (w .infinity) (w .size) (now (out .entry)) ⌝ }
 {
-    let good = may_write(had, old, old_infinity, new, infinity, size);
+    let had = w.had;
+    let infinity = w.infinity;
+    let size = w.size;
+    let good = may_write(w, old, new);
     if !good {
         return answered(14, 0);
     }
@@ -54,7 +76,7 @@ pub fn write_table<'a>(
     if 255 < count {
         return answered(14, 0);
     }
-    let total = reset_length(had) + 28 * count + data;
+    let total = reset_length(had) + PATCH_HEAD * count + data;
     if out.len() < total {
         return answered(2, 0);
     }

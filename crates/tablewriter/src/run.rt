@@ -1,7 +1,10 @@
 // The messages of an update: a RESET, and the run of PATCH messages.
+use crate::PATCH_HEAD;
+use crate::RESET_SIZE;
 use crate::data::data_length;
 use crate::data::put_data;
 use tablemessages::Plan;
+use wire::ROUTE_UPDATE;
 ghost use mathlib.Core.Path.{_≡_};
 ghost use Prim.Native.Nat.{_+_, _≤_, _<_, min};
 ghost use lib.ListN.{length, take, drop};
@@ -15,7 +18,7 @@ fn put_reset(number: [u8; 16], entries: u32, infinity: u8, part: &mut [u8])
     ensures { λ r. ⌜ now (part .exit) ≡ over 0 (update number (resetPayload entries infinity)) (now (part .entry)) ⌝ }
 {
     let bytes = wire::little_bytes4(entries);
-    wire::put_header(number, 0x30, 1, 0, 6, &mut *part);
+    wire::put_header(number, ROUTE_UPDATE, 1, 0, 6, &mut *part);
     part[23] = 0;
     part[24] = bytes[0];
     part[25] = bytes[1];
@@ -53,13 +56,13 @@ fn put_patch<'a>(
 {
     let size = (5 + n) as u32;
     let bits = bits_of(plan);
-    wire::put_header(number, 0x30, 1, 0, size, &mut *part);
+    wire::put_header(number, ROUTE_UPDATE, 1, 0, size, &mut *part);
     part[23] = 1;
     part[24] = place;
     part[25] = plan.count;
     part[26] = 0;
     part[27] = bits;
-    put_data(plan, old, new, from, n, &mut part[28..]);
+    put_data(plan, old, new, from, n, &mut part[PATCH_HEAD..]);
 }
 
 fn smaller(a: usize, b: usize) -> usize
@@ -82,7 +85,7 @@ fn put_run<'a>(number: [u8; 16], plan: Plan, old: &'a [u8], new: &'a [u8], out: 
     let mut at: usize = 0;
     while from < data {
         let n = smaller(plan.size, data - from);
-        let end = at + 28 + n;
+        let end = at + PATCH_HEAD + n;
         put_patch(
             number,
             plan,
@@ -115,5 +118,5 @@ pub(crate) fn put_all<'a>(
         return;
     }
     put_reset(number, new.len() as u32, plan.infinity, &mut *out);
-    put_run(number, plan, old, new, &mut out[29..]);
+    put_run(number, plan, old, new, &mut out[RESET_SIZE..]);
 }

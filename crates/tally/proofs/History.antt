@@ -21,11 +21,13 @@ unfolding bump
 count-after counts a k n h = by (eqb a k) refl (ltb a answerCount) refl
   where
     by : (same : Bool) → eqb a k ≡ same → (answer : Bool) → ltb a answerCount ≡ answer
-        → getD (cond (ltb a answerCount) (raised counts a) counts) k 0 ≡ cond (eqb a k) (oneMore (getD counts k 0)) (getD counts k 0)
+        → getD (cond (ltb a answerCount) (raised counts a) counts) k 0 ≡ cond (eqb a k) (oneMore (getD counts k 0))
+        (getD counts k 0)
     by true e answer l =
         let same : a ≡ k = eqb-true a k e in
         rw (e, same, lt-ltb k answerCount h) (getD-set-same counts k (oneMore (getD counts k 0)) 0 (omega (arith, n)))
-    by false e true l = rw (e, l) (getD-set-other counts a k (oneMore (getD counts a 0)) 0 (λ x. eqb-false a k e (sym x)))
+    by false e true l = rw (e, l) (getD-set-other counts a k (oneMore (getD counts a 0)) 0
+        (λ x. eqb-false a k e (sym x)))
     by false e false l = rw (e, l) refl
 
 bump-length : (counts : List ℕ) (a : ℕ) → length (bump counts a) ≡ length counts
@@ -38,7 +40,10 @@ bump-length counts a = by (ltb a answerCount)
 
 bump-sized : (counts : List ℕ) (a : ℕ) → Sized counts → Sized (bump counts a)
 unfolding oneMore
-bump-sized counts a s = record { long = bump-length counts a ∙ s .long; small = λ k h. rw (count-after counts a k (s .long) h) (by (eqb a k) k h) }
+bump-sized counts a s = record {
+  long = bump-length counts a ∙ s .long;
+  small = λ k h. rw (count-after counts a k (s .long) h) (by (eqb a k) k h);
+}
   where
     by : (same : Bool) (k : ℕ) → k < answerCount → cond same (oneMore (getD counts k 0)) (getD counts k 0) ≤ full
     by true k h = omega arith
@@ -48,7 +53,8 @@ pub counts-exactly : CountsExactly
 unfolding bumps occurrences oneMore
 counts-exactly [] counts s k h = let c : getD counts k 0 ≤ full = s .small k h in omega arith
 counts-exactly (a ∷ ns) counts s k h =
-    counts-exactly ns (bump counts a) (bump-sized counts a s) k h ∙ rw (count-after counts a k (s .long) h) (by (eqb a k))
+    counts-exactly ns (bump counts a) (bump-sized counts a s) k h ∙ rw (count-after counts a k (s .long) h)
+    (by (eqb a k))
   where
     by : (same : Bool)
         → min full (cond same (oneMore (getD counts k 0)) (getD counts k 0) + occurrences k ns)
@@ -61,7 +67,8 @@ sum-set : (l : List ℕ) (i x : ℕ) → i < length l → sum (set l i x) + getD
 unfolding sum
 sum-set [] i x h = absurd (omega arith)
 sum-set (c ∷ cs) zero x h = omega arith
-sum-set (c ∷ cs) (suc i) x h = let e : sum (set cs i x) + getD cs i 0 ≡ sum cs + x = sum-set cs i x (omega arith) in omega arith
+sum-set (c ∷ cs) (suc i) x h = let e : sum (set cs i x) + getD cs i 0 ≡ sum cs + x = sum-set cs i x (omega arith) in
+    omega arith
 
 -- an answer whose count is not full adds one
 sum-after : (counts : List ℕ) (a : ℕ) → length counts ≡ answerCount → (a < answerCount → getD counts a 0 < full)
@@ -83,15 +90,18 @@ pub sum-grows : SumGrows
 unfolding bumps answers occurrences
 sum-grows [] counts s f = omega arith
 sum-grows (a ∷ ns) counts s f =
-    sum-grows ns (bump counts a) (bump-sized counts a s) f ∙ rw (sum-after counts a (s .long) room) (by (ltb a answerCount))
+    sum-grows ns (bump counts a) (bump-sized counts a s) f ∙ rw (sum-after counts a (s .long) room)
+    (by (ltb a answerCount))
   where
     room : a < answerCount → getD counts a 0 < full
     room h =
-        let e : getD (bumps counts (a ∷ ns)) a 0 ≡ min full (getD counts a 0 + occurrences a (a ∷ ns)) = counts-exactly (a ∷ ns) counts s a h in
+        let e : getD (bumps counts (a ∷ ns)) a 0 ≡ min full (getD counts a 0 + occurrences a (a ∷ ns)) =
+        counts-exactly (a ∷ ns) counts s a h in
         let l : getD (bumps counts (a ∷ ns)) a 0 < full = f a h in
         omega arith
 
-    by : (answer : Bool) → sum counts + cond answer 1 0 + answers ns ≡ sum counts + cond answer (suc (answers ns)) (answers ns)
+    by : (answer : Bool) → sum counts + cond answer 1 0 + answers ns ≡ sum counts + cond answer
+        (suc (answers ns)) (answers ns)
     by true = omega arith
     by false = omega arith
 

@@ -1,8 +1,11 @@
--- Steps for a walk of code to which a struct is lent, in a function that calls another with what it is lent. T is any declared struct, L its laws.
+-- Steps for a walk of code to which a struct is lent, in a function that calls another with what it is lent. T is any
+-- declared struct, L its laws.
 --     lent    the reference is opened: the struct's machine value lies in memory, and is of the struct's type
---     told    a callee that takes plain data has returned a struct of which it ensures that it is x: x is owned, and is of the struct's type
+-- told a callee that takes plain data has returned a struct of which it ensures that it is x: x is owned, and is of the
+-- struct's type
 --     gone    a local is freed: entry n of the context is its cell, and the one behind it the right to free it
---     passed-on, passed-on-go    of parameters that went on to the callee, the function has at exit what its contract is to say of them: enough
+-- passed-on, passed-on-go of parameters that went on to the callee, the function has at exit what its contract is to
+-- say of them: enough
 --     others                     the parameters after the first
 -- Assumes nothing.
 use Prim.Native.Nat.{ℕ}
@@ -17,7 +20,8 @@ use base.Fml.{GName, Lft, Share, ftrue, fat, froom, fdies, flft, fobs, fauth, fb
 use prog.Wp.{Heap, Env}
 use ghost.Atoms.{Atoms, sem}
 use contract.Monad.{fact}
-use types.Kit.{Goal, frees, Soaks, Seq, Step, step, Given, Item, ‵, raw, some, later, _⊛_, mean, ⋆, push, pull, nth, del, _$_, move, use1, split}
+use types.Kit.{Goal, frees, Soaks, Seq, Step, step, Given, Item, ‵, raw, some, later, _⊛_, mean, ⋆, push, pull, nth}
+use types.Kit.{del, _$_, move, use1, split}
 use types.Kit.{drop, pick, await, rewrite}
 use types.Run.{free1}
 use types.SemTy.{Body}
@@ -32,7 +36,8 @@ use denote.Signature.{Slot}
 use denote.Triple.End.{Kepts}
 use denote.Triple.Walked.{Stay, Stays, AllGo}
 
-module _ {M : Type 1} {𝓤 : URA M} {H : Heap 𝓤} {A : Atoms 𝓤} {K : Type 0} {W : Given 𝓤 H A} {Γ : List (Item 𝓤)} {G : Goal 𝓤 H} where
+module _ {M : Type 1} {𝓤 : URA M} {H : Heap 𝓤} {A : Atoms 𝓤} {K : Type 0} {W : Given 𝓤 H A} {Γ : List (Item 𝓤)}
+    {G : Goal 𝓤 H} where
   pub lent : K → Soaks G → (T : Declared) (L : Laws T) {κ : Lft} {q : Share} {γ : GName} (x : T .D) (b o : ℕ)
       → (Is (row T) x (vals T L x)
       → Seq K W
@@ -51,7 +56,8 @@ module _ {M : Type 1} {𝓤 : URA M} {H : Heap 𝓤} {A : Atoms 𝓤} {K : Type 
       move t (1 ∷ 0 ∷ []) $
       next is))
 
-  pub told : K → Soaks G → (T : Declared) (x : T .D) (v : Val) (E : T .D → SProp 𝓤) → ((y : T .D) → ent 𝓤 (E y) (fact 𝓤 (y ≡ x)))
+  pub told : K → Soaks G → (T : Declared) (x : T .D) (v : Val) (E : T .D → SProp 𝓤)
+      → ((y : T .D) → ent 𝓤 (E y) (fact 𝓤 (y ≡ x)))
       → (Is (row T) x (v ∷ []) → Seq K W (‵ (row T .own x (v ∷ [])) ∷ Γ) G)
       → Seq K W (later (some (λ (y : T .D). (‵ ftrue ⊛ ‵ (row T .own y (v ∷ []))) ⊛ raw (E y))) ∷ Γ) G
   told t z T x v E same next =
@@ -66,8 +72,10 @@ module _ {M : Type 1} {𝓤 : URA M} {H : Heap 𝓤} {A : Atoms 𝓤} {K : Type 
       rewrite t 0 (λ (d : T .D). ‵ (row T .own d (v ∷ []))) e refl $
       peeks t (row T) (Is (row T)) (shows 𝓤 H A (row T)) x (v ∷ []) next))
 
-module _ {M : Type 1} {𝓤 : URA M} {H : Heap 𝓤} {A : Atoms 𝓤} {K : Type 0} {W : Given 𝓤 H A} {Γ : List (Item 𝓤)} {E : Env 𝓤 H} {G : Goal 𝓤 H} where
-  pub gone : K → (n : ℕ) {τ : Ty} {b : ℕ} {v : Val} → nth 𝓤 H A n Γ ≡ ‵ (fat fullShare τ b 0 v) → nth 𝓤 H A n (del 𝓤 H A n Γ) ≡ ‵ (fdies τ b)
+module _ {M : Type 1} {𝓤 : URA M} {H : Heap 𝓤} {A : Atoms 𝓤} {K : Type 0} {W : Given 𝓤 H A} {Γ : List (Item 𝓤)}
+    {E : Env 𝓤 H} {G : Goal 𝓤 H} where
+  pub gone : K → (n : ℕ) {τ : Ty} {b : ℕ} {v : Val} → nth 𝓤 H A n Γ ≡ ‵ (fat fullShare τ b 0 v)
+      → nth 𝓤 H A n (del 𝓤 H A n Γ) ≡ ‵ (fdies τ b)
       → Step K W (del 𝓤 H A n (del 𝓤 H A n Γ)) (frees E G) Γ (frees ((τ, b) ∷ E) G)
   gone t n {τ} {b} {v} cell right = step (λ s.
       record {
@@ -78,7 +86,8 @@ module _ {M : Type 1} {𝓤 : URA M} {H : Heap 𝓤} {A : Atoms 𝓤} {K : Type 
             (via 𝓤 (sep 𝓤 (H .room τ b 0) (⋆ 𝓤 H A (‵ (fdies τ b) ∷ del 𝓤 H A n rest)))
             (monoR 𝓤 (H .room τ b 0)
             (via 𝓤 (sep 𝓤 (H .dies τ b) (⋆ 𝓤 H A (del 𝓤 H A n rest)))
-            (subst (λ (j : Item 𝓤). ent 𝓤 (⋆ 𝓤 H A rest) (sep 𝓤 (mean 𝓤 H A j) (⋆ 𝓤 H A (del 𝓤 H A n rest)))) right (pull 𝓤 H A n rest))
+            (subst (λ (j : Item 𝓤). ent 𝓤 (⋆ 𝓤 H A rest) (sep 𝓤 (mean 𝓤 H A j) (⋆ 𝓤 H A (del 𝓤 H A n rest)))) right
+            (pull 𝓤 H A n rest))
             (push 𝓤 H A (‵ (fdies τ b)) (del 𝓤 H A n rest))))
             (via 𝓤 (⋆ 𝓤 H A (‵ (froom τ b 0) ∷ ‵ (fdies τ b) ∷ del 𝓤 H A n rest))
             (push 𝓤 H A (‵ (froom τ b 0)) (‵ (fdies τ b) ∷ del 𝓤 H A n rest))
@@ -95,10 +104,14 @@ abbrev pub passed-on : {n : ℕ} (ss : List (Slot n)) (ks : Kepts ss) → Stays 
 passed-on [] ks = tt
 passed-on (s ∷ ss) ks = (one-passed-on s (ks .0), passed-on ss (ks .1))
 
-pub passed-on-go : {M : Type 1} (𝓤 : URA M) (H : Heap 𝓤) (A : Atoms 𝓤) (W : Given 𝓤 H A) (n : ℕ) (ss : List (Slot n)) (ks : Kepts ss)
+pub passed-on-go : {M : Type 1} (𝓤 : URA M) (H : Heap 𝓤) (A : Atoms 𝓤) (W : Given 𝓤 H A) (n : ℕ) (ss : List (Slot n))
+    (ks : Kepts ss)
     → AllGo 𝓤 H A W n ss ks (passed-on ss ks)
 passed-on-go 𝓤 H A W n [] ks = tt
-passed-on-go 𝓤 H A W n (s ∷ ss) ks = ((λ κs x f vs fits. W .laws .⇛-intro (sem 𝓤 H A (left (s .row κs .exit (ks .0)) x f))), passed-on-go 𝓤 H A W n ss (ks .1))
+passed-on-go 𝓤 H A W n (s ∷ ss) ks = (
+  (λ κs x f vs fits. W .laws .⇛-intro (sem 𝓤 H A (left (s .row κs .exit (ks .0)) x f))),
+  passed-on-go 𝓤 H A W n ss (ks .1),
+)
 
 abbrev pub others : {n : ℕ} → List (Slot n) → List (Slot n)
 others [] = []

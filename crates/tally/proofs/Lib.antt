@@ -1,4 +1,5 @@
--- The tally over histories, steps of a proof by hand for a function to which a struct is lent, and the law of such a function over a tally.
+-- The tally over histories, steps of a proof by hand for a function to which a struct is lent, and the law of such a
+-- function over a tally.
 pub mod Counting
 pub mod History
 pub mod Lent

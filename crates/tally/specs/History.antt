@@ -24,11 +24,13 @@ CountsExactly =
 
 -- below that, the sum grows by the number of answers
 abbrev pub SumGrows : Type 0
-SumGrows = (ns counts : List ℕ) → Sized counts → NoneFull (bumps counts ns) → sum (bumps counts ns) ≡ sum counts + answers ns
+SumGrows = (ns counts : List ℕ) → Sized counts → NoneFull (bumps counts ns) → sum (bumps counts ns)
+    ≡ sum counts + answers ns
 
 -- a tally that starts at zero and none of whose counts is full sums up to the number of messages
 abbrev pub zeros : List ℕ
 zeros = replicate answerCount 0
 
 abbrev pub SumIsMessages : Type 0
-SumIsMessages = (ns : List ℕ) → all (λ n. ltb n answerCount) ns ≡ true → NoneFull (bumps zeros ns) → sum (bumps zeros ns) ≡ length ns
+SumIsMessages = (ns : List ℕ) → all (λ n. ltb n answerCount) ns ≡ true → NoneFull (bumps zeros ns)
+    → sum (bumps zeros ns) ≡ length ns

@@ -26,25 +26,19 @@ to-nobody : (b : Bool) (n k : ℕ) (s t : Station) (r q : List ℕ) → pickResu
 to-nobody true n k s t r q = refl
 to-nobody false n k s t r q = refl
 
+pub opening-quiet : (s : Station) (l : ℕ) → opening s l .to ≡ nobody
+unfolding opening
+opening-quiet s l = to-nobody (eqb (firstOf (openingRules (inOrder s) l (lineAt s l .live))) 0) _ _ _ _ _ _
+
+pub closing-quiet : (s : Station) (l : ℕ) → closing s l .to ≡ nobody
+unfolding closing
+closing-quiet s l = to-nobody (eqb (firstOf (closingRules (inOrder s) l (lineAt s l .live))) 0) _ _ _ _ _ _
+
 -- the record of a call's line, put in its place
 module _ {room : ℕ} (lines : List Line) {q : Memory} (line : ℕ) (x : Line) {n : ℕ} {r : Answered} where
-  handed : (o : Outcome) → Changed o n (stationOf room (set lines (line % 8) x) q) → o .to ≡ nobody
+  pub handed : (o : Outcome) → Changed o n (stationOf room (set lines (line % 8) x) q) → o .to ≡ nobody
       → r ≡ handedOn lines line x n nobody → Answers o r (stationOf room (r .lines) q)
   handed o c f e = rw e (record { answer = c .answered; to = sym f; state = c .state })
-
-  pub opened : (s : Station) → Changed (opening s line) n (stationOf room (set lines (line % 8) x) q)
-      → r ≡ handedOn lines line x n nobody → Answers (opening s line) r (stationOf room (r .lines) q)
-  unfolding opening
-  opened s c e =
-      let rules = openingRules (inOrder s) line (lineAt s line .live) in
-      handed (opening s line) c (to-nobody (eqb (firstOf rules) 0) _ _ _ _ _ _) e
-
-  pub closed : (s : Station) → Changed (closing s line) n (stationOf room (set lines (line % 8) x) q)
-      → r ≡ handedOn lines line x n nobody → Answers (closing s line) r (stationOf room (r .lines) q)
-  unfolding closing
-  closed s c e =
-      let rules = closingRules (inOrder s) line (lineAt s line .live) in
-      handed (closing s line) c (to-nobody (eqb (firstOf rules) 0) _ _ _ _ _ _) e
 
 -- ---- a message
 

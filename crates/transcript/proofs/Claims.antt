@@ -12,7 +12,8 @@ use borrow.Author.Tests.{leb-true, le-leb, eq-eqb}
 use Rattle.laws.specs.Tests.{all}
 use Rattle.laws.proofs.Refusals.{and-fst, and-snd}
 use Rattle.laws.proofs.Text.{head-drop}
-use Rattle.transcript.specs.Files.{countOf, offsetOf, eventAt, kindOf, countFrom, longest, goodOffsets, goodEvent, goodFile}
+use Rattle.transcript.specs.Files.{countOf, offsetOf, eventAt, kindOf, countFrom, longest, goodOffsets, goodEvent}
+use Rattle.transcript.specs.Files.{goodFile}
 use Rattle.transcript.specs.Claims.{InForm, GoodExactly, Station}
 use Rattle.transcript.proofs.Reading.{offsets-fit, offsets-room, offsets-first, offsets-last}
 
@@ -20,7 +21,8 @@ use Rattle.transcript.proofs.Reading.{offsets-fit, offsets-room, offset
 module _ (f : ℕ → Bool) where
   of-all : (n a i : ℕ) → all f (countFrom a n) ≡ true → a ≤ i → i < a + n → f i ≡ true
   of-all zero a i h l u = absurd (omega arith)
-  of-all (suc n) a i h l u = by (decLe (suc a) i) (λ m. of-all n (a + 1) i (and-snd (f a) (all f (countFrom (a + 1) n)) h) (omega arith) (omega arith))
+  of-all (suc n) a i h l u = by (decLe (suc a) i)
+      (λ m. of-all n (a + 1) i (and-snd (f a) (all f (countFrom (a + 1) n)) h) (omega arith) (omega arith))
     where
       by : Dec (suc a ≤ i) → (suc a ≤ i → f i ≡ true) → f i ≡ true
       by (yes m) k = k m
@@ -28,7 +30,8 @@ module _ (f : ℕ → Bool) where
 
   for-all : (n a : ℕ) → ((i : ℕ) → a ≤ i → i < a + n → f i ≡ true) → all f (countFrom a n) ≡ true
   for-all zero a h = refl
-  for-all (suc n) a h = rw (h a (omega arith) (omega arith)) (for-all n (a + 1) (λ i l u. h i (omega arith) (omega arith)))
+  for-all (suc n) a h = rw (h a (omega arith) (omega arith))
+      (for-all n (a + 1) (λ i l u. h i (omega arith) (omega arith)))
 
 -- the first byte of an event that is not empty and stands within the file
 first-byte : (file : List ℕ) (o n : ℕ) → 0 < n → getD (take n (drop o file)) 0 0 ≡ getD file o 0
@@ -51,7 +54,8 @@ module _ (file : List ℕ) (i : ℕ) where
       let b = leb (offsetOf file (i + 1)) (length file) in
       let c = leb (kindOf (eventAt file i)) 2 in
       let r : offsetOf file i + 6 ≤ offsetOf file (i + 1) = leb-true _ _ (and-fst a (b && (c && true)) g) in
-      let k : kindOf (eventAt file i) ≤ 2 = leb-true _ _ (and-fst c true (and-snd b (c && true) (and-snd a (b && (c && true)) g))) in
+      let k : kindOf (eventAt file i) ≤ 2 =
+      leb-true _ _ (and-fst c true (and-snd b (c && true) (and-snd a (b && (c && true)) g))) in
       record {
         rises = r;
         within = leb-true _ _ (and-fst b (c && true) (and-snd a (b && (c && true)) g));
@@ -107,7 +111,8 @@ pub good-exactly : GoodExactly
 good-exactly file = (
   (λ g.
       let o : goodOffsets file ≡ true = and-fst (goodOffsets file) _ g in
-      let e : all (goodEvent file) (countFrom 0 (countOf file)) ≡ true = and-fst _ true (and-snd (goodOffsets file) _ g) in
+      let e : all (goodEvent file) (countFrom 0 (countOf file)) ≡ true =
+      and-fst _ true (and-snd (goodOffsets file) _ g) in
       let at : (i : ℕ) → i < countOf file → Event file i =
       λ i h. of-event file i (of-all (goodEvent file) (countOf file) 0 i e (omega arith) (omega arith)) in
       record {

@@ -7,16 +7,19 @@ use native.Mathlib.Numerals.{add-one}
 use native.Mathlib.Omega.{arith}
 use lib.ListN.{length, getD, drop, drop-of-length-le}
 use lib.Seq.{drop-cons}
+use Rattle.laws.specs.Parts.{Put}
+use Rattle.laws.proofs.Text.{put-then}
 use Rattle.digits.specs.Decimal.{digit, decimal}
-use Rattle.transcript.specs.Rows.{space, comma, dash, newline, flagged, furtherLines, lineList, flagText, sentText, rowText}
-use Rattle.transcript.specs.Put.{Put}
-use Rattle.transcript.proofs.Putting.{put-none, put-then, Left, left-start, left-on, left-end}
+use Rattle.transcript.specs.Rows.{space, comma, dash, newline, flagged, furtherLines, lineList, flagText}
+use Rattle.transcript.specs.Rows.{sentText, columnText, rowText}
+use Rattle.transcript.proofs.Putting.{put-none, Left, left-start, left-on, left-end}
 
 -- what is still to be listed, of the flags from line k on
 abbrev pub leftText : Bool → ℕ → List Bool → List ℕ
 leftText started k flags = cond started (furtherLines (flagged k flags)) (lineList (flagged k flags))
 
-flag-next : (started flag : Bool) (k : ℕ) (flags : List Bool) → leftText started k (flag ∷ flags) ≡ flagText started flag k ++ leftText (started || flag) (k + 1) flags
+flag-next : (started flag : Bool) (k : ℕ) (flags : List Bool) → leftText started k (flag ∷ flags)
+    ≡ flagText started flag k ++ leftText (started || flag) (k + 1) flags
 flag-next true true k flags = refl
 flag-next true false k flags = refl
 flag-next false true k flags = refl
@@ -28,7 +31,8 @@ flag-size true false k = omega arith
 flag-size false true k = omega arith
 flag-size false false k = omega arith
 
-pub record Listing (to : List Bool) (before : List ℕ) (at : ℕ) (area : List ℕ) (next : ℕ) (started : Bool) (k : ℕ) : Type 0 where
+pub record Listing (to : List Bool) (before : List ℕ) (at : ℕ) (area : List ℕ) (next : ℕ) (started : Bool)
+    (k : ℕ) : Type 0 where
   pub within : k ≤ 8
   pub near : next ≤ at + 2 * k
   pub rest : Left at (sentText to) before next (leftText started k (drop k to)) area
@@ -37,15 +41,18 @@ pub listing-start : (to : List Bool) (at : ℕ) (area : List ℕ) → Listing to
 unfolding sentText
 listing-start to at area = record { within = omega arith; near = omega arith; rest = left-start at (sentText to) area }
 
-module _ (to : List Bool) (before : List ℕ) (at : ℕ) (area : List ℕ) (next : ℕ) (started : Bool) (k : ℕ) (l : Listing to before at area next started k)
+module _ {to : List Bool} {before : List ℕ} {at : ℕ} {area : List ℕ} {next : ℕ} {started : Bool} {k : ℕ}
+    (l : Listing to before at area next started k)
     (eight : length to ≡ 8) (room : at + 17 ≤ length before) where
-  pub listing-on : (after : List ℕ) (j : ℕ) → k < 8 → Put next (flagText started (getD to k false) k) area after j
+  pub listing-on : {after : List ℕ} {j : ℕ} → k < 8 → Put next (flagText started (getD to k false) k) area after j
       → Listing to before at after j (started || getD to k false) (k + 1)
-  listing-on after j h p =
+  listing-on h p =
       let f = getD to k false in
-      let x : drop k to ≡ f ∷ drop (k + 1) to = drop-cons to k false (omega arith) ∙ ap (λ n. f ∷ drop n to) (sym (add-one k)) in
+      let x : drop k to ≡ f ∷ drop (k + 1) to = drop-cons to k false (omega arith) ∙ ap (λ n. f ∷ drop n to)
+      (sym (add-one k)) in
       let y = ap (leftText started k) x ∙ flag-next started f k (drop (k + 1) to) in
-      let z : Left at (sentText to) before next (flagText started f k ++ leftText (started || f) (k + 1) (drop (k + 1) to)) area = rw y at (l .rest) in
+      let z : Left at (sentText to) before next (flagText started f k ++ leftText (started || f) (k + 1)
+      (drop (k + 1) to)) area = rw y at (l .rest) in
       let s = l .rest .size in
       let n = l .near in
       let b = flag-size started f k in
@@ -62,8 +69,9 @@ module _ (to : List Bool) (before : List ℕ) (at : ℕ) (area : List ℕ) (next
   pub listing-some : 8 ≤ k → started ≡ true → Put at (sentText to) before area next
   listing-some h e = left-end (rw (none-left h, e) at (l .rest))
 
-  pub listing-none : 8 ≤ k → started ≡ false → (after : List ℕ) (j : ℕ) → Put next (dash ∷ []) area after j → Put at (sentText to) before after j
-  listing-none h e after j p =
+  pub listing-none : 8 ≤ k → started ≡ false → {after : List ℕ} {j : ℕ} → Put next (dash ∷ []) area after j
+      → Put at (sentText to) before after j
+  listing-none h e p =
       let z : Left at (sentText to) before next (dash ∷ []) area = rw (none-left h, e) at (l .rest) in
       let s = l .rest .size in
       let n = l .near in
@@ -72,27 +80,31 @@ module _ (to : List Bool) (before : List ℕ) (at : ℕ) (area : List ℕ) (next
 
 -- ---- what a flag adds
 
-pub flag-none : (started flag : Bool) (k at : ℕ) (area : List ℕ) → flag ≡ false → Put at (flagText started flag k) area area at
-flag-none started flag k at area e = rw e (put-none at area)
+module _ (started flag : Bool) (k : ℕ) {at : ℕ} {area : List ℕ} where
+  pub flag-none : flag ≡ false → Put at (flagText started flag k) area area at
+  flag-none e = rw e (put-none at area)
 
-pub flag-first : (started flag : Bool) (k at : ℕ) (area after : List ℕ) (j : ℕ) → flag ≡ true → started ≡ false → Put at (digit k ∷ []) area after j → Put at (flagText started flag k) area after j
-flag-first started flag k at area after j e f p = rw (e, f) p
+  pub flag-first : {after : List ℕ} {j : ℕ} → flag ≡ true → started ≡ false → Put at (digit k ∷ []) area after j
+      → Put at (flagText started flag k) area after j
+  flag-first e f p = rw (e, f) p
 
-pub flag-further : (started flag : Bool) (k at : ℕ) (area mid after : List ℕ) (i j : ℕ) → flag ≡ true → started ≡ true → Put at (comma ∷ []) area mid i → Put i (digit k ∷ []) mid after j
-    → at + 2 ≤ length area → Put at (flagText started flag k) area after j
-flag-further started flag k at area mid after i j e f p q h = let m = p .moved in rw (e, f) (put-then p q (omega arith))
+  pub flag-further : {mid after : List ℕ} {i j : ℕ} → flag ≡ true → started ≡ true → Put at (comma ∷ []) area mid i
+      → Put i (digit k ∷ []) mid after j
+      → at + 2 ≤ length area → Put at (flagText started flag k) area after j
+  flag-further e f p q h = let m = p .moved in rw (e, f) (put-then p q (omega arith))
 
 -- ---- a row, each part put where the one before it ends
 
-module _ (i answer : ℕ) (to : List Bool) (at : ℕ) (a₀ a₁ a₂ a₃ a₄ a₅ a₆ : List ℕ) (p q r s t u : ℕ) (room : at + 30 ≤ length a₀)
-    (p₁ : Put at (decimal i) a₀ a₁ p) (n₁ : p ≤ at + 5) (p₂ : Put p (space ∷ []) a₁ a₂ q) (p₃ : Put q (decimal answer) a₂ a₃ r) (n₃ : r ≤ q + 5)
-    (p₄ : Put r (space ∷ []) a₃ a₄ s) (p₅ : Put s (sentText to) a₄ a₅ t) (n₅ : t ≤ s + 17) (p₆ : Put t (newline ∷ []) a₅ a₆ u) where
-  pub row-near : u ≤ at + 30
-  row-near = omega (arith, p₂ .moved, p₄ .moved, p₆ .moved)
+pub column-put : (n : ℕ) {at : ℕ} {area mid after : List ℕ} {i j : ℕ} → at + 6 ≤ length area
+    → Put at (decimal n) area mid i → i ≤ at + 5
+    → Put i (space ∷ []) mid after j → Put at (columnText n) area after j × (j ≤ at + 6)
+column-put n room p near q = let m = q .moved in (put-then p q (omega arith), omega arith)
 
-  pub row-put : Put at (rowText i answer to) a₀ a₆ u
-  unfolding rowText
-  row-put =
-      let m₂ = p₂ .moved in
-      let m₄ = p₄ .moved in
-      put-then (put-then (put-then (put-then (put-then p₁ p₂ (omega arith)) p₃ (omega arith)) p₄ (omega arith)) p₅ (omega arith)) p₆ (omega arith)
+pub row-put : (i answer : ℕ) (to : List Bool) {at : ℕ} {a₀ a₁ a₂ a₃ a₄ : List ℕ} {p q r s : ℕ} → at + 30 ≤ length a₀
+    → Put at (columnText i) a₀ a₁ p → p ≤ at + 6 → Put p (columnText answer) a₁ a₂ q → q ≤ p + 6 → Put q (sentText to)
+    a₂ a₃ r → r ≤ q + 17
+    → Put r (newline ∷ []) a₃ a₄ s → Put at (rowText i answer to) a₀ a₄ s × (s ≤ at + 30)
+unfolding rowText
+row-put i answer to room p₁ n₁ p₂ n₂ p₃ n₃ p₄ =
+    let m = p₄ .moved in
+    (put-then (put-then (put-then p₁ p₂ (omega arith)) p₃ (omega arith)) p₄ (omega arith), omega arith)

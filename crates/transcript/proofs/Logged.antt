@@ -29,7 +29,8 @@ unlogged w (Ask n text t a) = refl
 
 module _ (file : List ℕ) where
   rows-logged : (k i : ℕ) (w : World) → length (w .log) ≡ i
-      → logRows (run w (callsOf file (countFrom i k)) .log) ≡ logRows (w .log) ++ rowsFrom file (w .state) (w .area) (countFrom i k)
+      → logRows (run w (callsOf file (countFrom i k)) .log) ≡ logRows (w .log) ++ rowsFrom file (w .state)
+      (w .area) (countFrom i k)
   unfolding rowsFrom logRows
   rows-logged zero i w e = sym (append-nil (logRows (w .log)))
   rows-logged (suc k) i w e =
@@ -37,11 +38,14 @@ module _ (file : List ℕ) where
       let n : length (step w c .log) ≡ i + 1 = omega arith in
       let row : List ℕ = rowText (length (w .log)) (outcomeOf w c .answer) (outcomeOf w c .to) in
       rows-logged k (i + 1) (step w c) n
-      ∙ append-assoc (logRows (w .log)) row (rowsFrom file (outcomeOf w c .state) (areaAfter c (w .area) (outcomeOf w c .route)) (countFrom (i + 1) k))
+      ∙ append-assoc (logRows (w .log)) row
+      (rowsFrom file (outcomeOf w c .state) (areaAfter c (w .area) (outcomeOf w c .route)) (countFrom (i + 1) k))
       ∙ ap (λ x. logRows (w .log) ++ x)
-      (ap₂ (λ (j : ℕ) (o : Outcome). rowText j (o .answer) (o .to) ++ rowsFrom file (o .state) (areaAfter c (w .area) (o .route)) (countFrom (i + 1) k)) e (unlogged w c))
+      (ap₂ (λ (j : ℕ) (o : Outcome). rowText j (o .answer) (o .to) ++ rowsFrom file (o .state)
+      (areaAfter c (w .area) (o .route)) (countFrom (i + 1) k)) e (unlogged w c))
 
   -- all rows of a file are the log of its calls, from a fresh state over a route area of zeros
-  pub all-logged : logRows (run (start (fresh routeSize .state) (replicate routeSize 0)) (callsOf file (countFrom 0 (countOf file))) .log) ≡ allRows file
+  pub all-logged : logRows (run (start (fresh routeSize .state) (replicate routeSize 0))
+      (callsOf file (countFrom 0 (countOf file))) .log) ≡ allRows file
   unfolding allRows logRows
   all-logged = rows-logged (countOf file) 0 (start (fresh routeSize .state) (replicate routeSize 0)) refl

@@ -5,28 +5,13 @@ use mathlib.Core.List.{List, [], _∷_, _++_}
 use native.Mathlib.Nat.{add-zero}
 use native.Mathlib.Omega.{arith}
 use lib.ListN.{length, getD, drop, set, length-set, length-append}
-use Rattle.laws.specs.Parts.{over}
+use Rattle.laws.specs.Parts.{over, Put}
 use Rattle.laws.proofs.Over.{over-length}
 use Rattle.laws.proofs.Text.{over-none, over-append, copy-on, copy-end}
 use Rattle.laws.proofs.Decimal.{over-byte}
-use Rattle.transcript.specs.Put.{Put}
 
 pub put-one : (at b : ℕ) (area : List ℕ) → at < length area → Put at (b ∷ []) area (set area at b) (at + 1)
 put-one at b area h = record { written = over-byte at b area h; moved = refl }
-
--- one text behind another
-pub put-then : {at : ℕ} {x y area mid after : List ℕ} {i j : ℕ} → Put at x area mid i → Put i y mid after j → i ≤ length area → Put at (x ++ y) area after j
-put-then {at} {x} {y} {area} {mid} {after} {i} {j} p q h =
-    let m = p .moved in
-    let n = q .moved in
-    record {
-      written =
-          q .written
-          ∙ ap (λ l. over i y l) (p .written)
-          ∙ ap (λ k. over k y (over at x area)) m
-          ∙ over-append at x y area (omega arith);
-      moved = omega (arith, length-append x y);
-    }
 
 -- nothing
 pub put-none : (at : ℕ) (area : List ℕ) → Put at [] area area at
@@ -42,7 +27,8 @@ pub left-start : (at : ℕ) (text area : List ℕ) → Left at text area at text
 left-start at text area = record { size = refl; left = refl; place = refl }
 
 -- a part of it is put
-pub left-on : {at : ℕ} {text before : List ℕ} {next : ℕ} {area after : List ℕ} {j : ℕ} (piece rest : List ℕ) → Left at text before next (piece ++ rest) area
+pub left-on : {at : ℕ} {text before : List ℕ} {next : ℕ} {area after : List ℕ} {j : ℕ} (piece rest : List ℕ)
+    → Left at text before next (piece ++ rest) area
     → Put next piece area after j → next + length piece ≤ length area → Left at text before j rest after
 left-on {at} {text} {before} {next} {area} {after} {j} piece rest l p h =
     let m = p .moved in
@@ -56,7 +42,8 @@ left-on {at} {text} {before} {next} {area} {after} {j} piece rest l p h =
       place = omega (arith, length-append piece rest, l .place);
     }
 
-pub left-end : {at : ℕ} {text before : List ℕ} {next : ℕ} {area : List ℕ} → Left at text before next [] area → Put at text before area next
+pub left-end : {at : ℕ} {text before : List ℕ} {next : ℕ} {area : List ℕ} → Left at text before next [] area
+    → Put at text before area next
 left-end {at} {text} {before} {next} {area} l =
     record { written = sym (over-none next area) ∙ l .left; moved = omega (arith, l .place) }
 
@@ -71,7 +58,8 @@ pub copying-start : (text area : List ℕ) (at : ℕ) → Copying text area at a
 copying-start text area at = record { within = omega arith; size = refl; left = rw (add-zero at) }
 
 module _ (text before : List ℕ) (at : ℕ) (area : List ℕ) (i : ℕ) (p : Copying text before at area i) where
-  pub copying-on : at + length text ≤ length before → i < length text → Copying text before at (set area (at + i) (getD text i 0)) (i + 1)
+  pub copying-on : at + length text ≤ length before → i < length text
+      → Copying text before at (set area (at + i) (getD text i 0)) (i + 1)
   copying-on room h =
       record {
         within = omega arith;

@@ -10,8 +10,8 @@ use Rattle.protocol.specs.Pings.{ownPong}
 use Rattle.transcript.specs.Files.{countOf, offsetOf, goodFile}
 use Rattle.transcript.specs.Text as text
 
--- N events: at most 32,768 bytes; the offsets begin just past themselves, at 8 + 4 N, rise by at least 6, and end at the file's length; the
--- first byte of each event is 0, 1 or 2
+-- N events: at most 32,768 bytes; the offsets begin just past themselves, at 8 + 4 N, rise by at least 6, and end at
+-- the file's length; the first byte of each event is 0, 1 or 2
 pub record InForm (file : List ℕ) : Type 0 where
   pub size : length file ≤ 32768
   pub room : 8 + 4 * countOf file ≤ length file

@@ -45,7 +45,8 @@ countFrom i (suc k) = i ∷ countFrom (i + 1) k
 abbrev pub longest : ℕ
 longest = 32768
 
--- the file has room for its count and its offsets, of which the first is just past them and the last is the file's length
+-- the file has room for its count and its offsets, of which the first is just past them and the last is the file's
+-- length
 unfoldable pub goodOffsets : List ℕ → Bool
 goodOffsets file =
     every
@@ -56,7 +57,8 @@ goodOffsets file =
     ∷ eqb (offsetOf file (countOf file)) (length file)
     ∷ [])
 
--- event i has at least six bytes, ends within the file, and is of a kind that there is: 0 opens, 1 closes, 2 is a message
+-- event i has at least six bytes, ends within the file, and is of a kind that there is: 0 opens, 1 closes, 2 is a
+-- message
 unfoldable pub goodEvent : List ℕ → ℕ → Bool
 goodEvent file i =
     every

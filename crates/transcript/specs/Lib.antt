@@ -1,6 +1,5 @@
 -- Event files, the rows that a session writes, and its whole text.
 pub mod Files
 pub mod Rows
-pub mod Put
 pub mod Text
 pub mod Claims

@@ -42,5 +42,9 @@ flagText true true k = comma ∷ digit k ∷ []
 unfoldable pub sentText : List Bool → List ℕ
 sentText to = lineList (flagged 0 to)
 
+-- a number and the space behind it
+abbrev pub columnText : ℕ → List ℕ
+columnText n = decimal n ++ (space ∷ [])
+
 unfoldable pub rowText : ℕ → ℕ → List Bool → List ℕ
-rowText i answer to = ((((decimal i ++ (space ∷ [])) ++ decimal answer) ++ (space ∷ [])) ++ sentText to) ++ (newline ∷ [])
+rowText i answer to = ((columnText i ++ columnText answer) ++ sentText to) ++ (newline ∷ [])

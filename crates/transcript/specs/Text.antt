@@ -16,7 +16,8 @@ use Rattle.protocol.specs.Calls.{fresh}
 use Rattle.protocol.specs.Runs.{Call, Open, Close, Message, Same, outcomeOf, areaAfter, start}
 use Rattle.transcript.specs.declared.events.Answered.{Answered}
 use Rattle.transcript.specs.declared.Written.{Written}
-use Rattle.transcript.specs.Files.{kindOf, lineOf, clockOf, messageOf, eventAt, countFrom, countOf, longest, goodEvent, goodFile}
+use Rattle.transcript.specs.Files.{kindOf, lineOf, clockOf, messageOf, eventAt, countFrom, countOf, longest}
+use Rattle.transcript.specs.Files.{goodEvent, goodFile}
 use Rattle.transcript.specs.Rows.{rowText}
 
 -- what the station says of itself: 127.0.0.1, port 6346, no files, and calls are taken
@@ -48,7 +49,8 @@ outcomeBy s route e = outcomeOf (start s route) (callOf e)
 abbrev pub routeBy : Station → List ℕ → List ℕ → List ℕ
 routeBy s route e = areaAfter (callOf e) route (outcomeBy s route e .route)
 
--- what the code hands on of a call on a line, whose record after it is x: the state but for the ring, the answer and the lines sent to
+-- what the code hands on of a call on a line, whose record after it is x: the state but for the ring, the answer and
+-- the lines sent to
 abbrev pub handedOn : List Line → ℕ → Line → ℕ → List Bool → Answered
 handedOn lines line x answer to = record { lines = set lines (line % 8) x; answer = answer; to = to }
 
@@ -69,8 +71,8 @@ rowsFrom file s route (i ∷ is) =
 unfoldable pub allRows : List ℕ → List ℕ
 allRows file = rowsFrom file (fresh routeSize .state) (replicate routeSize 0) (countFrom 0 (countOf file))
 
--- what the function that writes n rows from place `at` on needs: good events, whose offsets are there, an output area of the right
--- length, and room for rows of at most 30 bytes
+-- what the function that writes n rows from place `at` on needs: good events, whose offsets are there, an output area
+-- of the right length, and room for rows of at most 30 bytes
 pub record RowsFit (file : List ℕ) (n lent size at : ℕ) : Type 0 where
   pub good : all (goodEvent file) (countFrom 0 n) ≡ true
   pub offsets : 8 + 4 * n ≤ length file

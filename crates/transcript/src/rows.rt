@@ -5,8 +5,8 @@ ghost use mathlib.Core.Path.{_≡_};
 ghost use mathlib.Core.Bool.{_||_};
 ghost use Prim.Native.Nat.{_+_, _<_, _≤_};
 ghost use lib.ListN.{length};
-ghost use Rattle.transcript.specs.Rows.{flagText, sentText, rowText};
-ghost use Rattle.transcript.specs.Put.{Put};
+ghost use Rattle.laws.specs.Parts.{Put};
+ghost use Rattle.transcript.specs.Rows.{flagText, sentText, columnText, rowText};
 
 fn either(a: bool, b: bool) -> bool
     ensures { λ r. ⌜ r ≡ a || b ⌝ }
@@ -50,16 +50,24 @@ fn put_sent(out: &mut [u8], at: usize, to: [bool; 8]) -> usize
     put_byte(out, next, b'-')
 }
 
+// A number and the space behind it.
+fn put_column(out: &mut [u8], at: usize, n: u16) -> usize
+    requires { ⌜ at + 6 ≤ length (now out) ⌝ }
+    ensures text { λ r. ⌜ Put at (columnText n) (now (out .entry)) (now (out .exit)) r ⌝ }
+    ensures near { λ r. ⌜ r ≤ at + 6 ⌝ }
+{
+    let next = put_number(out, at, n);
+    put_byte(out, next, b' ')
+}
+
 // A row: the event's number, the answer, and the lines that were sent to.
 pub(crate) fn put_row(out: &mut [u8], at: usize, i: u16, answer: u8, to: [bool; 8]) -> usize
     requires { ⌜ at + 30 ≤ length (now out) ⌝ }
     ensures text { λ r. ⌜ Put at (rowText i answer to) (now (out .entry)) (now (out .exit)) r ⌝ }
     ensures near { λ r. ⌜ r ≤ at + 30 ⌝ }
 {
-    let a = put_number(out, at, i);
-    let b = put_byte(out, a, b' ');
-    let c = put_number(out, b, answer as u16);
-    let d = put_byte(out, c, b' ');
-    let e = put_sent(out, d, to);
-    put_byte(out, e, b'\n')
+    let a = put_column(out, at, i);
+    let b = put_column(out, a, answer as u16);
+    let c = put_sent(out, b, to);
+    put_byte(out, c, b'\n')
 }

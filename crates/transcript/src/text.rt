@@ -7,16 +7,18 @@ use crate::file::offset;
 use crate::put::put_text;
 use crate::rows::put_row;
 use protocol::Line;
+use wire::LARGEST_MESSAGE;
 ghost use mathlib.Core.Path.{_≡_};
 ghost use mathlib.Core.Bool.{true};
 ghost use mathlib.Core.List.{_++_};
 ghost use Prim.Native.Nat.{_≤_};
 ghost use lib.ListN.{length};
+ghost use Rattle.laws.specs.Parts.{Put};
 ghost use Rattle.protocol.specs.Memory.{memoryOf};
 ghost use Rattle.protocol.specs.State.{stationOf};
 ghost use Rattle.transcript.specs.Files.{countFrom, goodFile};
-ghost use Rattle.transcript.specs.Put.{Put};
-ghost use Rattle.transcript.specs.Text.{RowsFit, rowsFrom, allRows, heading, textRoom, sessionText, writtenOf, areaOf};
+ghost use Rattle.transcript.specs.Text.{RowsFit, rowsFrom, allRows, heading, textRoom, sessionText, writtenOf};
+ghost use Rattle.transcript.specs.Text.{areaOf};
 
 // A row for each of the n events, each acted on where the one before it left the state and the route area.
 fn put_rows(
@@ -71,13 +73,13 @@ fn put_session(file: &[u8], out: &mut [u8]) -> usize
     ensures { λ r. ⌜ Put 0 (heading ++ allRows (now (file .entry))) (now (out .entry)) (now (out .exit)) r ⌝ }
 {
     let mut route = [0u8; 16384];
-    let mut area = [0u8; 4119];
+    let mut area = [0u8; LARGEST_MESSAGE];
     let mut lo = [0u64; 512];
     let mut hi = [0u64; 512];
     let mut asker = [0u8; 512];
     let mut remembered: usize = 0;
     let mut next: usize = 0;
-    let begun = station::changes::fresh_over(
+    let begun = lunozhar::calls::lunozhar_fresh_lent(
         &mut lo,
         &mut hi,
         &mut asker,

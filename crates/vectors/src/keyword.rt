@@ -1,8 +1,7 @@
 // `place BITS KEYWORD`, `casehash LABEL KEYWORD` and `keywords TEXT`
 use crate::print;
-use crate::rows;
-use crate::words;
 use keywords::cut::Cut;
+use rows::words;
 
 pub(crate) fn place(keyword: &[u8], bits: u32) {
     let n = keywords::hash::place(keyword, bits);

@@ -5,10 +5,9 @@ use crate::calls;
 use crate::keyword;
 use crate::pairs;
 use crate::print;
-use crate::rows;
 use crate::sessions;
 use crate::updates;
-use crate::words;
+use rows::words;
 
 // Room for the input, for the bytes of a row, and for what is written, which is a session's text at the longest.
 pub(crate) fn room() -> [u8; 98304]
@@ -20,7 +19,7 @@ pub(crate) fn room() -> [u8; 98304]
 // Where the word behind the space at this place ends.
 fn after(line: &[u8], at: usize) -> usize {
     if at < line.len() {
-        return words::word_end(line, at + 1, b' ');
+        return bytes::scan::find(line, at + 1, line.len(), b' ');
     }
     line.len()
 }
@@ -89,7 +88,7 @@ fn row(kind: usize, line: &[u8], one: usize) {
 
 // A line of no kind is shown, unless it is empty or begins with `#`.
 fn unread(line: &[u8]) {
-    if words::same(words::part(line, 0, 1), b"#") {
+    if ascii::same(false, words::part(line, 0, 1), b"#") {
         return;
     }
     if line.len() == 0 {
@@ -108,7 +107,7 @@ fn kind_of(name: &[u8]) -> usize {
 }
 
 fn one(line: &[u8]) {
-    let end = words::word_end(line, 0, b' ');
+    let end = bytes::scan::find(line, 0, line.len(), b' ');
     let kind = kind_of(words::part(line, 0, end));
     if kind < 16 {
         row(kind, line, end);
@@ -120,7 +119,7 @@ fn one(line: &[u8]) {
 pub(crate) fn all(input: &[u8]) {
     let mut at = 0;
     while at < input.len() {
-        let end = words::word_end(input, at, b'\n');
+        let end = bytes::scan::find(input, at, input.len(), b'\n');
         one(words::part(input, at, end));
         at = end + 1;
     }

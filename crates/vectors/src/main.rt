@@ -1,14 +1,11 @@
 // The vectors over the proved crates: a row is printed for each line of standard input, as docs/VECTORS.md says.
 mod calls;
-mod decode;
 mod keyword;
 mod lines;
 mod pairs;
 mod print;
-mod rows;
 mod sessions;
 mod updates;
-mod words;
 
 fn main() {
     let mut input = lines::room();

@@ -1,11 +1,10 @@
 // `group LABEL BYTES`, `field LABEL NAME AREA BYTES`, `try LABEL BYTES` and `written LABEL WHAT AREA PAIRS`: every use
 // of the handshake's crates.
 use crate::print;
-use crate::rows;
-use crate::words;
 use handshake::Asked;
 use handshake::Group;
 use handshake::Wrote;
+use rows::words;
 use xtry::Pair;
 use xtry::Pairs;
 

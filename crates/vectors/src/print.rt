@@ -1,6 +1,5 @@
 // Words, numbers and lists of a row, on standard output, each with a space before it.
-use crate::decode;
-use crate::words;
+use rows::words;
 
 pub(crate) fn mark(b: u8) {
     let text = [b];
@@ -60,10 +59,10 @@ pub(crate) fn list(bytes: &[u8], n: usize, separator: u8) {
     joined(words::part(bytes, 0, n), separator);
 }
 
-// One byte more in the area, or none.
+// One byte more in the area, if it has that place, or none; the place behind it.
 pub(crate) fn noted(some: bool, area: &mut [u8], at: usize, b: u8) -> usize {
     if some {
-        return decode::put(area, at, b);
+        return words::put(area, at, b);
     }
     at
 }

@@ -1,7 +1,6 @@
 // `session LABEL EVENT ..`, whose row is the event file, and `file LABEL BYTES`; the text of either, a row a line.
 use crate::print;
-use crate::rows;
-use crate::words;
+use rows::words;
 
 // What stands before a line of the text: a row's beginning, which the first line has already.
 fn begun(label: &[u8], at: usize) {
@@ -16,7 +15,7 @@ fn begun(label: &[u8], at: usize) {
 fn lines(label: &[u8], text: &[u8]) {
     let mut at = 0;
     while at < text.len() {
-        let end = words::word_end(text, at, b'\n');
+        let end = bytes::scan::find(text, at, text.len(), b'\n');
         begun(label, at);
         io::write_all(1, words::part(text, at, end));
         at = end + 1;

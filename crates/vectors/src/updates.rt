@@ -2,22 +2,15 @@
 // holds 7 everywhere at first. TTL and Hops are the last update's, those before it have TTL 1 and Hops 0.
 // `table LABEL HAD OLD WAS NEW INFINITY SIZE AREA`, and `run ENTRIES BITS SIZE` with the same words behind these.
 use crate::print;
-use crate::rows;
-use crate::words;
+use rows::words;
 use tablemessages::Written;
 use tables::Table;
 use tables::Updated;
+use tables::no_table;
+use tablewriter::Wanted;
 
 fn none() -> Updated {
-    let table = Table {
-        mark: 0,
-        length: 0,
-        infinity: 0,
-        nextplace: 0,
-        runsize: 0,
-        runbits: 0,
-        nextentry: 0,
-    };
+    let table = no_table();
     Updated { answer: 0, table }
 }
 
@@ -61,28 +54,37 @@ fn update(row: &[u8]) {
     print::list(&part, 8, b',');
 }
 
+// Line 0 alone is open, and has the table.
 fn withheld(row: &[u8]) {
     let mut part = [7u8; 8];
     let u = updated(row, 1, 0, &mut part);
     let table = u.table;
-    print::flag(tablereader::admission::withheld(
-        table,
+    let tables = [table; 8];
+    let open = [true, false, false, false, false, false, false, false];
+    let passing = forwarding::lines::passing(
+        open,
+        tables,
+        8,
         &part,
-        rows::byte(row, 0, 0),
         rows::word(row, 0, 1),
-    ));
+        rows::byte(row, 0, 0),
+    );
+    print::flag(!passing[0]);
 }
 
 // The update from the old table, or from none where HAD is 0, to the new one.
 fn written(row: &[u8], out: &mut [u8]) -> Written {
+    let w = Wanted {
+        had: rows::size(row, 0, 0) != 0,
+        was: rows::byte(row, 0, 2),
+        infinity: rows::byte(row, 0, 4),
+        size: rows::size(row, 0, 5),
+    };
     tablewriter::write_table(
         [0, 1, 2, 3, 4, 5, 6, 7, 8, 9, 10, 11, 12, 13, 14, 15],
-        rows::size(row, 0, 0) != 0,
+        w,
         rows::word(row, 0, 1),
-        rows::byte(row, 0, 2),
         rows::word(row, 0, 3),
-        rows::byte(row, 0, 4),
-        rows::size(row, 0, 5),
         words::front(out, rows::size(row, 0, 6)),
     )
 }

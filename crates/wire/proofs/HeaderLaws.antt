@@ -35,7 +35,8 @@ module _ (number : List ℕ) (kind ttl hops : ℕ) (payload : List ℕ) (long : 
   pub message-length : length (message number kind ttl hops payload) ≡ 23 + length payload
   unfolding message
   message-length =
-      length-append (header number kind ttl hops (length payload)) payload ∙ ap (λ k. k + length payload) (header-length (length payload))
+      length-append (header number kind ttl hops (length payload)) payload ∙ ap (λ k. k + length payload)
+      (header-length (length payload))
 
   abbrev behind : List ℕ
   behind = kind ∷ ttl ∷ hops ∷ (littleBytes 4 (length payload) ++ payload)
@@ -70,7 +71,8 @@ module _ (number : List ℕ) (kind ttl hops : ℕ) (payload : List ℕ) (long : 
   message-payload h = ap₂ take (message-size h) (from-16 7) ∙ take-length payload
 
   -- the payload stored behind the header
-  pub message-stored : (out mid : List ℕ) → 23 + length payload ≤ length out → mid ≡ withHeader number kind ttl hops (length payload) out
+  pub message-stored : (out mid : List ℕ) → 23 + length payload ≤ length out → mid ≡ withHeader number kind ttl hops
+      (length payload) out
       → sets mid 23 payload ≡ over 0 (message number kind ttl hops payload) out
   unfolding message
   message-stored out mid h m =

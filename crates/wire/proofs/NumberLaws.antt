@@ -13,7 +13,8 @@ use Rattle.laws.proofs.Writing.{little-four}
 pub four-at : (b : List ℕ) (i : ℕ)
     → little (take 4 (drop i b)) ≡ little (getD b i 0 ∷ getD b (i + 1) 0 ∷ getD b (i + 2) 0 ∷ getD b (i + 3) 0 ∷ [])
 four-at b i =
-    let n : little (take 4 (drop i b)) ≡ getD b i 0 + 256 * (getD b (i + 1) 0 + 256 * (getD b (i + 2) 0 + 256 * getD b (i + 3) 0))
+    let n : little (take 4 (drop i b))
+    ≡ getD b i 0 + 256 * (getD b (i + 1) 0 + 256 * (getD b (i + 2) 0 + 256 * getD b (i + 3) 0))
     = simp (getD-drop, add-zero) at (little-four (drop i b)) in
     omega arith
 
@@ -27,4 +28,5 @@ two-halves (a ∷ b ∷ c ∷ d ∷ r) = omega arith
 
 pub eight-at : (b : List ℕ) (i : ℕ)
     → little (take 8 (drop i b)) ≡ little (take 4 (drop i b)) + 4294967296 * little (take 4 (drop (i + 4) b))
-eight-at b i = two-halves (drop i b) ∙ ap (λ l. little (take 4 (drop i b)) + 4294967296 * little (take 4 l)) (drop-drop 4 i b)
+eight-at b i = two-halves (drop i b) ∙ ap (λ l. little (take 4 (drop i b)) + 4294967296 * little (take 4 l))
+    (drop-drop 4 i b)

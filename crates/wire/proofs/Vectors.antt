@@ -21,10 +21,12 @@ room : drop 16 (withHeader (replicate 16 9) 0x80 7 0 300 (replicate 24 1)) ≡ 0
 unfolding withHeader
 room = refl
 
--- read off 21 bytes: of the payload length two are there; off ten: of the number's high half two are there, and all else is 0
+-- read off 21 bytes: of the payload length two are there; off ten: of the number's high half two are there, and all
+-- else is 0
 cut-in-size : headerIn (replicate 8 0 ++ (4 ∷ 3 ∷ replicate 6 0 ++ (0x81 ∷ 3 ∷ 2 ∷ 0 ∷ 1 ∷ [])))
     ≡ record { lo = 0; hi = 772; kind = 0x81; ttl = 3; hops = 2; size = 256 }
 cut-in-size = refl
 
-cut-in-number : headerIn (1 ∷ replicate 7 0 ++ (4 ∷ 3 ∷ [])) ≡ record { lo = 1; hi = 772; kind = 0; ttl = 0; hops = 0; size = 0 }
+cut-in-number : headerIn (1 ∷ replicate 7 0 ++ (4 ∷ 3 ∷ []))
+    ≡ record { lo = 1; hi = 772; kind = 0; ttl = 0; hops = 0; size = 0 }
 cut-in-number = refl

@@ -1,4 +1,5 @@
--- The header of a message (RULES 6.1): number 16 bytes, type, TTL, Hops, payload length 4 bytes, little-endian; the payload from byte 23.
+-- The header of a message (RULES 6.1): number 16 bytes, type, TTL, Hops, payload length 4 bytes, little-endian; the
+-- payload from byte 23.
 use Prim.Native.Nat.{ℕ, _+_}
 use mathlib.Core.Bool.{cond}
 use mathlib.Core.List.{List, _∷_, _++_}
@@ -74,4 +75,5 @@ message number kind ttl hops payload = header number kind ttl hops (length paylo
 
 -- an area with a header written at its front; one that has no room for it stays as it is
 unfoldable pub withHeader : List ℕ → ℕ → ℕ → ℕ → ℕ → List ℕ → List ℕ
-withHeader number kind ttl hops n out = cond (leb headerSize (length out)) (over 0 (header number kind ttl hops n) out) out
+withHeader number kind ttl hops n out = cond (leb headerSize (length out)) (over 0 (header number kind ttl hops n) out)
+    out

@@ -21,7 +21,8 @@ unfolding indexOf indexAfter upTo
 index-upTo s [] = refl
 index-upTo s (b ∷ bs) = go (eqb b s) (index-upTo s bs)
   where
-    go : (t : Bool) → indexOf s bs ≡ length (upTo s bs) → indexAfter t (indexOf s bs) ≡ length (cond t [] (b ∷ upTo s bs))
+    go : (t : Bool) → indexOf s bs ≡ length (upTo s bs) → indexAfter t (indexOf s bs)
+        ≡ length (cond t [] (b ∷ upTo s bs))
     go true h = refl
     go false h = ap suc h
 
@@ -30,7 +31,8 @@ unfolding upTo
 upTo-take s [] = refl
 upTo-take s (b ∷ bs) = go (eqb b s) (upTo-take s bs)
   where
-    go : (t : Bool) → upTo s bs ≡ take (length (upTo s bs)) bs → cond t [] (b ∷ upTo s bs) ≡ take (length (cond t [] (b ∷ upTo s bs))) (b ∷ bs)
+    go : (t : Bool) → upTo s bs ≡ take (length (upTo s bs)) bs → cond t [] (b ∷ upTo s bs)
+        ≡ take (length (cond t [] (b ∷ upTo s bs))) (b ∷ bs)
     go true h = refl
     go false h = ap (λ x. b ∷ x) h
 
@@ -48,7 +50,8 @@ unfolding upTo past
 past-suc s [] = refl
 past-suc s (b ∷ bs) = go (eqb b s) (past-suc s bs)
   where
-    go : (t : Bool) → drop (suc (length (upTo s bs))) bs ≡ past s bs → drop (suc (length (cond t [] (b ∷ upTo s bs)))) (b ∷ bs) ≡ cond t bs (past s bs)
+    go : (t : Bool) → drop (suc (length (upTo s bs))) bs ≡ past s bs → drop (suc (length (cond t [] (b ∷ upTo s bs))))
+        (b ∷ bs) ≡ cond t bs (past s bs)
     go true h = refl
     go false h = h
 
@@ -95,7 +98,8 @@ unfolding pieces upTo more
 pieces-split [] = refl
 pieces-split (b ∷ bs) = go (eqb b comma) (pieces-split bs)
   where
-    go : (t : Bool) → pieces isComma bs ≡ upTo comma bs ∷ more bs → cond t ([] ∷ pieces isComma bs) (onto b (pieces isComma bs)) ≡ cond t [] (b ∷ upTo comma bs) ∷ cond t (pieces isComma bs) (more bs)
+    go : (t : Bool) → pieces isComma bs ≡ upTo comma bs ∷ more bs → cond t ([] ∷ pieces isComma bs)
+        (onto b (pieces isComma bs)) ≡ cond t [] (b ∷ upTo comma bs) ∷ cond t (pieces isComma bs) (more bs)
     go true h = refl
     go false h = ap (onto b) h
 
@@ -105,8 +109,11 @@ unfolding itemsOf pieces bare filled
 bare-items [] = refl
 bare-items (b ∷ bs) = go (eqb b space) (eqb b comma) refl refl
   where
-    go : (t u : Bool) → eqb b space ≡ t → eqb b comma ≡ u → filled (map bare (cond (eqb b comma) ([] ∷ pieces isComma bs) (onto b (pieces isComma bs)))) ≡ filled (afterCommas (pieces isComma (cond (eqb b space) bs (b ∷ bs))))
-    go true true e f = let x = eqb-true b space e in let y = eqb-true b comma f in let z : _≡_ {A = ℕ} 32 44 = sym x ∙ y in absurd (omega arith)
+    go : (t u : Bool) → eqb b space ≡ t → eqb b comma ≡ u
+        → filled (map bare (cond (eqb b comma) ([] ∷ pieces isComma bs) (onto b (pieces isComma bs))))
+        ≡ filled (afterCommas (pieces isComma (cond (eqb b space) bs (b ∷ bs))))
+    go true true e f = let x = eqb-true b space e in let y = eqb-true b comma f in let z : _≡_ {A = ℕ} 32 44 = sym x
+        ∙ y in absurd (omega arith)
     go true false e f = rw (f, pieces-split bs, e, pieces-split bs)
     go false true e f = rw (e, f)
     go false false e f = rw (e, f, pieces-split bs, e)
@@ -116,7 +123,8 @@ unfolding more past itemsOf pieces bare filled
 more-past [] = refl
 more-past (b ∷ bs) = go (eqb b comma) (more-past bs)
   where
-    go : (t : Bool) → filled (map bare (more bs)) ≡ itemsOf (bare (past comma bs)) → filled (map bare (cond t (pieces isComma bs) (more bs))) ≡ itemsOf (bare (cond t bs (past comma bs)))
+    go : (t : Bool) → filled (map bare (more bs)) ≡ itemsOf (bare (past comma bs))
+        → filled (map bare (cond t (pieces isComma bs) (more bs))) ≡ itemsOf (bare (cond t bs (past comma bs)))
     go true h = bare-items bs
     go false h = h
 

@@ -11,7 +11,8 @@ use borrow.Author.Tests.{lt-ltb, le-ltb, leb-true, leb-false}
 use Rattle.laws.specs.Tests.{all}
 use Rattle.laws.proofs.Parts.{part-tail}
 use Rattle.ascii.specs.Text.{pieces, filled}
-use Rattle.xtry.specs.Pairs.{comma, bare, itemsOf, upTo, past, goodPair, pairIn, noPair, pairsFrom, pairsOf, readAnswer, triedOf}
+use Rattle.xtry.specs.Pairs.{comma, bare, itemsOf, upTo, past, goodPair, pairIn, noPair, pairsFrom, pairsOf}
+use Rattle.xtry.specs.Pairs.{readAnswer, triedOf}
 use Rattle.xtry.specs.Reading.{kept, takenOf, Skips}
 use Rattle.xtry.specs.declared.Pair.{Pair}
 use Rattle.xtry.specs.declared.Pairs.{Pairs}
@@ -30,7 +31,13 @@ keep-next : (ps : List Pair) (p : Pair) → length ps < 32 → kept (pairsFrom p
 unfolding kept pairsFrom
 keep-next ps p h =
     let e : 32 - length ps ≡ suc (32 - (length ps + 1)) = omega arith in
-    rw (lt-ltb (length ps) 32 h, e, set-at ps noPair (replicate (32 - (length ps + 1)) noPair) p (length ps) refl, length-append ps (p ∷ []), append-snoc ps p (replicate (32 - (length ps + 1)) noPair))
+    rw (
+      lt-ltb (length ps) 32 h,
+      e,
+      set-at ps noPair (replicate (32 - (length ps + 1)) noPair) p (length ps) refl,
+      length-append ps (p ∷ []),
+      append-snoc ps p (replicate (32 - (length ps + 1)) noPair),
+    )
 
 keep-full : (ps : List Pair) (p : Pair) → 32 ≤ length ps → kept (pairsFrom ps) p ≡ pairsFrom ps
 unfolding kept pairsFrom
@@ -38,9 +45,12 @@ keep-full ps p h = rw (le-ltb (length ps) 32 h)
 
 fill-first : (ps xs : List Pair) → length ps ≤ 32 → fill (pairsFrom ps) xs ≡ pairsFrom (take 32 (ps ++ xs))
 fill-first ps [] h = rw (append-nil ps, take-all 32 ps h)
-fill-first ps (x ∷ xs) h = go (leb 32 (length ps)) refl (fill-first ps xs h) (λ k. fill-first (ps ++ (x ∷ [])) xs (rw (length-append ps (x ∷ [])) k))
+fill-first ps (x ∷ xs) h = go (leb 32 (length ps)) refl (fill-first ps xs h)
+    (λ k. fill-first (ps ++ (x ∷ [])) xs (rw (length-append ps (x ∷ [])) k))
   where
-    go : (t : Bool) → leb 32 (length ps) ≡ t → fill (pairsFrom ps) xs ≡ pairsFrom (take 32 (ps ++ xs)) → (length ps + 1 ≤ 32 → fill (pairsFrom (ps ++ (x ∷ []))) xs ≡ pairsFrom (take 32 ((ps ++ (x ∷ [])) ++ xs))) → fill (kept (pairsFrom ps) x) xs ≡ pairsFrom (take 32 (ps ++ (x ∷ xs)))
+    go : (t : Bool) → leb 32 (length ps) ≡ t → fill (pairsFrom ps) xs ≡ pairsFrom (take 32 (ps ++ xs))
+        → (length ps + 1 ≤ 32 → fill (pairsFrom (ps ++ (x ∷ []))) xs ≡ pairsFrom (take 32 ((ps ++ (x ∷ [])) ++ xs)))
+        → fill (kept (pairsFrom ps) x) xs ≡ pairsFrom (take 32 (ps ++ (x ∷ xs)))
     go true e full next =
         let k = leb-true 32 (length ps) e in
         rw (keep-full ps x k) (full ∙ ap pairsFrom (take-append-le 32 ps xs k ∙ sym (take-append-le 32 ps (x ∷ xs) k)))
@@ -68,21 +78,25 @@ module _ (ps : Pairs) where
   unfolding takenOf
   good-is b bs = go (goodPair (b ∷ bs))
     where
-      go : (t : Bool) → _≡_ {A = Bool} (cond {A = Taken} t (record { good = true; pairs = kept ps (pairIn (b ∷ bs)) }) (record { good = false; pairs = ps }) .good) t
+      go : (t : Bool) → _≡_ {A = Bool} (cond {A = Taken} t (record { good = true; pairs = kept ps (pairIn (b ∷ bs)) })
+          (record { good = false; pairs = ps }) .good) t
       go true = refl
       go false = refl
 
-  item-good : (item : List ℕ) (items : List (List ℕ)) → takenOf ps item .good ≡ true → all goodPair (itemOnto item items) ≡ all goodPair items
+  item-good : (item : List ℕ) (items : List (List ℕ)) → takenOf ps item .good ≡ true → all goodPair
+      (itemOnto item items) ≡ all goodPair items
   unfolding takenOf
   item-good [] items h = refl
   item-good (b ∷ bs) items h = rw (sym (good-is b bs) ∙ h)
 
-  item-bad : (item : List ℕ) (items : List (List ℕ)) → takenOf ps item .good ≡ false → all goodPair (itemOnto item items) ≡ false
+  item-bad : (item : List ℕ) (items : List (List ℕ)) → takenOf ps item .good ≡ false → all goodPair
+      (itemOnto item items) ≡ false
   unfolding takenOf
   item-bad [] items h = let z : _≡_ {A = ℕ} 0 1 = cc in absurd (omega arith)
   item-bad (b ∷ bs) items h = rw (sym (good-is b bs) ∙ h)
 
-  item-kept : (item : List ℕ) (items : List (List ℕ)) → takenOf ps item .good ≡ true → fill ps (map pairIn (itemOnto item items)) ≡ fill (takenOf ps item .pairs) (map pairIn items)
+  item-kept : (item : List ℕ) (items : List (List ℕ)) → takenOf ps item .good ≡ true → fill ps
+      (map pairIn (itemOnto item items)) ≡ fill (takenOf ps item .pairs) (map pairIn items)
   unfolding takenOf
   item-kept [] items h = refl
   item-kept (b ∷ bs) items h = rw (sym (good-is b bs) ∙ h)
@@ -94,12 +108,15 @@ module _ (value : List ℕ) (at : ℕ) (ps : Pairs) (l : Left value at ps) where
   abbrev later : List (List ℕ)
   later = itemsOf (bare (past comma (drop at value)))
 
-  pub left-on : (k : ℕ) → takenOf ps here .good ≡ true → Skips (drop at value) k → Left value (at + k) (takenOf ps here .pairs)
+  pub left-on : (k : ℕ) → takenOf ps here .good ≡ true → Skips (drop at value) k → Left value (at + k)
+      (takenOf ps here .pairs)
   left-on k h s =
-      let e : itemsOf (bare (past comma (drop at value))) ≡ itemsOf (drop (at + k) value) = ap itemsOf (sym (s .left) ∙ drop-drop k at value) in
+      let e : itemsOf (bare (past comma (drop at value))) ≡ itemsOf (drop (at + k) value) =
+      ap itemsOf (sym (s .left) ∙ drop-drop k at value) in
       record {
         within = omega (arith, s .within, length-drop at value, l .within);
-        good = l .good ∙ ap (all goodPair) (items-step (drop at value)) ∙ item-good ps here later h ∙ ap (all goodPair) e;
+        good = l .good ∙ ap (all goodPair) (items-step (drop at value)) ∙ item-good ps here later h
+            ∙ ap (all goodPair) e;
         kept =
             l .kept
             ∙ ap (λ x. fill ps (map pairIn x)) (items-step (drop at value))
@@ -107,10 +124,12 @@ module _ (value : List ℕ) (at : ℕ) (ps : Pairs) (l : Left value at ps) where
             ∙ ap (λ x. fill (takenOf ps here .pairs) (map pairIn x)) e;
       }
 
-  pub left-bad : takenOf ps here .good ≡ false → _≡_ {A = Tried} (record { answer = 6; pairs = pairsFrom [] }) (triedOf value)
+  pub left-bad : takenOf ps here .good ≡ false → _≡_ {A = Tried} (record { answer = 6; pairs = pairsFrom [] })
+      (triedOf value)
   unfolding triedOf readAnswer
   left-bad h =
-      let f : all goodPair (itemsOf value) ≡ false = l .good ∙ ap (all goodPair) (items-step (drop at value)) ∙ item-bad ps here later h in
+      let f : all goodPair (itemsOf value) ≡ false = l .good ∙ ap (all goodPair) (items-step (drop at value))
+      ∙ item-bad ps here later h in
       rw f
 
   pub left-end : length value ≤ at → _≡_ {A = Tried} (record { answer = 0; pairs = ps }) (triedOf value)
@@ -125,7 +144,8 @@ pub rest-length : (value : List ℕ) (at : ℕ) → length (take (length value -
 rest-length value at = ap length (part-tail at value) ∙ length-drop at value
 
 -- a turn of the loop, with the parts that the code lends
-module _ (value : List ℕ) (at : ℕ) (ps : Pairs) (l : Left value at ps) (end : ℕ) (e : end ≡ length (upTo comma (take (length value - at) (drop at value)))) where
+module _ (value : List ℕ) (at : ℕ) (ps : Pairs) (l : Left value at ps) (end : ℕ)
+    (e : end ≡ length (upTo comma (take (length value - at) (drop at value)))) where
   abbrev rest : List ℕ
   rest = take (length value - at) (drop at value)
 

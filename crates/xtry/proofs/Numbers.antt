@@ -21,7 +21,8 @@ pub number-wide : (widest : ℕ) (text : List ℕ) → widest < length text → 
 unfolding numberOr
 number-wide widest text h = sym (rw (le-leb 1 (length text) (omega arith), lt-leb (length text) widest h))
 
-module _ (widest : ℕ) (text : List ℕ) (some : (length text ≡ 0) → ⊥) (few : length text ≤ widest) (five : widest ≤ 5) where
+module _ (widest : ℕ) (text : List ℕ) (some : (length text ≡ 0) → ⊥) (few : length text ≤ widest)
+    (five : widest ≤ 5) where
   -- all digits are looked at
   count-is : digitCount text ≡ leading isDigit text
   count-is = ap (leading isDigit) (take-all 6 text (omega arith))
@@ -35,5 +36,9 @@ module _ (widest : ℕ) (text : List ℕ) (some : (length text ≡ 0) → ⊥) (
   pub number-read : digitCount text ≡ length text → digitValue text ≡ numberOr widest text
   unfolding numberOr digitValue
   number-read h =
-      rw (le-leb 1 (length text) (omega arith), le-leb (length text) widest few, all-run isDigit text (sym count-is ∙ h))
+      rw (
+        le-leb 1 (length text) (omega arith),
+        le-leb (length text) widest few,
+        all-run isDigit text (sym count-is ∙ h),
+      )
       (ap (λ n. decimalFrom 0 (take n text)) h ∙ ap (decimalFrom 0) (take-all (length text) text (omega arith)))

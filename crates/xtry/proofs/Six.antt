@@ -13,7 +13,8 @@ not-all : (items : List (List ℕ)) → not (all goodPair items) ≡ any (λ ite
 not-all [] = refl
 not-all (x ∷ xs) = go (goodPair x) (not-all xs)
   where
-    go : (t : Bool) → not (all goodPair xs) ≡ any (λ item. not (goodPair item)) xs → not (t && all goodPair xs) ≡ (not t || any (λ item. not (goodPair item)) xs)
+    go : (t : Bool) → not (all goodPair xs) ≡ any (λ item. not (goodPair item)) xs → not (t && all goodPair xs)
+        ≡ (not t || any (λ item. not (goodPair item)) xs)
     go true h = h
     go false h = refl
 

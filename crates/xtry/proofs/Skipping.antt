@@ -22,7 +22,8 @@ module _ (text : List ℕ) (end : ℕ) (e : end ≡ length (upTo comma text)) (s
       drop-of-length-le text h ∙ ap bare (sym (drop-of-length-le text k) ∙ after-comma)
 
   pub skip-all : length text ≤ end → Skips text (length text)
-  skip-all h = record { within = omega arith; moves = some; left = nothing-left (length text) (omega arith) (omega arith) }
+  skip-all h =
+      record { within = omega arith; moves = some; left = nothing-left (length text) (omega arith) (omega arith) }
 
   pub skip-last : end < length text → length text ≤ end + 1 → Skips text (end + 1)
   skip-last h k = record { within = omega arith; moves = omega arith; left = nothing-left (end + 1) k k }
@@ -34,7 +35,12 @@ module _ (text : List ℕ) (end : ℕ) (e : end ≡ length (upTo comma text)) (s
         within = omega arith;
         moves = omega arith;
         left =
-            sym (rw (← after-comma, drop-cons text (end + 1) 0 h, eq-eqb (getD text (end + 1) 0) 32 s, add-one (end + 1)));
+            sym (rw (
+              ← after-comma,
+              drop-cons text (end + 1) 0 h,
+              eq-eqb (getD text (end + 1) 0) 32 s,
+              add-one (end + 1),
+            ));
       }
 
   pub skip-plain : end + 1 < length text → (getD text (end + 1) 0 ≡ 32 → ⊥) → Skips text (end + 1)

@@ -1,6 +1,5 @@
 -- Pairs in text, as X-Try lists them (RULES 15.13, 15.14).
 use Prim.Native.Nat.{ℕ, _+_}
-use mathlib.Core.Path.{_≡_}
 use mathlib.Core.Bool.{Bool, cond, not, _&&_}
 use mathlib.Core.List.{List, [], _∷_, _++_, map}
 use lib.Dec.{eqb, leb}
@@ -54,8 +53,3 @@ ledSize s pairs room = cond (leb 960 room) (length (led s (pairsIn pairs))) 0
 -- the area afterwards: the pairs behind s at its front, or as it was
 abbrev pub ledOver : ℕ → Pairs → List ℕ → List ℕ
 ledOver s pairs area = cond (leb 960 (length area)) (over 0 (led s (pairsIn pairs)) area) area
-
--- a text was put over an area at a place, and the next place is past it
-pub record Put (at : ℕ) (text area after : List ℕ) (next : ℕ) : Type 0 where
-  pub written : after ≡ over at text area
-  pub moved : next ≡ at + length text

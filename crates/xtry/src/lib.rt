@@ -1,4 +1,5 @@
-// Hosts to try, as a handshake's X-Try field lists them: address and port pairs, read from a field's value and written as one.
+// Hosts to try, as a handshake's X-Try field lists them: address and port pairs, read from a field's value and written
+// as one.
 pub mod read;
 pub mod write;
 

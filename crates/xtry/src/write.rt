@@ -5,10 +5,12 @@ ghost use mathlib.Core.Path.{_≡_};
 ghost use mathlib.Core.List.{_∷_};
 ghost use Prim.Native.Nat.{_+_, _≤_, min};
 ghost use lib.ListN.{length};
+ghost use Rattle.laws.specs.Parts.{Put};
 ghost use Rattle.digits.specs.Decimal.{decimal};
-ghost use Rattle.xtry.specs.Writing.{pairText, canWrite, ledSize, ledOver, Put};
+ghost use Rattle.xtry.specs.Writing.{pairText, canWrite, ledSize, ledOver};
 
-// The most bytes that 32 pairs take, each with a byte in front of it: five numbers of at most five digits, and five bytes between them.
+// The most bytes that 32 pairs take, each with a byte in front of it: five numbers of at most five digits, and five
+// bytes between them.
 pub const MOST: usize = 960;
 
 // The byte `lead` and a number in decimal.
@@ -75,8 +77,8 @@ fn used(count: usize) -> usize
     if count < 32 { count } else { 32 }
 }
 
-// The pairs at the front of an area, the first behind `first` and the others behind a comma. Answers how many bytes it wrote: none where
-// the area has not room for the most that pairs can take.
+// The pairs at the front of an area, the first behind `first` and the others behind a comma. Answers how many bytes it
+// wrote: none where the area has not room for the most that pairs can take.
 pub fn write_pairs(pairs: Pairs, first: u8, out: &mut [u8]) -> usize
     ensures { λ r. ⌜ r ≡ ledSize first pairs (length (now (out .entry))) ⌝ }
     ensures { λ r. ⌜ now (out .exit) ≡ ledOver first pairs (now (out .entry)) ⌝ }

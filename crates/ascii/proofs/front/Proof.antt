@@ -7,7 +7,8 @@ use Rattle.ascii.proofs.front.Reads as reads
 use Rattle.ascii.proofs.front.Lts as lts
 
 slice-aggregate-result : tie.Need-slice-aggregate-result
-slice-aggregate-result c = sym (length-take-le (c .before .before .args .n) (c .before .before .args .s .now) (search needs))
+slice-aggregate-result c = sym (length-take-le (c .before .before .args .n) (c .before .before .args .s .now)
+    (search needs))
 
 returns : tie.Need-returns
 returns c = search needs

@@ -29,7 +29,9 @@ in-class-requires c κs = search needs
 returns : tie.Need-returns Inv-loop μ-loop
 returns c =
     let l = c .before .before .before .before in
-    run-stop _ _ (l .loop .i) _ (search needs) (ap (inClass (l .before .before .args .class)) (head-drop (l .before .before .args .s .now) (l .loop .i) 0) ∙ sym (c .before .in-class .ensures) ∙ not-true _ (c .if1 .taken)) (l .loop .inv .1)
+    run-stop _ _ (l .loop .i) _ (search needs) (ap (inClass (l .before .before .args .class))
+    (head-drop (l .before .before .args .s .now) (l .loop .i) 0) ∙ sym (c .before .in-class .ensures)
+    ∙ not-true _ (c .if1 .taken)) (l .loop .inv .1)
 
 add-i : tie.Need-add-i Inv-loop μ-loop
 add-i c = search needs
@@ -39,8 +41,12 @@ loop-less c = search needs
 
 loop-again : tie.Need-loop-again Inv-loop μ-loop
 loop-again c =
-    let l = c .before .before .before .before in
-    (search needs, run-on _ _ (l .loop .i) _ (search needs) (ap (inClass (l .before .before .args .class)) (head-drop (l .before .before .args .s .now) (l .loop .i) 0) ∙ sym (c .before .in-class .ensures) ∙ not-false _ (c .if1 .left)) (l .loop .inv .1))
+    let l = c .before .before .before .before in (
+      search needs,
+      run-on _ _ (l .loop .i) _ (search needs) (ap (inClass (l .before .before .args .class))
+          (head-drop (l .before .before .args .s .now) (l .loop .i) 0) ∙ sym (c .before .in-class .ensures)
+          ∙ not-false _ (c .if1 .left)) (l .loop .inv .1),
+    )
 
 returns-2 : tie.Need-returns-2 Inv-loop μ-loop
 returns-2 c = run-end _ _ (c .before .loop .i) _ (search needs) (c .before .loop .inv .1)

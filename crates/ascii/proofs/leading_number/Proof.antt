@@ -29,14 +29,17 @@ front-requires-2 c κs = search needs
 value-of-requires : tie.Need-value-of-requires
 value-of-requires c κs =
     let s = c .before .before .before .before .args .s .now in
-    let e : c .before .leading .result ≡ digitCount s = c .before .leading .ensures ∙ ap (leading isDigit) (c .before .before .front .ensures) in
-    rw (c .front2 .ensures) (simp length-take (omega (arith, run-length (λ t. isDigit (getD t 0 0)) (take 6 s), length-take 6 s)))
+    let e : c .before .leading .result ≡ digitCount s = c .before .leading .ensures ∙ ap (leading isDigit)
+    (c .before .before .front .ensures) in
+    rw (c .front2 .ensures)
+    (simp length-take (omega (arith, run-length (λ t. isDigit (getD t 0 0)) (take 6 s), length-take 6 s)))
 
 returns : tie.Need-returns
 unfolding digitValue
 returns c =
     let s = c .before .before .before .before .before .args .s .now in
-    let e : c .before .before .leading .result ≡ digitCount s = c .before .before .leading .ensures ∙ ap (leading isDigit) (c .before .before .before .front .ensures) in
+    let e : c .before .before .leading .result ≡ digitCount s = c .before .before .leading .ensures
+    ∙ ap (leading isDigit) (c .before .before .before .front .ensures) in
     ap₂ number-of e (c .value-of .ensures ∙ ap (decimalFrom 0) (c .before .front2 .ensures ∙ ap (λ n. take n s) e))
 
 pub leading-number-spec : {M : Type 1} → statement M

@@ -36,9 +36,11 @@ compared-requires-2 c κs = search needs
 
 returns-2 : tie.Need-returns-2 Inv-loop μ-loop
 returns-2 c =
-    let l = c .before .before .before .before .before .before in
+    let before4 = c .before .before .before .before in
+    let l = before4 .before .before in
     let x = l .before .before .before .before .args in
-    sym (same-not (x .fold) (x .a .now) (x .b .now) (l .loop .i) (search needs) (search needs) (λ e. c .if2 .taken (c .before .before .before .compared .ensures ∙ e ∙ sym (c .before .compared2 .ensures))))
+    sym (same-not (x .fold) (x .a .now) (x .b .now) (l .loop .i) (search needs) (search needs)
+    (λ e. c .if2 .taken (c .before .before .before .compared .ensures ∙ e ∙ sym (c .before .compared2 .ensures))))
     ∙ l .loop .inv .1
 
 add-i : tie.Need-add-i Inv-loop μ-loop
@@ -49,9 +51,14 @@ loop-less c = search needs
 
 loop-again : tie.Need-loop-again Inv-loop μ-loop
 loop-again c =
-    let l = c .before .before .before .before .before .before in
-    let x = l .before .before .before .before .args in
-    (search needs, sym (same-on (x .fold) (x .a .now) (x .b .now) (l .loop .i) (search needs) (search needs) (sym (c .before .before .before .compared .ensures) ∙ c .if2 .left ∙ c .before .compared2 .ensures)) ∙ l .loop .inv .1)
+    let before4 = c .before .before .before .before in
+    let l = before4 .before .before in
+    let x = l .before .before .before .before .args in (
+      search needs,
+      sym (same-on (x .fold) (x .a .now) (x .b .now) (l .loop .i) (search needs) (search needs)
+          (sym (c .before .before .before .compared .ensures) ∙ c .if2 .left ∙ c .before .compared2 .ensures))
+          ∙ l .loop .inv .1,
+    )
 
 returns-3 : tie.Need-returns-3 Inv-loop μ-loop
 returns-3 c =

@@ -16,7 +16,8 @@ same-requires : tie.Need-same-requires
 same-requires c κs = search needs
 
 returns : tie.Need-returns
-returns c = c .same .ensures ∙ ap (same false (c .before .before .before .before .args .p .now)) (c .before .front .ensures)
+returns c = c .same .ensures ∙ ap (same false (c .before .before .before .before .args .p .now))
+    (c .before .front .ensures)
 
 pub starts-with-spec : {M : Type 1} → statement M
 starts-with-spec = tie.close (tie.spec front-requires same-requires returns)

@@ -33,7 +33,12 @@ digit-requires c κs = search needs
 add-n : tie.Need-add-n Inv-loop μ-loop
 add-n c =
     let l = c .before .before .before in
-    omega (arith, six-digits (l .loop .n) (l .loop .i) (omega arith) (l .loop .inv .2), c .digit .ensures, digit-small (getD (l .before .before .args .s .now) (l .loop .i) 0))
+    omega (
+      arith,
+      six-digits (l .loop .n) (l .loop .i) (omega arith) (l .loop .inv .2),
+      c .digit .ensures,
+      digit-small (getD (l .before .before .args .s .now) (l .loop .i) 0),
+    )
 
 add-i : tie.Need-add-i Inv-loop μ-loop
 add-i c = search needs
@@ -45,8 +50,11 @@ loop-again : tie.Need-loop-again Inv-loop μ-loop
 loop-again c =
     let l = c .before .before .before in
     let s = l .before .before .args .s .now in
-    let e : c .digit .result ≡ digitOf (getD s (l .loop .i) 0) = c .digit .ensures in
-    (search needs, rw e (sym (decimal-on s (l .loop .n) (l .loop .i) (search needs)) ∙ l .loop .inv .1), rw e (ten-times (l .loop .n) _ (l .loop .i) (l .loop .inv .2) (digit-small _)))
+    let e : c .digit .result ≡ digitOf (getD s (l .loop .i) 0) = c .digit .ensures in (
+      search needs,
+      rw e (sym (decimal-on s (l .loop .n) (l .loop .i) (search needs)) ∙ l .loop .inv .1),
+      rw e (ten-times (l .loop .n) _ (l .loop .i) (l .loop .inv .2) (digit-small _)),
+    )
 
 returns : tie.Need-returns Inv-loop μ-loop
 returns c =

@@ -1,5 +1,6 @@
 -- The digits that are left are those of m, and the last of them is before place i.
-use Rattle.digits.proofs.Spelling.{Spelling, spelling-start, spelling-back, spelling-on, spelling-room, spelling-end}
+use Rattle.digits.proofs.Spelling.{Spelling, spelling-start, spelling-back, spelling-on, spelling-room}
+use Rattle.digits.proofs.Spelling.{spelling-end}
 use Prim.Native.Nat.{ℕ}
 use mathlib.Core.Path.{ap₂}
 use mathlib.Core.List.{List}
@@ -23,7 +24,8 @@ size-requires : tie.Need-size-requires Inv-loop μ-loop
 size-requires c κs = search needs
 
 loop-holds : tie.Need-loop-holds Inv-loop μ-loop
-loop-holds c = spelling-start (replicate 5 0) (c .before .args .n) _ (omega arith) (c .size .ensures .0) (omega (arith, c .size .ensures .1))
+loop-holds c = spelling-start (replicate 5 0) (c .before .args .n) _ (omega arith) (c .size .ensures .0)
+    (omega (arith, c .size .ensures .1))
 
 sub-i : tie.Need-sub-i Inv-loop μ-loop
 sub-i c = spelling-back (c .before .loop .inv) (c .loop-test .taken)

@@ -13,7 +13,9 @@ continues-requires : tie.Need-continues-requires
 continues-requires c κs = search needs
 
 returns-2 : tie.Need-returns-2
-returns-2 c = rw (sym (c .before .before .before .is-field .ensures) ∙ c .before .before .if1 .left, c .before .if2 .taken) (c .continues .ensures)
+returns-2 c =
+    rw (sym (c .before .before .before .is-field .ensures) ∙ c .before .before .if1 .left, c .before .if2 .taken)
+    (c .continues .ensures)
 
 returns-3 : tie.Need-returns-3
 returns-3 c = rw (sym (c .before .before .is-field .ensures) ∙ c .before .if1 .left, c .if2 .left)

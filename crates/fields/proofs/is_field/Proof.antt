@@ -11,7 +11,11 @@ returns : tie.Need-returns
 returns c = rw (sym (c .before .before .before .pre), le-ltb 0 (c .before .before .before .args .n) (search needs))
 
 returns-2 : tie.Need-returns-2
-returns-2 c = rw (sym (c .before .before .before .pre), lt-ltb 0 (c .before .before .before .args .n) (search needs), c .before .byte-at .ensures)
+returns-2 c = rw (
+  sym (c .before .before .before .pre),
+  lt-ltb 0 (c .before .before .before .args .n) (search needs),
+  c .before .byte-at .ensures,
+)
 
 pub is-field-spec : {M : Type 1} → statement M
 is-field-spec = tie.close (tie.spec byte-at-requires returns returns-2)

@@ -15,7 +15,8 @@ returns : tie.Need-returns
 returns c =
     let x = c .before .before .before .before .args in
     c .same .ensures
-    ∙ ap (λ t. sameName t (x .name .now)) (c .before .front .ensures ∙ ap (λ n. take n (x .line .now)) (c .before .before .before .before .pre))
+    ∙ ap (λ t. sameName t (x .name .now)) (c .before .front .ensures ∙ ap (λ n. take n (x .line .now))
+    (c .before .before .before .before .pre))
 
 pub is-named-spec : {M : Type 1} → statement M
 is-named-spec = tie.close (tie.spec front-requires same-requires returns)

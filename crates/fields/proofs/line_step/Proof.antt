@@ -12,14 +12,20 @@ leading-requires c κs = search needs
 
 returns : tie.Need-returns
 unfolding stepFrom
-returns c = rw (sym (c .before .before .before .continues .ensures) ∙ c .before .before .if1 .taken, c .before .if2 .taken, c .leading .ensures)
+returns c = rw (
+  sym (c .before .before .before .continues .ensures) ∙ c .before .before .if1 .taken,
+  c .before .if2 .taken,
+  c .leading .ensures,
+)
 
 passed-requires : tie.Need-passed-requires
 passed-requires c κs = search needs
 
 returns-2 : tie.Need-returns-2
 unfolding stepFrom
-returns-2 c = rw (sym (c .before .before .before .continues .ensures) ∙ c .before .before .if1 .taken, c .before .if2 .left) (c .passed .ensures)
+returns-2 c =
+    rw (sym (c .before .before .before .continues .ensures) ∙ c .before .before .if1 .taken, c .before .if2 .left)
+    (c .passed .ensures)
 
 is-named-requires : tie.Need-is-named-requires
 is-named-requires c κs = search needs
@@ -33,7 +39,13 @@ value-start-requires c κs = search needs
 returns-3 : tie.Need-returns-3
 unfolding stepFrom
 returns-3 c =
-    rw (sym (c .before .before .before .before .before .continues .ensures) ∙ c .before .before .before .before .if1 .left, sym (c .before .before .before .is-named .ensures) ∙ c .before .before .if3 .taken, c .before .comma .ensures, c .value-start .ensures)
+    let before4 = c .before .before .before .before in
+    rw (
+      sym (before4 .before .continues .ensures) ∙ before4 .if1 .left,
+      sym (c .before .before .before .is-named .ensures) ∙ c .before .before .if3 .taken,
+      c .before .comma .ensures,
+      c .value-start .ensures,
+    )
 
 passed-requires-2 : tie.Need-passed-requires-2
 passed-requires-2 c κs = search needs
@@ -41,7 +53,11 @@ passed-requires-2 c κs = search needs
 returns-4 : tie.Need-returns-4
 unfolding stepFrom
 returns-4 c =
-    rw (sym (c .before .before .before .before .continues .ensures) ∙ c .before .before .before .if1 .left, sym (c .before .before .is-named .ensures) ∙ c .before .if3 .left) (c .passed2 .ensures)
+    let before4 = c .before .before .before .before in
+    rw (
+      sym (before4 .continues .ensures) ∙ c .before .before .before .if1 .left,
+      sym (c .before .before .is-named .ensures) ∙ c .before .if3 .left,
+    ) (c .passed2 .ensures)
 
 pub line-step-spec : {M : Type 1} → statement M
 line-step-spec =

@@ -9,10 +9,12 @@ leading-requires : tie.Need-leading-requires
 leading-requires c κs = search needs
 
 returns : tie.Need-returns
-returns c = rw (not-all-run isText (c .before .before .before .args .first .now) (λ k. c .if1 .taken (c .before .leading .ensures ∙ k)))
+returns c = rw (not-all-run isText (c .before .before .before .args .first .now)
+    (λ k. c .if1 .taken (c .before .leading .ensures ∙ k)))
 
 returns-2 : tie.Need-returns-2
-returns-2 c = rw (all-run isText (c .before .before .before .args .first .now) (sym (c .before .leading .ensures) ∙ c .if1 .left))
+returns-2 c = rw (all-run isText (c .before .before .before .args .first .now)
+    (sym (c .before .leading .ensures) ∙ c .if1 .left))
 
 pub is-start-spec : {M : Type 1} → statement M
 is-start-spec = tie.close (tie.spec leading-requires returns returns-2)

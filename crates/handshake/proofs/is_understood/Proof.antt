@@ -20,7 +20,8 @@ returns : tie.Need-returns
 returns c =
     let i = c .before .before .before in
     rw (sym (i .is-start .ensures) ∙ c .before .before .if1 .taken)
-    (ap (λ (f : Found). f .good) (c .find .ensures) ∙ found-good [] (linesOf (i .before .before .before .args .fields .now)))
+    (ap (λ (f : Found). f .good) (c .find .ensures)
+    ∙ found-good [] (linesOf (i .before .before .before .args .fields .now)))
 
 returns-2 : tie.Need-returns-2
 returns-2 c = rw (sym (c .before .is-start .ensures) ∙ c .if1 .left)

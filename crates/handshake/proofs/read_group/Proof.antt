@@ -36,8 +36,10 @@ returns c =
     let first = a .before .before in
     let lines = first .before in
     let x = lines .before .before .before .args in
-    let front = front-of (x .bytes .now) (lines .lines-part .result .now) (first .line-at .result .now) (a .after .result .now) (lines .before .group-length .result) (a .before .read-start .result)
-    (lines .before .group-length .ensures) (lines .lines-part .ensures) (first .line-at .ensures) (a .before .read-start .ensures) (a .after .ensures) in
+    let front = front-of (x .bytes .now) (lines .lines-part .result .now) (first .line-at .result .now)
+    (a .after .result .now) (lines .before .group-length .result) (a .before .read-start .result)
+    (lines .before .group-length .ensures) (lines .lines-part .ensures) (first .line-at .ensures)
+    (a .before .read-start .ensures) (a .after .ensures) in
     read-is front (c .before .before .is-understood .result) (c .before .group-number .result) (c .group-from .result)
     (c .before .before .is-understood .ensures) (c .before .group-number .ensures) (c .group-from .ensures)
 

@@ -30,7 +30,8 @@ array-share-prefix-out c = search needs
 slice-aggregate-write-all : tie.Need-slice-aggregate-write-all
 slice-aggregate-write-all c =
     let done = c .before .before .session-text in
-    sym (length-take-le (done .result .written) (done .last .1 .0) (omega (arith, done .ensures .1 .1, done .kept .1 .0)))
+    sym (length-take-le (done .result .written) (done .last .1 .0)
+    (omega (arith, done .ensures .1 .1, done .kept .1 .0)))
 
 write-all-requires : tie.Need-write-all-requires
 write-all-requires c κs = search needs

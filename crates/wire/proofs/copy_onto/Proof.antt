@@ -16,8 +16,10 @@ same-length c = search needs
 
 returns : tie.Need-returns
 returns c =
-    let x = c .before .before .before .before .before .before .before .args in
-    c .before .before .copy .ensures .1 ∙ over-copy (x .src .now) (x .part .now) ∙ sym (copied-whole (x .src .now) (x .part .now) (omega arith))
+    let before4 = c .before .before .before .before in
+    let x = before4 .before .before .before .args in
+    c .before .before .copy .ensures .1 ∙ over-copy (x .src .now) (x .part .now)
+    ∙ sym (copied-whole (x .src .now) (x .part .now) (omega arith))
 
 slice-aggregate-copy : tie.Need-slice-aggregate-copy
 slice-aggregate-copy c = simp length-take (omega arith)
@@ -31,7 +33,8 @@ same-length-2 c = search needs
 returns-2 : tie.Need-returns-2
 unfolding copied
 returns-2 c =
-    let x = c .before .before .before .before .before .before .before .before .args in
+    let before4 = c .before .before .before .before in
+    let x = before4 .before .before .before .before .args in
     c .before .before .copy2 .ensures .1 ∙ over-copy (take (length (x .part .now)) (x .src .now)) (x .part .now)
 
 pub copy-onto-spec : {M : Type 1} → statement M

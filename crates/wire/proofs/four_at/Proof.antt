@@ -31,7 +31,8 @@ four-requires c κs = search needs
 
 returns : tie.Need-returns
 returns c =
-    let x = c .before .before .before .before .before .before .args in c .four .ensures ∙ sym (four-at (x .b .now) (x .i))
+    let before4 = c .before .before .before .before in
+    let x = before4 .before .before .args in c .four .ensures ∙ sym (four-at (x .b .now) (x .i))
 
 pub four-at-spec : {M : Type 1} → statement M
 four-at-spec =

@@ -30,7 +30,8 @@ four-requires c κs = search needs
 
 returns : tie.Need-returns
 returns c =
-    let x = c .before .before .before .before .before .before .args in cc (four-at (x .b .now) (x .i))
+    let before4 = c .before .before .before .before in
+    let x = before4 .before .before .args in cc (four-at (x .b .now) (x .i))
 
 pub four-from-spec : {M : Type 1} → statement M
 four-from-spec =

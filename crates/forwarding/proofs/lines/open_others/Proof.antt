@@ -1,77 +1,44 @@
 -- Line by line.
+use Prim.Native.Nat.{_-_, _≤_}
+use mathlib.Core.Path.{_≡_, refl, _∙_}
+use mathlib.Core.Bool.{false, _&&_}
+use mathlib.Core.List.{_++_}
+use native.Mathlib.Omega.{arith}
+use lib.ListN.{getD, take, drop}
+use Rattle.protocol.specs.Lines.{eachLine, isOther}
+use Rattle.forwarding.proofs.LineLaws.{each-next, each-last}
 use borrow.Author.Needs.{needs}
 use Rattle.forwarding.proofs.lines.open_others.Statement.{statement}
 use Rattle.forwarding.proofs.lines.open_others.Tie as tie
 
-array-read-is-open-other : tie.Need-array-read-is-open-other
-array-read-is-open-other c = search needs
+abbrev Inv-loop : tie.InvT-loop
+Inv-loop line live others₀ k₀ others k =
+    (k ≤ 8) × (others ≡ take k (eachLine (λ k. isOther line k && getD live k false)) ++ drop k live)
 
-is-open-other-requires : tie.Need-is-open-other-requires
-is-open-other-requires c κs = search needs
+abbrev μ-loop : tie.MeasureT-loop
+μ-loop line live others₀ k₀ others k = 8 - k
 
-array-read-is-open-other-2 : tie.Need-array-read-is-open-other-2
-array-read-is-open-other-2 c = search needs
+loop-holds : tie.Need-loop-holds Inv-loop μ-loop
+loop-holds c = (omega arith, refl)
 
-is-open-other-requires-2 : tie.Need-is-open-other-requires-2
-is-open-other-requires-2 c κs = search needs
+loop-again : tie.Need-loop-again Inv-loop μ-loop
+loop-again c =
+    let at = c .before .before in
+    let x = at .before .args in (
+      omega arith,
+      each-next (λ k. isOther (x .line) k && getD (x .t1) k false) (x .t1) (omega arith) (at .loop .k) (omega arith) _ _
+          (at .loop .inv .1) (c .is-open-other .ensures),
+    )
 
-array-read-is-open-other-3 : tie.Need-array-read-is-open-other-3
-array-read-is-open-other-3 c = search needs
-
-is-open-other-requires-3 : tie.Need-is-open-other-requires-3
-is-open-other-requires-3 c κs = search needs
-
-array-read-is-open-other-4 : tie.Need-array-read-is-open-other-4
-array-read-is-open-other-4 c = search needs
-
-is-open-other-requires-4 : tie.Need-is-open-other-requires-4
-is-open-other-requires-4 c κs = search needs
-
-array-read-is-open-other-5 : tie.Need-array-read-is-open-other-5
-array-read-is-open-other-5 c = search needs
-
-is-open-other-requires-5 : tie.Need-is-open-other-requires-5
-is-open-other-requires-5 c κs = search needs
-
-array-read-is-open-other-6 : tie.Need-array-read-is-open-other-6
-array-read-is-open-other-6 c = search needs
-
-is-open-other-requires-6 : tie.Need-is-open-other-requires-6
-is-open-other-requires-6 c κs = search needs
-
-array-read-is-open-other-7 : tie.Need-array-read-is-open-other-7
-array-read-is-open-other-7 c = search needs
-
-is-open-other-requires-7 : tie.Need-is-open-other-requires-7
-is-open-other-requires-7 c κs = search needs
-
-array-read-is-open-other-8 : tie.Need-array-read-is-open-other-8
-array-read-is-open-other-8 c = search needs
-
-is-open-other-requires-8 : tie.Need-is-open-other-requires-8
-is-open-other-requires-8 c κs = search needs
-
-returns : tie.Need-returns
-returns c = cc
+returns : tie.Need-returns Inv-loop μ-loop
+returns c =
+    let at = c .before in
+    let x = at .before .args in
+    at .loop .inv .1
+    ∙ each-last (λ k. isOther (x .line) k && getD (x .t1) k false) (x .t1) (omega arith) (at .loop .k) (omega arith)
 
 pub open-others-spec : {M : Type 1} → statement M
 open-others-spec =
     tie.close
-    (tie.spec
-    array-read-is-open-other
-    is-open-other-requires
-    array-read-is-open-other-2
-    is-open-other-requires-2
-    array-read-is-open-other-3
-    is-open-other-requires-3
-    array-read-is-open-other-4
-    is-open-other-requires-4
-    array-read-is-open-other-5
-    is-open-other-requires-5
-    array-read-is-open-other-6
-    is-open-other-requires-6
-    array-read-is-open-other-7
-    is-open-other-requires-7
-    array-read-is-open-other-8
-    is-open-other-requires-8
-    returns)
+    (tie.spec Inv-loop μ-loop loop-holds (λ c. search needs) (λ c. search needs) (λ c κs. search needs)
+    (λ c. search needs) (λ c. search needs) (λ c. search needs) loop-again returns)

@@ -1,9 +1,10 @@
 -- The flags at hand, with the keywords that are left, give what the open lines gave with all of them.
-use Prim.Native.Nat.{_-_, _≤_}
+use Prim.Native.Nat.{_≤_}
 use mathlib.Core.Path.{_≡_, refl, sym, ap, _∙_}
 use native.Mathlib.Omega.{arith}
 use mathlib.Core.Bool.{false}
-use lib.ListN.{length, getD, drop, length-take, length-drop}
+use lib.ListN.{length, getD}
+use Rattle.laws.proofs.Over.{tail-shorter}
 use Rattle.keywords.proofs.CutLaws.{cut-bounds}
 use Rattle.protocol.specs.Queries.{ownTo}
 use Rattle.forwarding.specs.Passing.{heldOf}
@@ -24,9 +25,6 @@ abbrev μ-loop : tie.MeasureT-loop
 loop-holds : tie.Need-loop-holds Inv-loop μ-loop
 loop-holds c = (omega arith, refl)
 
-first-keyword-requires : tie.Need-first-keyword-requires Inv-loop μ-loop
-first-keyword-requires c κs = search needs
-
 -- the keyword at hand lies in what is left of the text
 bounds : (c : tie.After-first-keyword Inv-loop μ-loop)
     → (c .first-keyword .result .start ≤ c .first-keyword .result .end)
@@ -43,9 +41,6 @@ returns c =
     (cut .ensures) (l .inv .0) (c .if1 .taken))
     ∙ l .inv .1
 
-sub-hash : tie.Need-sub-hash Inv-loop μ-loop
-sub-hash c = search needs
-
 part-hash-start : tie.Need-part-hash-start Inv-loop μ-loop
 part-hash-start c =
     let h = bounds (c .before) in
@@ -55,12 +50,6 @@ part-hash-end : tie.Need-part-hash-end Inv-loop μ-loop
 part-hash-end c =
     let h = bounds (c .before) in
     search needs
-
-hash-requires : tie.Need-hash-requires Inv-loop μ-loop
-hash-requires c κs = search needs
-
-left-by-requires : tie.Need-left-by-requires Inv-loop μ-loop
-left-by-requires c κs = search needs
 
 sub-rest : tie.Need-sub-rest Inv-loop μ-loop
 sub-rest c =
@@ -72,47 +61,30 @@ part-rest-start c =
     let h = bounds (c .before .before .before .before) in
     search needs
 
-part-rest-end : tie.Need-part-rest-end Inv-loop μ-loop
-part-rest-end c = search needs
-
 loop-less : tie.Need-loop-less Inv-loop μ-loop
 loop-less c =
-    let rest = c .before .before .before .before .before .before .loop .rest .now in
-    let end = c .before .before .before .before .before .first-keyword .result .end in
-    let h = bounds (c .before .before .before .before .before) in
-    let l = c .before .before .before .before .if1 .left in
-    omega (arith, length-take (length rest - end) (drop end rest), length-drop end rest)
+    let cut = c .before .before .before .before .before in
+    let some = c .before .before .before .before .if1 .left in
+    tail-shorter (cut .first-keyword .result .end) (cut .before .loop .rest .now) (omega arith) (bounds cut .1)
 
 loop-again : tie.Need-loop-again Inv-loop μ-loop
 loop-again c =
-    let x = c .before .before .before .before .before .before .before .before .before .args in
-    let l = c .before .before .before .before .before .before .loop in
-    let cut = c .before .before .before .before .before .first-keyword in
+    let before4 = c .before .before .before .before in
+    let x = before4 .before .before .before .before .before .args in
+    let l = before4 .before .before .loop in
+    let cut = before4 .before .first-keyword in
     let number = c .before .before .hash in
     let left = c .before .left-by in
     let held = heldOf (x .tables) (x .room) (x .route .now) in (
       ap length (left .ensures) ∙ left-length (l .flags) held (x .ttl) (number .result),
       passing-on (l .flags) held (x .ttl) (l .rest .now) (cut .result) (cut .ensures)
-          (c .before .before .before .before .if1 .left) (number .result) (number .ensures) (left .result) (left .ensures)
+          (before4 .if1 .left) (number .result) (number .ensures) (left .result) (left .ensures)
           ∙ l .inv .1,
     )
 
 pub passing-spec : {M : Type 1} → statement M
 passing-spec =
     tie.close
-    (tie.spec
-    Inv-loop
-    μ-loop
-    loop-holds
-    first-keyword-requires
-    returns
-    sub-hash
-    part-hash-start
-    part-hash-end
-    hash-requires
-    left-by-requires
-    sub-rest
-    part-rest-start
-    part-rest-end
-    loop-less
-    loop-again)
+    (tie.spec Inv-loop μ-loop loop-holds (λ c κs. search needs) returns (λ c. search needs) part-hash-start
+    part-hash-end (λ c κs. search needs) (λ c κs. search needs) sub-rest part-rest-start (λ c. search needs)
+    loop-less loop-again)

@@ -50,7 +50,8 @@ add-out c = search needs
 
 slice-write-out-3 : tie.Need-slice-write-out-3
 slice-write-out-3 c =
-    let headed = c .before .before .before .before .before .before .put-header in
+    let before4 = c .before .before .before .before in
+    let headed = before4 .before .before .put-header in
     let l = c .before .out2 .given .1 ∙ begun-length (headed .last .1 .1 .1 .1 .1 .0) in
     omega arith
 
@@ -59,17 +60,20 @@ add-result c = search needs
 
 same-length : tie.Need-same-length
 same-length c =
-    let headed = c .before .before .before .before .before .before .put-header in
+    let before4 = c .before .before .before .before in
+    let headed = before4 .before .before .put-header in
     rw length-set (c .before .out2 .given .1 ∙ begun-length (headed .last .1 .1 .1 .1 .1 .0) ∙ search needs)
 
 returns-3 : tie.Need-returns-3
 returns-3 c =
-    let x = c .before .before .before .before .before .before .before .before .before .before .before .before .args in
+    let before4 = c .before .before .before .before in
+    let before8 = before4 .before .before .before .before in
+    let x = before8 .before .before .before .before .args in
     let fits : sendable (x .text .now) (x .out .now) ≡ true = search (needs, le-leb) in (
       rw fits,
       rw fits
           (own-stored (x .number) (x .text .now) (x .out .now) (x .limit) (omega arith) (search needs) _ _
-          (c .before .before .before .before .before .before .put-header .ensures)
+          (before4 .before .before .put-header .ensures)
           (c .before .before .copy-onto .ensures)),
     )
 

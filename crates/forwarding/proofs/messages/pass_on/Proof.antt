@@ -20,7 +20,8 @@ returns-3 c = search (needs, lt-leb, le-leb)
 
 slice-aggregate-copy-onto : tie.Need-slice-aggregate-copy-onto
 slice-aggregate-copy-onto c =
-    let x = c .before .before .before .before .before .before .args in
+    let before4 = c .before .before .before .before in
+    let x = before4 .before .before .args in
     omega (arith, length-take (x .n) (x .m .now))
 
 copy-onto-requires : tie.Need-copy-onto-requires
@@ -37,7 +38,9 @@ same-length c = search needs
 
 returns-4 : tie.Need-returns-4
 returns-4 c =
-    let x = c .before .before .before .before .before .before .before .before .before .before .args in
+    let before4 = c .before .before .before .before in
+    let before8 = before4 .before .before .before .before in
+    let x = before8 .before .before .args in
     let fits : passable (x .m .now) (x .n) (x .out .now) ≡ true = search (needs, le-leb) in (
       rw fits,
       rw fits

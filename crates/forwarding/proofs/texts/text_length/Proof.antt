@@ -19,7 +19,8 @@ until-zero-requires : tie.Need-until-zero-requires
 until-zero-requires c κs = search needs
 
 returns-2 : tie.Need-returns-2
-returns-2 c = text-some (c .before .before .before .before .args .payload .now) (c .until-zero .result) (c .until-zero .ensures)
+returns-2 c = text-some (c .before .before .before .before .args .payload .now) (c .until-zero .result)
+    (c .until-zero .ensures)
 
 pub text-length-spec : {M : Type 1} → statement M
 text-length-spec =

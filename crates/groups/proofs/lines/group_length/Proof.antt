@@ -43,7 +43,8 @@ loop-again : tie.Need-loop-again Inv-loop μ-loop
 loop-again c =
     let l = c .before .before .before .before in
     let m = l .before .before .before .args .m .now in
-    let none = ends-not m (l .loop .n) (l .loop .inv .0) (ap isText (sym (c .before .before .byte-at .ensures)) ∙ sym (c .before .is-text .ensures) ∙ c .if1 .taken) in
+    let none = ends-not m (l .loop .n) (l .loop .inv .0) (ap isText (sym (c .before .before .byte-at .ensures))
+    ∙ sym (c .before .is-text .ensures) ∙ c .if1 .taken) in
     (search needs, sym (first-four (endsAt m) _ (l .loop .n) (none .0) (none .1) (none .2) (none .3)) ∙ l .loop .inv .1)
 
 ends-at-requires : tie.Need-ends-at-requires Inv-loop μ-loop
@@ -51,8 +52,10 @@ ends-at-requires c κs = search needs
 
 returns : tie.Need-returns Inv-loop μ-loop
 returns c =
-    let l = c .before .before .before .before .before .before in
-    sym (first-here (endsAt (l .before .before .before .args .m .now)) _ (l .loop .n) (search needs) (sym (c .before .ends-at .ensures) ∙ c .if2 .taken)) ∙ l .loop .inv .1
+    let before4 = c .before .before .before .before in
+    let l = before4 .before .before in
+    sym (first-here (endsAt (l .before .before .before .args .m .now)) _ (l .loop .n) (search needs)
+    (sym (c .before .ends-at .ensures) ∙ c .if2 .taken)) ∙ l .loop .inv .1
 
 add-n-2 : tie.Need-add-n-2 Inv-loop μ-loop
 add-n-2 c = search needs
@@ -62,8 +65,12 @@ loop-less-2 c = search needs
 
 loop-again-2 : tie.Need-loop-again-2 Inv-loop μ-loop
 loop-again-2 c =
-    let l = c .before .before .before .before .before .before in
-    (search needs, sym (first-on (endsAt (l .before .before .before .args .m .now)) _ (l .loop .n) (sym (c .before .ends-at .ensures) ∙ c .if2 .left)) ∙ l .loop .inv .1)
+    let before4 = c .before .before .before .before in
+    let l = before4 .before .before in (
+      search needs,
+      sym (first-on (endsAt (l .before .before .before .args .m .now)) _ (l .loop .n)
+          (sym (c .before .ends-at .ensures) ∙ c .if2 .left)) ∙ l .loop .inv .1,
+    )
 
 returns-2 : tie.Need-returns-2 Inv-loop μ-loop
 returns-2 c =

@@ -9,13 +9,16 @@ use Rattle.groups.proofs.lines.line_ends.Statement.{statement}
 use Rattle.groups.proofs.lines.line_ends.Tie as tie
 
 returns : tie.Need-returns
-returns c = sym (ap lineEnds (drop-of-length-le (c .before .before .args .s .now) {i = c .before .before .args .n} (omega arith)))
+returns c =
+    sym (ap lineEnds (drop-of-length-le (c .before .before .args .s .now) {i = c .before .before .args .n}
+    (omega arith)))
 
 pair-at-requires : tie.Need-pair-at-requires
 pair-at-requires c κs = search needs
 
 returns-2 : tie.Need-returns-2
-returns-2 c = c .pair-at .ensures ∙ sym (ends-pair (c .before .before .before .args .s .now) (c .before .before .before .args .n) (omega arith))
+returns-2 c = c .pair-at .ensures
+    ∙ sym (ends-pair (c .before .before .before .args .s .now) (c .before .before .before .args .n) (omega arith))
 
 pub line-ends-spec : {M : Type 1} → statement M
 line-ends-spec = tie.close (tie.spec returns pair-at-requires returns-2)

@@ -27,7 +27,8 @@ returns : tie.Need-returns Inv-loop μ-loop
 returns c =
     let l = c .before .before .before in
     let s = l .before .before .args .s .now in
-    run-stop inLine s (l .loop .i) _ (search needs) (ap not (pair-drop s (l .loop .i) ∙ sym (c .before .pair-at .ensures) ∙ c .if1 .taken)) (l .loop .inv .1)
+    run-stop inLine s (l .loop .i) _ (search needs)
+    (ap not (pair-drop s (l .loop .i) ∙ sym (c .before .pair-at .ensures) ∙ c .if1 .taken)) (l .loop .inv .1)
 
 add-i : tie.Need-add-i Inv-loop μ-loop
 add-i c = search needs
@@ -38,8 +39,11 @@ loop-less c = search needs
 loop-again : tie.Need-loop-again Inv-loop μ-loop
 loop-again c =
     let l = c .before .before .before in
-    let s = l .before .before .args .s .now in
-    (search needs, run-on inLine s (l .loop .i) _ (search needs) (ap not (pair-drop s (l .loop .i) ∙ sym (c .before .pair-at .ensures) ∙ c .if1 .left)) (l .loop .inv .1))
+    let s = l .before .before .args .s .now in (
+      search needs,
+      run-on inLine s (l .loop .i) _ (search needs)
+          (ap not (pair-drop s (l .loop .i) ∙ sym (c .before .pair-at .ensures) ∙ c .if1 .left)) (l .loop .inv .1),
+    )
 
 returns-2 : tie.Need-returns-2 Inv-loop μ-loop
 returns-2 c =

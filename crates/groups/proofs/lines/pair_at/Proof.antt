@@ -17,7 +17,10 @@ add-if3 : tie.Need-add-if3
 add-if3 c = search needs
 
 returns-3 : tie.Need-returns-3
-returns-3 c = rw (eq-eqb _ _ (c .before .if2 .left), List·getD-eq-default (c .before .before .before .before .args .m .now) 0 (c .if3 .taken))
+returns-3 c = rw (
+  eq-eqb _ _ (c .before .if2 .left),
+  List·getD-eq-default (c .before .before .before .before .args .m .now) 0 (c .if3 .taken),
+)
 
 add-result : tie.Need-add-result
 add-result c = search needs

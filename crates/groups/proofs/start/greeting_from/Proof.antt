@@ -16,7 +16,8 @@ no-start-requires-2 c κs = search needs
 
 returns-2 : tie.Need-returns-2
 unfolding greetingFrom
-returns-2 c = rw (ne-eqb _ _ (c .before .before .before .if1 .left), ne-eqb _ _ (c .before .if2 .taken)) (c .no-start2 .ensures)
+returns-2 c = rw (ne-eqb _ _ (c .before .before .before .if1 .left), ne-eqb _ _ (c .before .if2 .taken))
+    (c .no-start2 .ensures)
 
 returns-3 : tie.Need-returns-3
 unfolding greetingFrom

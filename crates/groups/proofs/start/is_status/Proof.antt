@@ -19,7 +19,13 @@ status-ok-requires : tie.Need-status-ok-requires
 status-ok-requires c κs = search needs
 
 returns : tie.Need-returns
-returns c = c .status-ok .ensures ∙ rw (c .before .byte-at2 .ensures, c .before .before .byte-at .ensures, c .before .before .before .leading-number .ensures, c .before .before .before .before .after .ensures)
+returns c =
+    c .status-ok .ensures ∙ rw (
+      c .before .byte-at2 .ensures,
+      c .before .before .byte-at .ensures,
+      c .before .before .before .leading-number .ensures,
+      c .before .before .before .before .after .ensures,
+    )
 
 pub is-status-spec : {M : Type 1} → statement M
 is-status-spec =

@@ -22,7 +22,15 @@ reply-from-requires : tie.Need-reply-from-requires
 reply-from-requires c κs = search needs
 
 returns : tie.Need-returns
-returns c = c .reply-from .ensures ∙ rw (c .before .is-status .ensures, c .before .before .leading-number .ensures, c .before .before .before .after2 .ensures, c .before .before .before .before .after .ensures, c .before .before .before .before .before .read-version .ensures)
+returns c =
+    let before4 = c .before .before .before .before in
+    c .reply-from .ensures ∙ rw (
+      c .before .is-status .ensures,
+      c .before .before .leading-number .ensures,
+      c .before .before .before .after2 .ensures,
+      before4 .after .ensures,
+      before4 .before .read-version .ensures,
+    )
 
 pub read-reply-spec : {M : Type 1} → statement M
 read-reply-spec =

@@ -38,7 +38,11 @@ returns-2 : tie.Need-returns-2
 unfolding startOf
 returns-2 c =
     let d = c .before .before .before .before .before in
-    rw (sym (d .before .starts-with .ensures) ∙ d .if1 .left, sym (c .before .before .before .starts-with2 .ensures) ∙ c .before .before .if2 .taken)
+    rw (
+      sym (d .before .starts-with .ensures) ∙ d .if1 .left,
+      sym (c .before .before .before .starts-with2 .ensures)
+          ∙ c .before .before .if2 .taken,
+    )
     (c .read-reply .ensures ∙ ap replyOf (c .before .after2 .ensures))
 
 no-start-requires : tie.Need-no-start-requires
@@ -48,7 +52,10 @@ returns-3 : tie.Need-returns-3
 unfolding startOf
 returns-3 c =
     let d = c .before .before .before .before in
-    rw (sym (d .before .starts-with .ensures) ∙ d .if1 .left, sym (c .before .before .starts-with2 .ensures) ∙ c .before .if2 .left) (c .no-start .ensures)
+    rw (
+      sym (d .before .starts-with .ensures) ∙ d .if1 .left,
+      sym (c .before .before .starts-with2 .ensures) ∙ c .before .if2 .left,
+    ) (c .no-start .ensures)
 
 pub read-start-spec : {M : Type 1} → statement M
 read-start-spec =

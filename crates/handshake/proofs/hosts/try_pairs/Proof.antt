@@ -20,13 +20,16 @@ array-share-prefix-value : tie.Need-array-share-prefix-value
 array-share-prefix-value c =
     let f = c .before in
     let x = f .before .before .before .before .args in
-    ask-gives (x .bytes .now) (replicate 4096 0) (length-replicate {A = ℕ} 4096 0) (f .field .result) (f .field .last .1 .1 .0) (f .field .ensures .0) (f .field .ensures .1) .0
+    ask-gives (x .bytes .now) (replicate 4096 0) (length-replicate {A = ℕ} 4096 0) (f .field .result)
+    (f .field .last .1 .1 .0) (f .field .ensures .0) (f .field .ensures .1) .0
 
 slice-aggregate-read-pairs : tie.Need-slice-aggregate-read-pairs
 slice-aggregate-read-pairs c =
     let f = c .before .before in
     let x = f .before .before .before .before .args in
-    sym (length-take-le (f .field .result .written) (f .field .last .1 .1 .0) (ask-gives (x .bytes .now) (replicate 4096 0) (length-replicate {A = ℕ} 4096 0) (f .field .result) (f .field .last .1 .1 .0) (f .field .ensures .0) (f .field .ensures .1) .0))
+    sym (length-take-le (f .field .result .written) (f .field .last .1 .1 .0)
+    (ask-gives (x .bytes .now) (replicate 4096 0) (length-replicate {A = ℕ} 4096 0) (f .field .result)
+    (f .field .last .1 .1 .0) (f .field .ensures .0) (f .field .ensures .1) .0))
 
 read-pairs-requires : tie.Need-read-pairs-requires
 read-pairs-requires c κs = search needs
@@ -40,7 +43,8 @@ returns c =
     let f = r .before .before .before in
     let x = f .before .before .before .before .args in
     rw (c .tried-number .ensures, r .read-pairs .ensures)
-    (ask-gives (x .bytes .now) (replicate 4096 0) (length-replicate {A = ℕ} 4096 0) (f .field .result) (f .field .last .1 .1 .0) (f .field .ensures .0) (f .field .ensures .1) .1)
+    (ask-gives (x .bytes .now) (replicate 4096 0) (length-replicate {A = ℕ} 4096 0) (f .field .result)
+    (f .field .last .1 .1 .0) (f .field .ensures .0) (f .field .ensures .1) .1)
 
 pub try-pairs-spec : {M : Type 1} → statement M
 try-pairs-spec =

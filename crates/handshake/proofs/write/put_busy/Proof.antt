@@ -54,8 +54,10 @@ returns c =
     let f = w .before .before .before .before in
     let start = f .before .before .before .before in
     let x = start .args in (
-      busy-size (x .pairs) (x .out .now) (f .copy .last .1 .0) (start .pre) (f .copy .ensures .1) (r .result) (r .ensures .0) (r .ensures .1 .1),
-      busy-all (x .pairs) (x .out .now) (f .copy .last .1 .0) (start .pre) (f .copy .ensures .1) (r .result) (r .ensures .0) (r .ensures .1 .1) _ _ (r .ensures .1 .0) refl _ (c .before .before .copy2 .ensures .1),
+      busy-size (x .pairs) (x .out .now) (f .copy .last .1 .0) (start .pre) (f .copy .ensures .1) (r .result)
+          (r .ensures .0) (r .ensures .1 .1),
+      busy-all (x .pairs) (x .out .now) (f .copy .last .1 .0) (start .pre) (f .copy .ensures .1) (r .result)
+          (r .ensures .0) (r .ensures .1 .1) _ _ (r .ensures .1 .0) refl _ (c .before .before .copy2 .ensures .1),
     )
 
 pub put-busy-spec : {M : Type 1} → statement M

@@ -16,7 +16,8 @@ returns-2 : tie.Need-returns-2
 returns-2 c =
     let i = c .before .before .before .before in
     let x = i .before .before .before .args in
-    whole-put (x .text .now) (x .out .now) _ _ (search needs) (c .before .before .copy .ensures .0) (c .before .before .copy .ensures .1)
+    whole-put (x .text .now) (x .out .now) _ _ (search needs) (c .before .before .copy .ensures .0)
+    (c .before .before .copy .ensures .1)
 
 pub put-whole-spec : {M : Type 1} → statement M
 put-whole-spec = tie.close (tie.spec returns copy-requires same-length returns-2)

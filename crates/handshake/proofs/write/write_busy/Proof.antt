@@ -12,7 +12,8 @@ can-write-requires : tie.Need-can-write-requires
 can-write-requires c κs = search needs
 
 returns : tie.Need-returns
-returns c = let x = c .before .before .before .args in busy-wrong (x .pairs) (x .out .now) (sym (c .before .can-write .ensures) ∙ not-true _ (c .if1 .taken))
+returns c = let x = c .before .before .before .args in busy-wrong (x .pairs) (x .out .now)
+    (sym (c .before .can-write .ensures) ∙ not-true _ (c .if1 .taken))
 
 slice-aggregate-put-whole : tie.Need-slice-aggregate-put-whole
 slice-aggregate-put-whole c = search needs
@@ -28,7 +29,8 @@ returns-2 c =
     let i = c .before .before .before .before .before in
     let e = i .before .before in
     let x = e .before .before .before .args in
-    busy-alone (x .pairs) (x .out .now) (sym (e .before .can-write .ensures) ∙ not-false _ (e .if1 .left)) (i .if2 .taken) _ _ (c .before .before .put-whole .ensures)
+    busy-alone (x .pairs) (x .out .now) (sym (e .before .can-write .ensures) ∙ not-false _ (e .if1 .left))
+    (i .if2 .taken) _ _ (c .before .before .put-whole .ensures)
 
 slice-aggregate-put-busy : tie.Need-slice-aggregate-put-busy
 slice-aggregate-put-busy c = search needs
@@ -44,7 +46,8 @@ slice-aggregate-put-whole-2 c =
     let p = c .before .before in
     let e = p .before .before .before .before in
     let b = p .put-busy in
-    busy-taken (namedBytes (pairsIn (e .before .before .before .args .pairs))) (replicate 1024 0) (b .last .1 .0) (b .result) (b .ensures .0 .0) (b .ensures .1)
+    busy-taken (namedBytes (pairsIn (e .before .before .before .args .pairs))) (replicate 1024 0) (b .last .1 .0)
+    (b .result) (b .ensures .0 .0) (b .ensures .1)
 
 put-whole-requires-2 : tie.Need-put-whole-requires-2
 put-whole-requires-2 c κs = search needs
@@ -60,9 +63,12 @@ returns-3 c =
     let e = i .before .before in
     let start = e .before .before .before in
     let x = start .args in
-    let k : length (x .pairs .pairs) ≡ 32 = sym (length-map (x .pairs .pairs) _) ∙ (start .good .0 .1 .1 .1 .0 .1 .0 .1) in
-    busy-some (x .pairs) (x .out .now) (sym (e .before .can-write .ensures) ∙ not-false _ (e .if1 .left)) k (i .if2 .left)
-    (p .put-busy .result) (p .put-busy .last .1 .0) _ _ _ (p .put-busy .ensures .0 .0) (p .put-busy .ensures .1) (c .before .before .put-whole2 .ensures)
+    let k : length (x .pairs .pairs) ≡ 32 = sym (length-map (x .pairs .pairs) _)
+    ∙ (start .good .0 .1 .1 .1 .0 .1 .0 .1) in
+    busy-some (x .pairs) (x .out .now) (sym (e .before .can-write .ensures) ∙ not-false _ (e .if1 .left)) k
+    (i .if2 .left)
+    (p .put-busy .result) (p .put-busy .last .1 .0) _ _ _ (p .put-busy .ensures .0 .0) (p .put-busy .ensures .1)
+    (c .before .before .put-whole2 .ensures)
 
 pub write-busy-spec : {M : Type 1} → statement M
 write-busy-spec =

@@ -32,7 +32,8 @@ run-requires-2 : tie.Need-run-requires-2
 run-requires-2 c κs = search needs
 
 -- where the first keyword ends
-ends : (c : tie.After-run2) → c .before .before .run .result + c .run2 .result ≡ cutEnd (c .before .before .before .before .args .text .now)
+ends : (c : tie.After-run2) → c .before .before .run .result + c .run2 .result
+    ≡ cutEnd (c .before .before .before .before .args .text .now)
 ends c =
     let text = c .before .before .before .before .args .text .now in
     let start = c .before .before .run .ensures in

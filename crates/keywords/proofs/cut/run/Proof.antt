@@ -12,7 +12,8 @@ use Rattle.keywords.proofs.cut.run.Statement.{statement}
 use Rattle.keywords.proofs.cut.run.Tie as tie
 
 abbrev Inv-loop : tie.InvT-loop
-Inv-loop text wanted i₀ i = (i ≤ length text) × (leading (matching wanted) text ≡ i + leading (matching wanted) (drop i text))
+Inv-loop text wanted i₀ i = (i ≤ length text)
+    × (leading (matching wanted) text ≡ i + leading (matching wanted) (drop i text))
 
 abbrev μ-loop : tie.MeasureT-loop
 μ-loop text wanted i₀ i = length text - i
@@ -31,12 +32,14 @@ passed : (c : tie.After-is-separator Inv-loop μ-loop)
     → matching (c .before .before .before .before .before .args .wanted)
     (getD (c .before .before .before .before .before .args .text .now) (c .before .before .before .loop .i) 0)
     ≡ Bool·beq (c .is-separator .result) (c .before .before .before .before .before .args .wanted)
-passed c = matching-is (c .before .before .before .before .before .args .wanted) (c .is-separator .result) _ (c .is-separator .ensures)
+passed c = matching-is (c .before .before .before .before .before .args .wanted) (c .is-separator .result) _
+    (c .is-separator .ensures)
 
 returns : tie.Need-returns Inv-loop μ-loop
 returns c =
-    let a = c .before .before .before .before .before .before .args in
-    let z = leading-off (matching (a .wanted)) (a .text .now) (c .before .before .before .before .loop .i) (search needs)
+    let before4 = c .before .before .before .before in
+    let a = before4 .before .before .args in
+    let z = leading-off (matching (a .wanted)) (a .text .now) (before4 .loop .i) (search needs)
     (passed (c .before) ∙ not-true _ (c .if1 .taken)) in
     omega arith
 
@@ -48,15 +51,17 @@ loop-less c = search needs
 
 loop-again : tie.Need-loop-again Inv-loop μ-loop
 loop-again c =
-    let a = c .before .before .before .before .before .before .args in
-    let z = leading-on (matching (a .wanted)) (a .text .now) (c .before .before .before .before .loop .i) (search needs)
+    let before4 = c .before .before .before .before in
+    let a = before4 .before .before .args in
+    let z = leading-on (matching (a .wanted)) (a .text .now) (before4 .loop .i) (search needs)
     (passed (c .before) ∙ not-false _ (c .if1 .left)) in
     (search needs, omega arith)
 
 returns-2 : tie.Need-returns-2 Inv-loop μ-loop
 unfolding leading
 returns-2 c =
-    let h = rw (drop-of-length-le (c .before .before .before .args .text .now) (c .loop-test .left)) at (c .before .loop .inv .1) in
+    let h = rw (drop-of-length-le (c .before .before .before .args .text .now) (c .loop-test .left))
+    at (c .before .loop .inv .1) in
     omega arith
 
 pub run-spec : {M : Type 1} → statement M

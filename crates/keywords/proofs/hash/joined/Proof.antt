@@ -20,8 +20,12 @@ abbrev μ-loop : tie.MeasureT-loop
 
 loop-holds : tie.Need-loop-holds Inv-loop μ-loop
 loop-holds c =
-    let keyword = c .before .args .keyword .now in
-    (search needs, sym (word-rolling (map lower keyword) (lower-bytes keyword (λ i. c .shared-slice-known .given i .fits))), search needs)
+    let keyword = c .before .args .keyword .now in (
+      search needs,
+      sym (word-rolling (map lower keyword) (lower-bytes keyword (λ i. c .shared-slice-known .given i .fits))),
+      search
+          needs,
+    )
 
 shared-slice-read-lower : tie.Need-shared-slice-read-lower Inv-loop μ-loop
 shared-slice-read-lower c = search needs
@@ -40,8 +44,9 @@ loop-less c = search needs
 
 loop-again : tie.Need-loop-again Inv-loop μ-loop
 loop-again c =
-    let keyword = c .before .before .before .before .before .before .args .keyword .now in
-    let at = c .before .before .before .before .loop in
+    let before4 = c .before .before .before .before in
+    let keyword = before4 .before .before .args .keyword .now in
+    let at = before4 .loop in
     let fits : c .moved .result < 2 ^ 32 = search needs in
     let moved : c .moved .result ≡ lower (getD keyword (at .i) 0) * 256 ^ (at .i % 4)
     = c .moved .ensures ∙ ap (λ x. x * 256 ^ (at .i % 4)) (c .before .lower .ensures) in (
@@ -53,7 +58,8 @@ loop-again c =
 returns : tie.Need-returns Inv-loop μ-loop
 unfolding rolling
 returns c =
-    rw (drop-of-length-le (c .before .before .before .args .keyword .now) (c .loop-test .left)) at (c .before .loop .inv .1)
+    rw (drop-of-length-le (c .before .before .before .args .keyword .now) (c .loop-test .left))
+    at (c .before .loop .inv .1)
 
 pub joined-spec : {M : Type 1} → statement M
 joined-spec =

@@ -7,8 +7,8 @@ use native.Mathlib.Omega.{arith}
 use lib.ListN.{length}
 use borrow.Author.Needs.{needs}
 use borrow.Author.Tests.{eq-eqb, ne-eqb}
-use Rattle.protocol.specs.Memory.{memoryOf, numberFrom, queryAt, lookupOf}
-use Rattle.memory.proofs.SearchLaws.{leftOf, left-end, left-here, left-on}
+use Rattle.protocol.specs.Memory.{memoryOf, numberFrom, sameNumber, queryAt, At, pickFound, lookupOf}
+use Rattle.memory.proofs.SearchLaws.{leftOf, left-end, left-turn}
 use Rattle.memory.proofs.search.newest.Statement.{statement}
 use Rattle.memory.proofs.search.newest.Tie as tie
 
@@ -23,64 +23,41 @@ abbrev μ-loop : tie.MeasureT-loop
 loop-holds : tie.Need-loop-holds Inv-loop μ-loop
 loop-holds c = (search needs, simp (sub-zero, add-zero))
 
-sub-p : tie.Need-sub-p Inv-loop μ-loop
-sub-p c = search needs
-
-sub-p-2 : tie.Need-sub-p-2 Inv-loop μ-loop
-sub-p-2 c = search needs
-
-mul-if1 : tie.Need-mul-if1 Inv-loop μ-loop
-mul-if1 c = search needs
-
-shared-slice-read-if1 : tie.Need-shared-slice-read-if1 Inv-loop μ-loop
-shared-slice-read-if1 c = search needs
-
-word-at-requires : tie.Need-word-at-requires Inv-loop μ-loop
-word-at-requires c κs = search needs
-
-add-t17 : tie.Need-add-t17 Inv-loop μ-loop
-add-t17 c = search needs
-
-byte-at-requires : tie.Need-byte-at-requires Inv-loop μ-loop
-byte-at-requires c κs = search needs
+-- the query at hand is the one, or those behind it decide
+turn : (c : tie.In-loop Inv-loop μ-loop)
+    → (let a = c .before .before .before .before .before .args in
+    let ring = memoryOf (a .lo .now) (a .hi .now) (a .asker .now) 0 0 in
+    let left = leftOf (queryAt ring) (length (a .lo .now)) (numberFrom (a .a) (a .b)) in
+    let i = c .before .loop .i in
+    let q = queryAt ring (a .from - 1 - i) in
+    pickFound (sameNumber (q .number) (numberFrom (a .a) (a .b))) (At (a .passed + i) (q .asker))
+    (left (a .from - (i + 1)) (a .n - (i + 1)) (a .passed + (i + 1)))
+    ≡ left (a .from) (a .n) (a .passed))
+turn c =
+    let a = c .before .before .before .before .before .args in
+    let l = c .before .loop in
+    let ring = memoryOf (a .lo .now) (a .hi .now) (a .asker .now) 0 0 in
+    sym
+    (left-turn (queryAt ring) (length (a .lo .now)) (numberFrom (a .a) (a .b)) (a .from) (a .n) (a .passed) (l .i)
+    (search needs) (search needs) (search needs))
+    ∙ l .inv .1
 
 returns : tie.Need-returns Inv-loop μ-loop
 returns c =
-    let turn = c .before .before .before in
-    let head = turn .before .before .before in
-    let a = head .before .before .before .before .args in
-    let l = head .loop in
-    let ring = memoryOf (a .lo .now) (a .hi .now) (a .asker .now) 0 0 in
-    let here =
-    left-here (queryAt ring) (length (a .lo .now)) (numberFrom (a .a) (a .b)) (a .from) (a .n) (a .passed) (l .i)
-    (search needs) (search needs) (search needs) in
     let same = sym (c .before .before .word-at .ensures) ∙ c .before .if2 .taken in
-    rw (sym (l .inv .1) ∙ here (rw (eq-eqb _ _ (turn .if1 .taken), eq-eqb _ _ same)), c .byte-at .ensures)
-
-add-i : tie.Need-add-i Inv-loop μ-loop
-add-i c = search needs
-
-loop-less : tie.Need-loop-less Inv-loop μ-loop
-loop-less c = search needs
+    let half = c .before .before .before in
+    let e = rw (eq-eqb _ _ (half .if1 .taken), eq-eqb _ _ same) at (turn (half .before .before)) in
+    rw (← e, c .byte-at .ensures)
 
 loop-again : tie.Need-loop-again Inv-loop μ-loop
 loop-again c =
-    let head = c .before .before .before in
-    let a = head .before .before .before .before .args in
-    let l = head .loop in
-    let ring = memoryOf (a .lo .now) (a .hi .now) (a .asker .now) 0 0 in
-    let on =
-    left-on (queryAt ring) (length (a .lo .now)) (numberFrom (a .a) (a .b)) (a .from) (a .n) (a .passed) (l .i)
-    (search needs) (search needs) (search needs) in (
+    let t = turn (c .before .before) in (
       search needs,
       ⊎-elim
-          (λ w. on (rw (eq-eqb _ _ (w .0 .taken), ne-eqb _ _ (λ e. w .2 .left (w .1 .ensures ∙ e)))) ∙ l .inv .1)
-          (λ w. on (rw (ne-eqb _ _ (w .left))) ∙ l .inv .1)
+          (λ w. rw (eq-eqb _ _ (w .0 .taken), ne-eqb _ _ (λ e. w .2 .left (w .1 .ensures ∙ e))) at t)
+          (λ w. rw (ne-eqb _ _ (w .left)) at t)
           (c .if1 .came),
     )
-
-absent-requires : tie.Need-absent-requires Inv-loop μ-loop
-absent-requires c κs = search needs
 
 returns-2 : tie.Need-returns-2 Inv-loop μ-loop
 returns-2 c =
@@ -96,20 +73,6 @@ returns-2 c =
 pub newest-spec : {M : Type 1} → statement M
 newest-spec =
     tie.close
-    (tie.spec
-    Inv-loop
-    μ-loop
-    loop-holds
-    sub-p
-    sub-p-2
-    mul-if1
-    shared-slice-read-if1
-    word-at-requires
-    add-t17
-    byte-at-requires
-    returns
-    add-i
-    loop-less
-    loop-again
-    absent-requires
-    returns-2)
+    (tie.spec Inv-loop μ-loop loop-holds (λ c. search needs) (λ c. search needs) (λ c. search needs) (λ c. search needs)
+    (λ c κs. search needs) (λ c. search needs) (λ c κs. search needs) returns (λ c. search needs) (λ c. search needs)
+    loop-again (λ c κs. search needs) returns-2)

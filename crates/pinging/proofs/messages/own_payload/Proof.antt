@@ -5,17 +5,17 @@ use borrow.Author.Needs.{needs}
 use Rattle.pinging.proofs.messages.own_payload.Statement.{statement}
 use Rattle.pinging.proofs.messages.own_payload.Tie as tie
 
-little-bytes2-requires : tie.Need-little-bytes2-requires
-little-bytes2-requires c κs = search needs
-
 little-bytes4-requires : tie.Need-little-bytes4-requires
 little-bytes4-requires c κs = search needs
 
 little-bytes4-requires-2 : tie.Need-little-bytes4-requires-2
 little-bytes4-requires-2 c κs = search needs
 
-array-read-t13 : tie.Need-array-read-t13
-array-read-t13 c = search needs
+cast-t10 : tie.Need-cast-t10
+cast-t10 c = search needs
+
+cast-t13 : tie.Need-cast-t13
+cast-t13 c = search needs
 
 array-read-t16 : tie.Need-array-read-t16
 array-read-t16 c = search needs
@@ -53,23 +53,20 @@ array-read-t46 c = search needs
 array-read-t49 : tie.Need-array-read-t49
 array-read-t49 c = search needs
 
-array-read-t52 : tie.Need-array-read-t52
-array-read-t52 c = search needs
-
 returns : tie.Need-returns
 returns c =
-    let x = c .before .before .before .args in
-    own-parts (x .port) (x .files) (x .kilobytes) (x .t2) _ _ _ (omega arith) (c .before .before .little-bytes2 .ensures)
-    (c .before .little-bytes4 .ensures) (c .little-bytes42 .ensures)
+    let x = c .before .before .args in
+    own-parts (x .port) (x .files) (x .kilobytes) (x .t2) _ _ (omega arith) (c .before .little-bytes4 .ensures)
+    (c .little-bytes42 .ensures)
 
 pub own-payload-spec : {M : Type 1} → statement M
 own-payload-spec =
     tie.close
     (tie.spec
-    little-bytes2-requires
     little-bytes4-requires
     little-bytes4-requires-2
-    array-read-t13
+    cast-t10
+    cast-t13
     array-read-t16
     array-read-t19
     array-read-t22
@@ -82,5 +79,4 @@ own-payload-spec =
     array-read-t43
     array-read-t46
     array-read-t49
-    array-read-t52
     returns)

@@ -10,8 +10,11 @@ elapsed-ms-requires c κs = search needs
 
 returns : tie.Need-returns
 returns c =
-    let x = c .before .before .before .args in
-    (stored-old (x .number) (x .pinghops) (x .clock) (x .pong) (x .part .now) (rw (c .before .elapsed-ms .ensures) at (c .if1 .taken)), omega arith)
+    let x = c .before .before .before .args in (
+      stored-old (x .number) (x .pinghops) (x .clock) (x .pong) (x .part .now)
+          (rw (c .before .elapsed-ms .ensures) at (c .if1 .taken)),
+      omega arith,
+    )
 
 one-hop-more-requires : tie.Need-one-hop-more-requires
 one-hop-more-requires c κs = search needs

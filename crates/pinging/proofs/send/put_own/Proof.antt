@@ -12,8 +12,11 @@ sends-own-requires c κs = search needs
 
 returns : tie.Need-returns
 returns c =
-    let x = c .before .before .before .args in
-    (own-unsent (x .own) (x .number) (x .pinghops) (x .probe) (x .part .now) (sym (c .before .sends-own .ensures) ∙ not-true _ (c .if1 .taken)), omega arith)
+    let x = c .before .before .before .args in (
+      own-unsent (x .own) (x .number) (x .pinghops) (x .probe) (x .part .now) (sym (c .before .sends-own .ensures)
+          ∙ not-true _ (c .if1 .taken)),
+      omega arith,
+    )
 
 own-payload-requires : tie.Need-own-payload-requires
 own-payload-requires c κs = search needs

@@ -1,13 +1,15 @@
 -- What the turns made give is put.
 use Prim.Native.Nat.{_-_}
 use native.Mathlib.Omega.{arith}
+use Rattle.pongrings.proofs.WalkLaws.{walkOf}
 use Rattle.pinging.proofs.SendLaws.{Turned, turned-none, turned-past, turned-put, done-ten, done-all}
 use borrow.Author.Needs.{needs}
 use Rattle.pinging.proofs.send.put_stored.Statement.{statement}
 use Rattle.pinging.proofs.send.put_stored.Tie as tie
 
 abbrev Inv-loop : tie.InvT-loop
-Inv-loop line clock number pinghops part₀ counts nexts rings turns sent₀ i₀ part sent i = Turned number pinghops counts nexts rings line clock i sent part₀ part
+Inv-loop line clock number pinghops part₀ counts nexts rings turns sent₀ i₀ part sent i =
+    Turned number pinghops (walkOf counts nexts rings line clock) i sent part₀ part
 
 abbrev μ-loop : tie.MeasureT-loop
 μ-loop line clock number pinghops part₀ counts nexts rings turns sent₀ i₀ part sent i = turns - i
@@ -28,7 +30,7 @@ mul-turns : tie.Need-mul-turns Inv-loop μ-loop
 mul-turns c = search needs
 
 loop-holds : tie.Need-loop-holds Inv-loop μ-loop
-loop-holds c = turned-none _ _ _ _ _ _ _ _
+loop-holds c = turned-none _ _ _ _
 
 same-length : tie.Need-same-length Inv-loop μ-loop
 same-length c = c .before .before .loop .inv .long
@@ -37,12 +39,10 @@ returns : tie.Need-returns Inv-loop μ-loop
 returns c =
     let at = c .before .before in
     let read = at .before .before in
-    let x = read .before .before .before .before .args in
-    let few = at .loop .inv .few in (
-      done-ten (x .number) (x .pinghops) _ _ _ (x .line) (x .clock) (at .loop .i) (at .loop .sent) (x .part .now)
-          (at .loop .part) (at .loop .inv) (x .lines) (read .before .before .counts-in .ensures)
-          (read .before .nexts-in .ensures) (read .rings-in .ensures) (c .if1 .taken),
-      few,
+    let x = read .before .before .before .before .args in (
+      done-ten (x .number) (x .pinghops) (x .line) (x .clock) (x .lines) (read .before .before .counts-in .ensures)
+          (read .before .nexts-in .ensures) (read .rings-in .ensures) _ _ _ _ (at .loop .inv) (c .if1 .taken),
+      at .loop .inv .few,
     )
 
 cast-place-for : tie.Need-cast-place-for Inv-loop μ-loop
@@ -73,9 +73,11 @@ loop-again : tie.Need-loop-again Inv-loop μ-loop
 loop-again c =
     let found = c .before in
     let at = found .before .before .before in
-    let x = at .before .before .before .before .before .before .args in
-    turned-past (x .number) (x .pinghops) _ _ _ (x .line) (x .clock) (at .loop .i) (at .loop .sent) (x .part .now)
-    (at .loop .part) (at .loop .inv) (omega arith) (found .place-for .result) (found .place-for .ensures) (c .if2 .taken)
+    let at4 = at .before .before .before .before in
+    let x = at4 .before .before .args in
+    turned-past (x .number) (x .pinghops) _ (at .loop .i) (at .loop .sent) (x .part .now)
+    (at .loop .part) (at .loop .inv) (omega arith) (found .place-for .result) (found .place-for .ensures)
+    (c .if2 .taken)
 
 mul-pong : tie.Need-mul-pong Inv-loop μ-loop
 mul-pong c = search needs
@@ -88,9 +90,6 @@ index-1-pong c = search needs
 
 index-2-pong : tie.Need-index-2-pong Inv-loop μ-loop
 index-2-pong c = search needs
-
-mul-at : tie.Need-mul-at Inv-loop μ-loop
-mul-at c = search needs
 
 sub-put-fresh : tie.Need-sub-put-fresh Inv-loop μ-loop
 sub-put-fresh c = search needs
@@ -116,9 +115,11 @@ loop-again-2 c =
     let tested = put .before .before .before in
     let found = tested .before in
     let at = found .before .before .before in
-    let x = at .before .before .before .before .before .before .args in
-    turned-put (x .number) (x .pinghops) _ _ _ (x .line) (x .clock) (at .loop .i) (at .loop .sent) (x .part .now)
-    (at .loop .part) (at .loop .inv) (omega arith) (found .place-for .result) (found .place-for .ensures) (tested .if2 .left)
+    let at4 = at .before .before .before .before in
+    let x = at4 .before .before .args in
+    turned-put (x .number) (x .pinghops) _ (at .loop .i) (at .loop .sent) (x .part .now)
+    (at .loop .part) (at .loop .inv) (omega arith) (found .place-for .result) (found .place-for .ensures)
+    (tested .if2 .left)
     (omega arith) (omega arith) (put .put-fresh .result) _ (put .put-fresh .ensures .1) (put .put-fresh .ensures .0)
 
 same-length-2 : tie.Need-same-length-2 Inv-loop μ-loop
@@ -128,13 +129,12 @@ returns-2 : tie.Need-returns-2 Inv-loop μ-loop
 returns-2 c =
     let at = c .before in
     let read = at .before .before in
-    let x = read .before .before .before .before .args in
-    let few = at .loop .inv .few in (
-      done-all (x .number) (x .pinghops) _ _ _ (x .line) (x .clock) (at .loop .i) (at .loop .sent) (x .part .now)
-          (at .loop .part) (at .loop .inv) (x .lines) (read .before .before .counts-in .ensures)
-          (read .before .nexts-in .ensures) (read .rings-in .ensures) (at .before .most-of .result) (at .before .most-of .ensures)
-          (c .loop-test .left),
-      few,
+    let most = at .before .most-of in
+    let x = read .before .before .before .before .args in (
+      done-all (x .number) (x .pinghops) (x .line) (x .clock) (x .lines) (read .before .before .counts-in .ensures)
+          (read .before .nexts-in .ensures) (read .rings-in .ensures) _ _ _ _ (at .loop .inv) (most .result)
+          (most .ensures) (c .loop-test .left),
+      at .loop .inv .few,
     )
 
 pub put-stored-spec : {M : Type 1} → statement M
@@ -164,7 +164,6 @@ put-stored-spec =
     mul-pong-2
     index-1-pong
     index-2-pong
-    mul-at
     sub-put-fresh
     part-put-fresh-start
     part-put-fresh-end

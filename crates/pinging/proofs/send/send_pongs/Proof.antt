@@ -13,9 +13,6 @@ returns c = rw (lt-leb _ _ (c .if1 .taken)) (refl, (refl, refl))
 put-own-requires : tie.Need-put-own-requires
 put-own-requires c κs = search needs
 
-mul-at : tie.Need-mul-at
-mul-at c = search needs
-
 same-length : tie.Need-same-length
 same-length c = search needs
 
@@ -26,7 +23,7 @@ returns-2 c =
     let d =
     to-probe (x .lines) (x .line) (x .clock) (x .own) (x .number) (x .hops) (x .probe) (x .out .now) (omega arith)
     (first .put-own .result) _ (first .put-own .ensures .0) (c .if2 .taken) in
-    (d .size, (d .count, d .bytes))
+    (d .size, (d .count, d .wrote))
 
 sub-put-stored : tie.Need-sub-put-stored
 sub-put-stored c = search needs
@@ -39,9 +36,6 @@ part-put-stored-end c = search needs
 
 put-stored-requires : tie.Need-put-stored-requires
 put-stored-requires c κs = search needs
-
-mul-result : tie.Need-mul-result
-mul-result c = search needs
 
 add-result : tie.Need-add-result
 add-result c = search needs
@@ -57,9 +51,9 @@ returns-3 c =
     let x = first .before .before .before .before .args in
     let d =
     to-other (x .lines) (x .line) (x .clock) (x .own) (x .number) (x .hops) (x .probe) (x .out .now) (omega arith)
-    (first .put-own .result) _ (first .put-own .ensures .0) (tested .if2 .left) (first .put-own .ensures .1)
-    (rest .put-stored .result) _ (rest .put-stored .ensures .1) (rest .put-stored .ensures .0) in
-    (d .size, (d .count, d .bytes))
+    (first .put-own .result) _ (first .put-own .ensures .0) (tested .if2 .left) (rest .put-stored .result) _
+    (omega arith) (rest .put-stored .ensures .0) in
+    (d .size, (d .count, d .wrote))
 
 pub send-pongs-spec : {M : Type 1} → statement M
 send-pongs-spec =
@@ -67,14 +61,12 @@ send-pongs-spec =
     (tie.spec
     returns
     put-own-requires
-    mul-at
     same-length
     returns-2
     sub-put-stored
     part-put-stored-start
     part-put-stored-end
     put-stored-requires
-    mul-result
     add-result
     same-length-2
     returns-3)

@@ -1,213 +1,139 @@
--- The first refusal, or the step of the message's type.
+-- The first refusal, or the step of the message's type. What is known of a message grows from one test of its type to
+-- the next.
+use mathlib.Core.Path.{_≡_}
+use mathlib.Core.List.{List, []}
 use Prim.Native.Nat.{ℕ}
-use mathlib.Core.Path.{subst}
-use mathlib.Core.List.{List}
-use Rattle.protocol.specs.Pings.{pongStep}
-use Rattle.protocol.specs.Calls.{updateStep}
-use Rattle.station.specs.Actions.{actionOf, quietAction}
-use native.Mathlib.Omega.{arith}
-use mathlib.Core.Path.{_≡_, sym, ap, _∙_}
 use denote.Ref.{now}
 use lib.ListN.{length}
-use Rattle.protocol.specs.declared.Line.{Line}
-use Rattle.protocol.specs.Outcomes.{termsOf}
-use Rattle.station.specs.declared.lines.View.{View}
-use Rattle.station.proofs.CallLaws.{act-refused, act-ping, act-pong, act-update, act-query, act-hit, act-none, hit-line, line-is}
+use Rattle.protocol.specs.Lines.{lineIn}
+use Rattle.station.specs.Actions.{Fit}
+use Rattle.station.proofs.CallLaws.{
+  Other,
+  not-its,
+  afterPing,
+  afterPong,
+  afterUpdate,
+  afterQuery,
+  act-refused,
+  act-ping,
+  act-pong,
+  act-update,
+  act-query,
+  act-hit,
+  act-none,
+  line-is,
+}
 use borrow.Author.Needs.{needs}
 use Rattle.station.proofs.act.act.Statement.{statement}
 use Rattle.station.proofs.act.act.Tie as tie
 
-quietly-requires : tie.Need-quietly-requires
-quietly-requires c κs = search needs
+-- the record of the message's line, as it is read off the lines
+seen : (s : tie.Start) → s .args .v .line ≡ lineIn (s .args .lines) (s .args .l)
+seen s = line-is (s .args .lines) (s .args .room) (s .args .l) (s .pre .0 .1)
+
+-- where no first refusal is left: the areas fit, and each test leaves one type more behind
+abbrev start : tie.Else1 → tie.Start
+start c = c .before .before .before .before .before
+
+fits : (c : tie.Else1)
+    → (let a = start c .args in Fit (a .room) (a .h) (now (a .m)) (length (now (a .out))) (length (now (a .route))))
+fits c = start c .pre .1 (c .if1 .left)
+
+abbrev Left : tie.Else1 → List ℕ → Type 0
+Left c kinds = Other (start c .args .early) (start c .args .h) (now (start c .args .m)) kinds
+
+no-early : (c : tie.Else1) → Left c []
+no-early c = record { unrefused = c .if1 .left; header = fits c .message .header; others = tt }
+
+no-ping : (c : tie.Else2) → Left (c .before) afterPing
+no-ping c = not-its (no-early (c .before)) _ (c .if2 .left)
+
+no-pong : (c : tie.Else3) → Left (c .before .before) afterPong
+no-pong c = not-its (no-ping (c .before)) _ (c .if3 .left)
+
+no-update : (c : tie.Else4) → Left (c .before .before .before) afterUpdate
+no-update c = not-its (no-pong (c .before)) _ (c .if4 .left)
+
+no-query : (c : tie.Else5) → Left (c .before .before .before .before) afterQuery
+no-query c = not-its (no-update (c .before)) _ (c .if5 .left)
 
 returns : tie.Need-returns
 returns c =
-    let at-if1 = c .before in
-    let start = at-if1 .before .before .before .before .before in
-    let a = start .args in
-    let ex = line-is (a .lines) (a .room) (a .l) (start .pre .0 .1) in
-    act-refused (a .room) (a .lines) (a .l) (a .known) (now (a .m)) (termsOf (a .clock) (a .own) (length (now (a .out)))) (now (a .route)) (now (a .out)) (at-if1 .if1 .taken) (c .quietly .ensures ∙ ap (λ (x : Line). quietAction (a .early) x) ex)
+    let at = c .before in
+    act-refused _ _ _ _ _ _ _ _ (seen (at .before .before .before .before .before)) (at .if1 .taken)
+    (c .quietly .ensures)
 
 ping-step-requires : tie.Need-ping-step-requires
 ping-step-requires c κs =
-    let at-if1 = c .before .before in
-    let start = c .before .before .before .before .before .before .before in
-    let a = start .args in
-    let p = start .pre in
-    let f = p .1 (at-if1 .if1 .left) in
-    (f .message, (p .0 .0, line-is (a .lines) (a .room) (a .l) (p .0 .1), f .output))
-
-same-length : tie.Need-same-length
-same-length c = search needs
+    let at = c .before .before in
+    (fits at .message, (start at .pre .0 .0, seen (start at), fits at .output))
 
 returns-2 : tie.Need-returns-2
 returns-2 c =
-    let at-step = c .before .before in
-    let at-if2 = at-step .before .before in
-    let at-if1 = at-if2 .before in
-    let start = at-if1 .before .before .before .before .before in
-    let a = start .args in
-    let p = start .pre in
-    let ex = line-is (a .lines) (a .room) (a .l) (p .0 .1) in
-    let z = at-if1 .if1 .left in
-    let f = p .1 z in
-    act-ping (a .room) (a .lines) (a .l) (a .known) (now (a .m)) (termsOf (a .clock) (a .own) (length (now (a .out)))) (now (a .route)) (now (a .out)) z (a .h) (f .message .header) (at-if2 .if2 .taken) (at-step .ping-step .ensures)
+    let step = c .before .before in
+    let at = step .before .before in
+    act-ping _ _ _ _ _ _ _ _ (no-early (at .before)) (at .if2 .taken) (step .ping-step .ensures)
 
 pong-step-requires : tie.Need-pong-step-requires
-pong-step-requires c κs =
-    let at-if1 = c .before .before in
-    let start = c .before .before .before .before .before .before .before in
-    let a = start .args in
-    let p = start .pre in
-    let f = p .1 (at-if1 .if1 .left) in
-    f .message
+pong-step-requires c κs = fits (c .before .before) .message
 
 returns-3 : tie.Need-returns-3
 returns-3 c =
-    let at-if3 = c .before in
-    let at-if2 = at-if3 .before in
-    let at-if1 = at-if2 .before in
-    let start = at-if1 .before .before .before .before .before in
-    let a = start .args in
-    let p = start .pre in
-    let ex = line-is (a .lines) (a .room) (a .l) (p .0 .1) in
-    let z = at-if1 .if1 .left in
-    let f = p .1 z in
-    act-pong (a .room) (a .lines) (a .l) (a .known) (now (a .m)) (termsOf (a .clock) (a .own) (length (now (a .out)))) (now (a .route)) (now (a .out)) z (a .h) (f .message .header) (at-if2 .if2 .left) (at-if3 .if3 .taken)
-    (subst (λ (x : Line). (area : List ℕ) → c .pong-step .result ≡ actionOf (pongStep x (a .clock) (now (a .m)) area)) ex (c .pong-step .ensures))
+    let at = c .before in
+    act-pong _ _ _ _ _ _ _ _ (seen (start (at .before .before))) (no-ping (at .before)) (at .if3 .taken)
+    (c .pong-step .ensures)
 
 update-step-requires : tie.Need-update-step-requires
 update-step-requires c κs =
-    let at-if1 = c .before .before .before .before in
-    let start = c .before .before .before .before .before .before .before .before .before in
-    let a = start .args in
-    let p = start .pre in
-    let f = p .1 (at-if1 .if1 .left) in
-    record { message = f .message; eight = p .0 .0; rooms = f .rooms }
-
-same-length-2 : tie.Need-same-length-2
-same-length-2 c = search needs
+    let at = c .before .before .before .before in
+    record { message = fits at .message; eight = start at .pre .0 .0; rooms = fits at .rooms }
 
 returns-4 : tie.Need-returns-4
 returns-4 c =
-    let at-step = c .before .before in
-    let at-if4 = at-step .before .before in
-    let at-if3 = at-if4 .before in
-    let at-if2 = at-if3 .before in
-    let at-if1 = at-if2 .before in
-    let start = at-if1 .before .before .before .before .before in
-    let a = start .args in
-    let p = start .pre in
-    let ex = line-is (a .lines) (a .room) (a .l) (p .0 .1) in
-    let z = at-if1 .if1 .left in
-    let f = p .1 z in
-    act-update (a .room) (a .lines) (a .l) (a .known) (now (a .m)) (termsOf (a .clock) (a .own) (length (now (a .out)))) (now (a .route)) (now (a .out)) z (a .h) (f .message .header) (at-if2 .if2 .left) (at-if3 .if3 .left) (at-if4 .if4 .taken)
-    (at-step .update-step .ensures .0 ∙ ap (λ (x : Line). actionOf (updateStep (a .room) (a .l) x (now (a .m)) (now (a .route)))) ex)
-    (at-step .update-step .ensures .1 ∙ ap (λ (x : Line). updateStep (a .room) (a .l) x (now (a .m)) (now (a .route)) .route) ex)
+    let step = c .before .before in
+    let at = step .before .before in
+    act-update _ _ _ _ _ _ _ _ (seen (start (at .before .before .before))) (no-pong (at .before)) (at .if4 .taken)
+    (step .update-step .ensures .0) (step .update-step .ensures .1)
 
 query-step-requires : tie.Need-query-step-requires
 query-step-requires c κs =
-    let at-if1 = c .before .before .before .before .before .before in
-    let start = c .before .before .before .before .before .before .before .before .before .before .before in
-    let a = start .args in
-    let p = start .pre in
-    let f = p .1 (at-if1 .if1 .left) in
+    let before4 = c .before .before .before .before in
+    let f = fits (before4 .before .before) in
     record { message = f .message; kind′ = c .before .before .if5 .taken; output = f .output }
-
-same-length-3 : tie.Need-same-length-3
-same-length-3 c = search needs
-
-same-length-4 : tie.Need-same-length-4
-same-length-4 c = search needs
 
 returns-5 : tie.Need-returns-5
 returns-5 c =
-    let at-step = c .before .before in
-    let at-if5 = at-step .before .before .before in
-    let at-if4 = at-if5 .before in
-    let at-if3 = at-if4 .before in
-    let at-if2 = at-if3 .before in
-    let at-if1 = at-if2 .before in
-    let start = at-if1 .before .before .before .before .before in
-    let a = start .args in
-    let p = start .pre in
-    let ex = line-is (a .lines) (a .room) (a .l) (p .0 .1) in
-    let z = at-if1 .if1 .left in
-    let f = p .1 z in
-    act-query (a .room) (a .lines) (a .l) (a .known) (now (a .m)) (termsOf (a .clock) (a .own) (length (now (a .out)))) (now (a .route)) (now (a .out)) z (a .h) (f .message .header) (at-if2 .if2 .left) (at-if3 .if3 .left) (at-if4 .if4 .left) (at-if5 .if5 .taken)
-    (at-step .query-step .ensures (a .lines) (p .0 .1))
+    let step = c .before .before in
+    let at = step .before .before .before in
+    let s = start (at .before .before .before .before) in
+    act-query _ _ _ _ _ _ _ _ (no-update (at .before)) (at .if5 .taken)
+    (step .query-step .ensures (s .args .lines) (s .pre .0 .1))
 
 hit-step-requires : tie.Need-hit-step-requires
 hit-step-requires c κs =
-    let at-if1 = c .before .before .before .before .before .before in
-    let start = c .before .before .before .before .before .before .before .before .before .before .before in
-    let a = start .args in
-    let p = start .pre in
-    let f = p .1 (at-if1 .if1 .left) in
+    let before4 = c .before .before .before .before in
+    let f = fits (before4 .before .before) in
     record { message = f .message; kind′ = c .before .if6 .taken; output = f .output }
-
-same-length-5 : tie.Need-same-length-5
-same-length-5 c = search needs
 
 returns-6 : tie.Need-returns-6
 returns-6 c =
-    let at-step = c .before .before in
-    let at-if6 = at-step .before .before in
-    let at-if5 = at-if6 .before in
-    let at-if4 = at-if5 .before in
-    let at-if3 = at-if4 .before in
-    let at-if2 = at-if3 .before in
-    let at-if1 = at-if2 .before in
-    let start = at-if1 .before .before .before .before .before in
-    let a = start .args in
-    let p = start .pre in
-    let ex = line-is (a .lines) (a .room) (a .l) (p .0 .1) in
-    let z = at-if1 .if1 .left in
-    let f = p .1 z in
-    act-hit (a .room) (a .lines) (a .l) (a .known) (now (a .m)) (termsOf (a .clock) (a .own) (length (now (a .out)))) (now (a .route)) (now (a .out)) z (a .h) (f .message .header) (at-if2 .if2 .left) (at-if3 .if3 .left) (at-if4 .if4 .left) (at-if5 .if5 .left)
-    (at-if6 .if6 .taken)
-    (hit-line ex (a .known) (now (a .m)) (at-step .hit-step .ensures))
-
-quietly-requires-2 : tie.Need-quietly-requires-2
-quietly-requires-2 c κs = search needs
+    let step = c .before .before in
+    let at = step .before .before in
+    act-hit _ _ _ _ _ _ _ _ (seen (start (at .before .before .before .before .before))) (no-query (at .before))
+    (at .if6 .taken) (step .hit-step .ensures)
 
 returns-7 : tie.Need-returns-7
 returns-7 c =
-    let at-if6 = c .before in
-    let at-if5 = at-if6 .before in
-    let at-if4 = at-if5 .before in
-    let at-if3 = at-if4 .before in
-    let at-if2 = at-if3 .before in
-    let at-if1 = at-if2 .before in
-    let start = at-if1 .before .before .before .before .before in
-    let a = start .args in
-    let p = start .pre in
-    let ex = line-is (a .lines) (a .room) (a .l) (p .0 .1) in
-    let z = at-if1 .if1 .left in
-    let f = p .1 z in
-    act-none (a .room) (a .lines) (a .l) (a .known) (now (a .m)) (termsOf (a .clock) (a .own) (length (now (a .out)))) (now (a .route)) (now (a .out)) z (a .h) (f .message .header) (at-if2 .if2 .left) (at-if3 .if3 .left) (at-if4 .if4 .left) (at-if5 .if5 .left)
-    (at-if6 .if6 .left) (c .quietly2 .ensures ∙ ap (λ (x : Line). quietAction 7 x) ex)
+    let at = c .before in
+    act-none _ _ _ _ _ _ _ _ (seen (start (at .before .before .before .before .before)))
+    (not-its (no-query (at .before)) _ (at .if6 .left)) (c .quietly2 .ensures)
 
 pub act-spec : {M : Type 1} → statement M
 act-spec =
-    tie.close
-    (tie.spec
-    quietly-requires
-    returns
-    ping-step-requires
-    same-length
-    returns-2
-    pong-step-requires
-    returns-3
-    update-step-requires
-    same-length-2
-    returns-4
-    query-step-requires
-    same-length-3
-    same-length-4
-    returns-5
-    hit-step-requires
-    same-length-5
-    returns-6
-    quietly-requires-2
-    returns-7)
+    tie.close (tie.spec (λ c κs. search needs) returns
+    ping-step-requires (λ c. search needs) returns-2
+    pong-step-requires returns-3
+    update-step-requires (λ c. search needs) returns-4
+    query-step-requires (λ c. search needs) (λ c. search needs) returns-5
+    hit-step-requires (λ c. search needs) returns-6
+    (λ c κs. search needs) returns-7)

@@ -16,7 +16,8 @@ returns : tie.Need-returns
 returns c =
     let at-quiet = c .before in
     let a = at-quiet .before .before .before .before .args in
-    λ lines l ev. own-refused (a .limit) (a .answer) (a .room) lines l (a .v) ev (a .number) (now (a .text)) (now (a .route)) (now (a .out)) (c .if1 .taken) (at-quiet .quiet .ensures)
+    λ lines l ev. own-refused (a .limit) (a .answer) (a .room) lines l (a .v) ev (a .number) (now (a .text))
+    (now (a .route)) (now (a .out)) (c .if1 .taken) (at-quiet .quiet .ensures)
 
 passing-requires : tie.Need-passing-requires
 passing-requires c κs = search needs
@@ -30,7 +31,8 @@ returns-2 c =
     let at-if1 = at-any .before .before .before .before in
     let at-quiet = at-if1 .before in
     let a = at-quiet .before .before .before .before .args in
-    λ lines l ev. own-unsent (a .limit) (a .answer) (a .room) lines l (a .v) ev (a .number) (now (a .text)) (now (a .route)) (now (a .out)) (at-if1 .if1 .left)
+    λ lines l ev. own-unsent (a .limit) (a .answer) (a .room) lines l (a .v) ev (a .number) (now (a .text))
+    (now (a .route)) (now (a .out)) (at-if1 .if1 .left)
     (at-quiet .quiet .ensures) (at-any .before .passing .ensures)
     (sym (at-any .any-line .ensures) ∙ not-true (at-any .any-line .result) (c .if2 .taken))
 
@@ -51,11 +53,14 @@ returns-3 c =
     let a = start .args in
     let p = start .pre (at-if1 .if1 .left) in
     let sixteen : length (a .number) ≡ 16 = omega (arith, start .good .1 .1 .1 .1 .0) in
-    λ lines l ev. own-sent (a .limit) (a .answer) (a .room) lines l (a .v) ev (a .number) (now (a .text)) (now (a .route)) (now (a .out)) (at-if1 .if1 .left)
+    λ lines l ev. own-sent (a .limit) (a .answer) (a .room) lines l (a .v) ev (a .number) (now (a .text))
+    (now (a .route)) (now (a .out)) (at-if1 .if1 .left)
     (at-quiet .quiet .ensures) (at-any .before .passing .ensures)
     (sym (at-any .any-line .ensures) ∙ not-false (at-any .any-line .result) (at-if2 .if2 .left))
-    (own-counted (a .limit) (a .number) (now (a .text)) (now (a .out)) sixteen (p .0) (p .1) (at-own .own-query .ensures .0))
-    (own-written (a .limit) (a .number) (now (a .text)) (now (a .out)) sixteen (p .0) (p .1) (at-own .own-query .ensures .1))
+    (own-counted (a .limit) (a .number) (now (a .text)) (now (a .out)) sixteen (p .0) (p .1)
+    (at-own .own-query .ensures .0))
+    (own-written (a .limit) (a .number) (now (a .text)) (now (a .out)) sixteen (p .0) (p .1)
+    (at-own .own-query .ensures .1))
 
 pub send-own-spec : {M : Type 1} → statement M
 send-own-spec =

@@ -1,111 +1,63 @@
 -- Refused, delivered here, or passed on.
 use native.Mathlib.Omega.{arith}
-use Prim.Native.Nat.{_+_, _-_}
-use mathlib.Core.Path.{sym, ap, _∙_}
+use mathlib.Core.Path.{ap}
 use denote.Ref.{now}
 use Rattle.wire.specs.declared.Header.{Header}
-use Rattle.forwarding.specs.Messages.{passedInto}
-use Rattle.forwarding.proofs.MessageLaws.{hit-bytes}
-use Rattle.station.proofs.ActionLaws.{hit-goes, hit-refused, hit-here, hit-on, pass-bytes, pass-count}
+use Rattle.station.proofs.ActionLaws.{Goes, hit-goes, hit-refused, hit-here, hit-on}
 use borrow.Author.Needs.{needs}
 use Rattle.station.proofs.hits.hit_step.Statement.{statement}
 use Rattle.station.proofs.hits.hit_step.Tie as tie
 
-hit-requires : tie.Need-hit-requires
-hit-requires c κs = search needs
-
-quietly-requires : tie.Need-quietly-requires
-quietly-requires c κs = search needs
+-- where the hit's answer is told
+abbrev start : tie.After-hit → tie.Start
+start c = c .before .before .before
 
 returns : tie.Need-returns
 returns c =
-    let at-hit = c .before .before in
-    let start = at-hit .before .before .before in
-    let a = start .args in
-    λ area. hit-refused (a .line) (a .h) (a .known) (now (a .m)) area (now (a .out)) (start .pre .message .header) (at-hit .hit .ensures)
-    (c .before .if1 .taken) (c .quietly .ensures)
-
-quiet-requires : tie.Need-quiet-requires
-quiet-requires c κs = search needs
+    let told = c .before .before in
+    let a = start told .args in
+    λ area. hit-refused (a .line) (a .h) (a .known) (now (a .m)) area (now (a .out)) (start told .pre)
+    (told .hit .ensures) (c .before .if1 .taken) (c .quietly .ensures)
 
 returns-2 : tie.Need-returns-2
 returns-2 c =
-    let at-quiet = c .before in
-    let at-hit = at-quiet .before .before in
-    let start = at-hit .before .before .before in
-    let a = start .args in
-    λ area. hit-here (a .line) (a .h) (a .known) (now (a .m)) area (now (a .out)) (start .pre .message .header) (at-hit .hit .ensures)
-    (at-quiet .before .if1 .left) (at-quiet .quiet .ensures) (c .if2 .taken)
+    let told = c .before .before .before in
+    let a = start told .args in
+    λ area. hit-here (a .line) (a .h) (a .known) (now (a .m)) area (now (a .out)) (start told .pre) (told .hit .ensures)
+    (c .before .before .if1 .left) (c .before .quiet .ensures) (c .if2 .taken)
 
-cast-n : tie.Need-cast-n
-cast-n c = search needs
-
-add-n : tie.Need-add-n
-add-n c = search needs
-
-only-to-requires : tie.Need-only-to-requires
-only-to-requires c κs = search needs
+-- where it is to be passed on, its TTL and Hops allow it
+goes : (c : tie.Else2) → Goes (start (c .before .before .before) .args .h)
+goes c =
+    let told = c .before .before .before in
+    hit-goes (start told .args .h) (start told .args .known) (told .hit .ensures)
+    (c .before .before .if1 .left) (c .if2 .left)
 
 sub-pass-on : tie.Need-sub-pass-on
-sub-pass-on c =
-    let at-if2 = c .before .before .before in
-    let at-hit = at-if2 .before .before .before in
-    let a = at-hit .before .before .before .args in
-    let g = hit-goes (a .h) (a .known) (at-hit .hit .ensures) (at-if2 .before .before .if1 .left) (at-if2 .if2 .left) in
-    omega arith
+sub-pass-on c = omega (arith, goes (c .before .before .before) .lives)
 
 add-pass-on : tie.Need-add-pass-on
 add-pass-on c =
-    let at-if2 = c .before .before .before .before in
-    let at-hit = at-if2 .before .before .before in
-    let known = at-hit .before .before in
-    let start = known .before in
-    let a = start .args in
-    let g = hit-goes (a .h) (a .known) (at-hit .hit .ensures) (at-if2 .before .before .if1 .left) (at-if2 .if2 .left) in
-    omega (arith, g .rises, ap (λ (h : Header). h .hops) (start .pre .message .header), known .shared-slice-known .given 18)
-
-pass-on-requires : tie.Need-pass-on-requires
-pass-on-requires c κs = search needs
-
-same-length : tie.Need-same-length
-same-length c = search needs
+    let at = c .before .before .before .before in
+    let known = at .before .before .before .before .before in
+    let hops = ap (λ (h : Header). h .hops) (known .before .pre .message .header) in
+    omega (arith, goes at .rises, hops, known .shared-slice-known .given 18)
 
 returns-3 : tie.Need-returns-3
 returns-3 c =
-    let at-pass-on = c .before .before in
-    let at-only-to = at-pass-on .before .before .before .before in
-    let at-if2 = at-only-to .before .before in
-    let at-quiet = at-if2 .before in
-    let at-hit = at-quiet .before .before in
-    let known = at-hit .before .before in
-    let start = known .before in
-    let a = start .args in
-    let p = start .pre in
-    let m = now (a .m) in
-    let es = ap (λ (h : Header). h .size) (p .message .header) in
-    let eb = hit-bytes m (p .message .whole) (λ i. omega (arith, known .shared-slice-known .given i))
-    (sym (ap (λ (h : Header). h .kind) (p .message .header)) ∙ p .kind′) in
-    let et = ap (λ (h : Header). passedInto m (23 + a .h .size) (h .ttl - 1) (h .hops + 1) (now (a .out))) (p .message .header) in
-    λ area. hit-on (a .line) (a .h) (a .known) m area (now (a .out)) (p .message .header) (at-hit .hit .ensures)
-    (at-quiet .before .if1 .left) (at-quiet .quiet .ensures) (at-if2 .if2 .left)
-    (pass-count m (now (a .out)) (a .h .size) es (p .message .whole) (p .message .small) (p .output) _ _ eb (at-pass-on .pass-on .ensures .0))
-    (at-only-to .only-to .ensures)
-    (pass-bytes m (now (a .out)) (a .h .size) es (p .message .whole) (p .message .small) (p .output) _ _ eb (at-pass-on .pass-on .ensures .1 ∙ et))
+    let passed = c .before .before in
+    let to = passed .before .before .before .before in
+    let at = to .before .before in
+    let told = at .before .before .before in
+    let a = start told .args in
+    λ area. hit-on (a .line) (a .h) (a .known) (now (a .m)) area (now (a .out)) (start told .pre) (told .hit .ensures)
+    (at .before .before .if1 .left) (at .before .quiet .ensures) (at .if2 .left)
+    (λ i. omega (arith, told .before .before .shared-slice-known .given i))
+    (passed .pass-on .ensures .0) (to .only-to .ensures) (passed .pass-on .ensures .1)
 
 pub hit-step-spec : {M : Type 1} → statement M
 hit-step-spec =
     tie.close
-    (tie.spec
-    hit-requires
-    quietly-requires
-    returns
-    quiet-requires
-    returns-2
-    cast-n
-    add-n
-    only-to-requires
-    sub-pass-on
-    add-pass-on
-    pass-on-requires
-    same-length
-    returns-3)
+    (tie.spec (λ c κs. search needs) (λ c κs. search needs) returns (λ c κs. search needs) returns-2
+    (λ c. search needs) (λ c. search needs) (λ c κs. search needs) sub-pass-on add-pass-on (λ c κs. search needs)
+    (λ c. search needs) returns-3)

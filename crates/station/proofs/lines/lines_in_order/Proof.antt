@@ -37,9 +37,11 @@ returns c =
     let turn = at-line-in-order .before .before .before in
     let start = turn .before in
     sym
-    (sym (turn .loop .inv .1) ∙ all-from (lineInOrder (start .args .room)) (start .args .t1) (turn .loop .k) nowhere (omega arith) ∙ ap
+    (sym (turn .loop .inv .1) ∙ all-from (lineInOrder (start .args .room)) (start .args .t1) (turn .loop .k)
+    nowhere (omega arith) ∙ ap
     (λ b. b && all (lineInOrder (start .args .room)) (drop (turn .loop .k + 1) (start .args .t1)))
-    (sym (at-line-in-order .line-in-order .ensures) ∙ not-true (at-line-in-order .line-in-order .result) (c .if1 .taken)))
+    (sym (at-line-in-order .line-in-order .ensures) ∙ not-true (at-line-in-order .line-in-order .result)
+    (c .if1 .taken)))
 
 add-k : tie.Need-add-k Inv-loop μ-loop
 add-k c = search needs
@@ -54,13 +56,17 @@ loop-again c =
     let start = turn .before in (
       omega arith,
       sym
-          (sym (turn .loop .inv .1) ∙ all-from (lineInOrder (start .args .room)) (start .args .t1) (turn .loop .k) nowhere (omega arith) ∙ ap
+          (sym (turn .loop .inv .1) ∙ all-from (lineInOrder (start .args .room)) (start .args .t1) (turn .loop .k)
+          nowhere (omega arith) ∙ ap
           (λ b. b && all (lineInOrder (start .args .room)) (drop (turn .loop .k + 1) (start .args .t1)))
-          (sym (at-line-in-order .line-in-order .ensures) ∙ not-false (at-line-in-order .line-in-order .result) (c .if1 .left))),
+          (sym (at-line-in-order .line-in-order .ensures) ∙ not-false (at-line-in-order .line-in-order .result)
+          (c .if1 .left))),
     )
 
 returns-2 : tie.Need-returns-2 Inv-loop μ-loop
-returns-2 c = let past : length (c .before .before .args .t1) ≤ c .before .loop .k = omega arith in sym (ap (all (lineInOrder (c .before .before .args .room))) (drop-of-length-le (c .before .before .args .t1) past)) ∙ c .before .loop .inv .1
+returns-2 c = let past : length (c .before .before .args .t1) ≤ c .before .loop .k = omega arith in
+    sym (ap (all (lineInOrder (c .before .before .args .room))) (drop-of-length-le (c .before .before .args .t1) past))
+    ∙ c .before .loop .inv .1
 
 pub lines-in-order-spec : {M : Type 1} → statement M
 lines-in-order-spec =

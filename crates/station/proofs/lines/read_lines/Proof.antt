@@ -19,7 +19,11 @@ array-copy-out-line : tie.Need-array-copy-out-line
 array-copy-out-line c = search needs
 
 returns : tie.Need-returns
-returns c = cc (c .before .tables-of .ensures, c .before .before .lives .ensures, c .before .before .before .lines-in-order .ensures)
+returns c = cc (
+  c .before .tables-of .ensures,
+  c .before .before .lives .ensures,
+  c .before .before .before .lines-in-order .ensures,
+)
 
 pub read-lines-spec : {M : Type 1} → statement M
 read-lines-spec =

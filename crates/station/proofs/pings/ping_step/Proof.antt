@@ -17,7 +17,8 @@ returns c =
     let start = at-answer .before .before .before in
     let a = start .args in
     let p = start .pre in
-    λ area. ping-refused (a .lines) (a .l) (a .x) (p .1 .1) (a .h) (a .clock) (a .own) (now (a .m)) (now (a .out)) area (p .0) (p .1 .2)
+    λ area. ping-refused (a .lines) (a .l) (a .x) (p .1 .1) (a .h) (a .clock) (a .own) (now (a .m)) (now (a .out))
+    area (p .0) (p .1 .2)
     (at-answer .ping-answer .ensures) (c .before .if1 .taken) (c .quietly .ensures)
 
 is-probe-requires : tie.Need-is-probe-requires
@@ -53,9 +54,11 @@ returns-2 c =
     let start = at-answer .before .before .before in
     let a = start .args in
     let p = start .pre in
-    λ area. ping-done (a .lines) (a .l) (a .x) (p .1 .1) (a .h) (a .clock) (a .own) (now (a .m)) (now (a .out)) area (p .0) (p .1 .2)
+    λ area. ping-done (a .lines) (a .l) (a .x) (p .1 .1) (a .h) (a .clock) (a .own) (now (a .m)) (now (a .out))
+    area (p .0) (p .1 .2)
     (at-answer .ping-answer .ensures) (at-if1 .if1 .left) (at-number .number-of .ensures) (at-probe .is-probe .ensures)
-    (at-send .send-pongs .ensures .0) (at-send .send-pongs .ensures .1 .1) (at-back .back-to .ensures) (at-kept .time-kept .ensures)
+    (at-send .send-pongs .ensures .0) (at-send .send-pongs .ensures .1 .1) (at-back .back-to .ensures)
+    (at-kept .time-kept .ensures)
     (c .quiet .ensures)
 
 pub ping-step-spec : {M : Type 1} → statement M

@@ -19,7 +19,8 @@ returns c =
     let at-answer = c .before .before in
     let start = at-answer .before .before in
     let a = start .args in
-    λ area. pong-refused (a .x) (a .h) (a .clock) (now (a .m)) area (start .pre) (at-answer .pong-answer .ensures) (c .before .if1 .taken)
+    λ area. pong-refused (a .x) (a .h) (a .clock) (now (a .m)) area (start .pre) (at-answer .pong-answer .ensures)
+    (c .before .if1 .taken)
     (c .quietly .ensures)
 
 cast-n : tie.Need-cast-n
@@ -56,7 +57,8 @@ returns-2 c =
     let at-answer = at-if1 .before in
     let start = at-answer .before .before in
     let a = start .args in
-    λ area. pong-done (a .x) (a .h) (a .clock) (now (a .m)) area (start .pre) (at-answer .pong-answer .ensures) (at-if1 .if1 .left)
+    λ area. pong-done (a .x) (a .h) (a .clock) (now (a .m)) area (start .pre) (at-answer .pong-answer .ensures)
+    (at-if1 .if1 .left)
     (at-bytes .first-bytes .ensures) (at-store .store-pong .ensures) (c .quietly2 .ensures)
 
 pub pong-step-spec : {M : Type 1} → statement M

@@ -10,10 +10,20 @@ use Rattle.station.proofs.updates.update_step.Statement.{statement}
 use Rattle.station.proofs.updates.update_step.Tie as tie
 
 mul-start : tie.Need-mul-start
-mul-start c = let p = c .before .before .pre in omega (arith, part-within (c .before .before .args .l) (c .before .before .args .room) (length (now (c .before .before .args .route))) (p .eight) (p .rooms))
+mul-start c = let p = c .before .before .pre in
+    omega (
+      arith,
+      part-within (c .before .before .args .l) (c .before .before .args .room)
+          (length (now (c .before .before .args .route))) (p .eight) (p .rooms),
+    )
 
 add-end : tie.Need-add-end
-add-end c = let p = c .before .before .pre in omega (arith, part-within (c .before .before .args .l) (c .before .before .args .room) (length (now (c .before .before .args .route))) (p .eight) (p .rooms))
+add-end c = let p = c .before .before .pre in
+    omega (
+      arith,
+      part-within (c .before .before .args .l) (c .before .before .args .room)
+          (length (now (c .before .before .args .route))) (p .eight) (p .rooms),
+    )
 
 cast-n : tie.Need-cast-n
 cast-n c = search needs
@@ -28,7 +38,8 @@ part-update-start : tie.Need-part-update-start
 part-update-start c = search needs
 
 part-update-end : tie.Need-part-update-end
-part-update-end c = let p = c .before .before .before .before .pre in omega (arith, p .message .whole, ap (λ (h : Header). h .size) (p .message .header))
+part-update-end c = let p = c .before .before .before .before .pre in
+    omega (arith, p .message .whole, ap (λ (h : Header). h .size) (p .message .header))
 
 sub-update-2 : tie.Need-sub-update-2
 sub-update-2 c = search needs
@@ -37,7 +48,8 @@ part-update-start-2 : tie.Need-part-update-start-2
 part-update-start-2 c = search needs
 
 part-update-end-2 : tie.Need-part-update-end-2
-part-update-end-2 c = let s = c .before .before .before .before .before in part-within (s .args .l) (s .args .room) (length (now (s .args .route))) (s .pre .eight) (s .pre .rooms)
+part-update-end-2 c = let s = c .before .before .before .before .before in part-within (s .args .l) (s .args .room)
+    (length (now (s .args .route))) (s .pre .eight) (s .pre .rooms)
 
 update-requires : tie.Need-update-requires
 update-requires c κs = search needs
@@ -51,7 +63,8 @@ same-length c = search needs
 returns : tie.Need-returns
 returns c =
     let at-update = c .before .before .before .before in
-    let start = at-update .before .before .before .before .before .before .before in
+    let at-update4 = at-update .before .before .before .before in
+    let start = at-update4 .before .before .before in
     let a = start .args in
     let p = start .pre in
     update-done (a .room) (a .l) (a .x) (now (a .m)) (now (a .route))

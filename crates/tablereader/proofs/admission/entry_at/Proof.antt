@@ -28,7 +28,8 @@ returns-2 : tie.Need-returns-2
 returns-2 c =
     let x = c .before .before .before .before .args in
     rw (← c .before .before .scaled-place .ensures)
-    (sym (List·getD-eq-default (take (x .length) (x .part .now)) 0 (omega (arith, length-take (x .length) (x .part .now)))))
+    (sym (List·getD-eq-default (take (x .length) (x .part .now)) 0
+    (omega (arith, length-take (x .length) (x .part .now)))))
 
 pub entry-at-spec : {M : Type 1} → statement M
 entry-at-spec =

@@ -23,7 +23,9 @@ shared-slice-read-place c = search needs
 
 returns-3 : tie.Need-returns-3
 unfolding goodPatch
-returns-3 c = rw (le-leb _ _ (c .before .before .before .before .if1 .left), eq-eqb _ _ (c .before .before .if2 .left), lt-leb _ _ (c .if3 .taken))
+returns-3 c =
+    let before4 = c .before .before .before .before in
+    rw (le-leb _ _ (before4 .if1 .left), eq-eqb _ _ (c .before .before .if2 .left), lt-leb _ _ (c .if3 .taken))
 
 shared-slice-read-size : tie.Need-shared-slice-read-size
 shared-slice-read-size c = search needs
@@ -31,10 +33,11 @@ shared-slice-read-size c = search needs
 returns-4 : tie.Need-returns-4
 unfolding goodPatch
 returns-4 c =
+    let before4 = c .before .before .before .before in
     rw (
-      le-leb _ _ (c .before .before .before .before .before .before .if1 .left),
+      le-leb _ _ (before4 .before .before .if1 .left),
       eq-eqb _ _
-          (c .before .before .before .before .if2 .left),
+          (before4 .if2 .left),
       le-leb _ _ (c .before .before .if3 .left),
       lt-leb _ _ (c .if4 .taken),
     )
@@ -45,11 +48,12 @@ shared-slice-read-compressor c = search needs
 returns-5 : tie.Need-returns-5
 unfolding goodPatch
 returns-5 c =
+    let before4 = c .before .before .before .before in
     rw (
-      le-leb _ _ (c .before .before .before .before .before .before .before .before .if1 .left),
+      le-leb _ _ (before4 .before .before .before .before .if1 .left),
       eq-eqb _ _
-          (c .before .before .before .before .before .before .if2 .left),
-      le-leb _ _ (c .before .before .before .before .if3 .left),
+          (before4 .before .before .if2 .left),
+      le-leb _ _ (before4 .if3 .left),
       le-leb _ _
           (c .before .before .if4 .left),
       ne-eqb _ _ (c .if5 .taken),
@@ -64,18 +68,20 @@ good-bits-requires c κs = search needs
 returns-6 : tie.Need-returns-6
 unfolding goodPatch
 returns-6 c =
+    let before4 = c .before .before .before .before in
+    let before8 = before4 .before .before .before .before in
     rw (
-      le-leb _ _ (c .before .before .before .before .before .before .before .before .before .before .if1 .left),
+      le-leb _ _ (before8 .before .before .if1 .left),
       eq-eqb _ _
-          (c .before .before .before .before .before .before .before .before .if2 .left),
+          (before8 .if2 .left),
       le-leb _ _
-          (c .before .before .before .before .before .before .if3 .left),
-      le-leb _ _ (c .before .before .before .before .if4 .left),
+          (before4 .before .before .if3 .left),
+      le-leb _ _ (before4 .if4 .left),
       eq-eqb _ _
           (c .before .before .if5 .left),
     )
     (c .good-bits .ensures ∙ sym (and-true
-    (goodBits (bitsIn (c .before .before .before .before .before .before .before .before .before .before .before .before .args .payload .now)))))
+    (goodBits (bitsIn (before8 .before .before .before .before .args .payload .now)))))
 
 pub good-patch-spec : {M : Type 1} → statement M
 good-patch-spec =

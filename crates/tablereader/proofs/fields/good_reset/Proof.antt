@@ -32,7 +32,8 @@ returns-3 c =
       eq-eqb _ _ (c .before .before .before .before .before .if1 .left),
       eq-eqb _ _ (c .before .before .before .if2 .left),
       sym
-          (rw (c .before .before .length-in .ensures) at (c .before .good-length .ensures)) ∙ not-true _ (c .if3 .taken),
+          (rw (c .before .before .length-in .ensures) at (c .before .good-length .ensures))
+          ∙ not-true _ (c .if3 .taken),
     )
 
 cast-if4 : tie.Need-cast-if4
@@ -41,14 +42,16 @@ cast-if4 c = search needs
 returns-4 : tie.Need-returns-4
 unfolding goodReset
 returns-4 c =
+    let before4 = c .before .before .before .before in
+    let before8 = before4 .before .before .before .before in
     rw (
-      eq-eqb _ _ (c .before .before .before .before .before .before .if1 .left),
-      eq-eqb _ _ (c .before .before .before .before .if2 .left),
+      eq-eqb _ _ (before4 .before .before .if1 .left),
+      eq-eqb _ _ (before4 .if2 .left),
       sym
           (rw (c .before .before .before .length-in .ensures) at (c .before .before .good-length .ensures))
           ∙ not-false _ (c .before .if3 .left),
-      lt-leb (lengthIn (c .before .before .before .before .before .before .before .before .args .payload .now))
-          (c .before .before .before .before .before .before .before .before .args .room) (omega arith),
+      lt-leb (lengthIn (before8 .args .payload .now))
+          (before8 .args .room) (omega arith),
     )
 
 shared-slice-read-good-infinity : tie.Need-shared-slice-read-good-infinity
@@ -60,19 +63,21 @@ good-infinity-requires c κs = search needs
 returns-5 : tie.Need-returns-5
 unfolding goodReset
 returns-5 c =
+    let before4 = c .before .before .before .before in
+    let before8 = before4 .before .before .before .before in
     rw (
-      eq-eqb _ _ (c .before .before .before .before .before .before .before .before .if1 .left),
+      eq-eqb _ _ (before8 .if1 .left),
       eq-eqb _ _
-          (c .before .before .before .before .before .before .if2 .left),
+          (before4 .before .before .if2 .left),
       sym
-          (rw (c .before .before .before .before .before .length-in .ensures) at (c .before .before .before .before .good-length .ensures))
+          (rw (before4 .before .length-in .ensures) at (before4 .good-length .ensures))
           ∙ not-false _ (c .before .before .before .if3 .left),
       le-leb
-          (lengthIn (c .before .before .before .before .before .before .before .before .before .before .args .payload .now))
-          (c .before .before .before .before .before .before .before .before .before .before .args .room) (omega arith),
+          (lengthIn (before8 .before .before .args .payload .now))
+          (before8 .before .before .args .room) (omega arith),
     )
     (c .good-infinity .ensures ∙ sym
-    (and-true (goodInfinity (infinityIn (c .before .before .before .before .before .before .before .before .before .before .args .payload .now)))))
+    (and-true (goodInfinity (infinityIn (before8 .before .before .args .payload .now)))))
 
 pub good-reset-spec : {M : Type 1} → statement M
 good-reset-spec =

@@ -10,7 +10,9 @@ same-length : tie.Need-same-length
 same-length c = search needs
 
 returns : tie.Need-returns
-returns c = rw (c .before .before .before .before .if1 .taken) (c .before .before .add-nibbles .ensures)
+returns c =
+    let before4 = c .before .before .before .before in
+    rw (before4 .if1 .taken) (c .before .before .add-nibbles .ensures)
 
 add-bytes-requires : tie.Need-add-bytes-requires
 add-bytes-requires c κs =
@@ -26,11 +28,12 @@ same-length-2 c = search needs
 
 returns-2 : tie.Need-returns-2
 returns-2 c =
-    let x = c .before .before .before .before .before .before .before .args in
+    let before4 = c .before .before .before .before in
+    let x = before4 .before .before .before .args in
     rw (
-      numbers-whole (x .bits) (x .bytes .now) (c .before .before .before .before .if1 .left),
+      numbers-whole (x .bits) (x .bytes .now) (before4 .if1 .left),
       eight (x .bits)
-          (c .before .before .before .before .before .before .before .pre .0) (c .before .before .before .before .if1 .left),
+          (before4 .before .before .before .pre .0) (before4 .if1 .left),
     ) (c .before .before .add-bytes .ensures)
 
 pub add-all-spec : {M : Type 1} → statement M

@@ -24,19 +24,22 @@ slice-aggregate-add-bytes c = sym (length-take-le _ _ (omega (arith, c .before .
 
 add-bytes-requires : tie.Need-add-bytes-requires
 add-bytes-requires c κs =
-    let x = c .before .before .before .before .before .before .before .args in
+    let before4 = c .before .before .before .before in
+    let x = before4 .before .before .before .args in
     ap (λ l. allFit 8 255 l (x .entries .now)) (c .before .before .before .unpack .ensures)
     ∙ fit-widened 255 (numbers 4 (x .bytes .now)) (x .entries .now)
-    ∙ c .before .before .before .before .before .before .before .pre .1
+    ∙ before4 .before .before .before .pre .1
 
 same-length : tie.Need-same-length
 same-length c = search needs
 
 returns : tie.Need-returns
 returns c =
-    let x = c .before .before .before .before .before .before .before .before .before .before .args in
+    let before4 = c .before .before .before .before in
+    let before8 = before4 .before .before .before .before in
+    let x = before8 .before .before .args in
     c .before .before .add-bytes .ensures
-    ∙ ap (λ l. added 8 l (x .entries .now)) (c .before .before .before .before .before .before .unpack .ensures)
+    ∙ ap (λ l. added 8 l (x .entries .now)) (before4 .before .before .unpack .ensures)
     ∙ added-widened (numbers 4 (x .bytes .now)) (x .entries .now)
 
 pub add-block-spec : {M : Type 1} → statement M

@@ -37,8 +37,9 @@ loop-less c = search needs
 
 loop-again : tie.Need-loop-again Inv-loop μ-loop
 loop-again c =
-    let x = c .before .before .before .before .before .before .before .args in
-    let l = c .before .before .before .before .loop in
+    let before4 = c .before .before .before .before in
+    let x = before4 .before .before .before .args in
+    let l = before4 .loop in
     let ns = x .numbers .now in
     let fits = adding-fits 8 (l .j) ns (x .entries .now) (l .entries) (l .inv) (omega arith) in
     adding-more 8 (l .j) ns (x .entries .now) (l .entries) (l .inv) (c .sum-of .result) (omega arith)

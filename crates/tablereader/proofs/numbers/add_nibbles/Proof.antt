@@ -44,10 +44,12 @@ part-add-block-end-2 c = search needs
 
 add-block-requires : tie.Need-add-block-requires Inv-loop μ-loop
 add-block-requires c κs =
-    let x = c .before .before .before .before .before .before .before .args in
-    let l = c .before .before .before .before .loop in (
+    let before4 = c .before .before .before .before in
+    let x = before4 .before .before .before .args in
+    let l = before4 .loop in (
       simp (length-take, length-drop) (omega arith),
-      block-fits (l .at) (c .before .before .block-end .result) (x .bytes .now) (l .entries) (omega arith) (omega arith) (x .entries .now) (l .inv),
+      block-fits (l .at) (c .before .before .block-end .result) (x .bytes .now) (l .entries) (omega arith) (omega arith)
+          (x .entries .now) (l .inv),
     )
 
 loop-less : tie.Need-loop-less Inv-loop μ-loop
@@ -55,9 +57,11 @@ loop-less c = search needs
 
 loop-again : tie.Need-loop-again Inv-loop μ-loop
 loop-again c =
-    let x = c .before .before .before .before .before .before .before .before .before .before .args in
-    let l = c .before .before .before .before .before .before .before .loop in
-    block-added (l .at) (c .before .before .before .before .before .block-end .result) (x .bytes .now) (l .entries) (omega arith) (omega arith)
+    let before4 = c .before .before .before .before in
+    let before8 = before4 .before .before .before .before in
+    let x = before8 .before .before .args in
+    let l = before4 .before .before .before .loop in
+    block-added (l .at) (before4 .before .block-end .result) (x .bytes .now) (l .entries) (omega arith) (omega arith)
     (x .entries .now) (l .inv) (c .before .before .add-block .last .1 .0) (c .before .before .add-block .ensures)
 
 same-length : tie.Need-same-length Inv-loop μ-loop
@@ -67,7 +71,8 @@ returns : tie.Need-returns Inv-loop μ-loop
 returns c =
     let x = c .before .before .before .before .args in
     let l = c .before .loop in
-    adding-end 4 (l .at * 2) (numbers 4 (x .bytes .now)) (x .entries .now) (l .entries) (l .inv) (omega (arith, numbers-length 4 (x .bytes .now)))
+    adding-end 4 (l .at * 2) (numbers 4 (x .bytes .now)) (x .entries .now) (l .entries) (l .inv)
+    (omega (arith, numbers-length 4 (x .bytes .now)))
 
 pub add-nibbles-spec : {M : Type 1} → statement M
 add-nibbles-spec =

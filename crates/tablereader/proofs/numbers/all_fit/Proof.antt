@@ -15,7 +15,8 @@ returns c = rw (c .before .if1 .taken) (c .nibbles-fit .ensures)
 bytes-fit-requires : tie.Need-bytes-fit-requires
 bytes-fit-requires c κs =
     let x = c .before .before .before .args in
-    let h : length (x .bytes .now) * 1 ≤ length (x .entries .now) = rw (ne-eqb _ _ (c .if1 .left)) at (c .before .before .before .pre .1) in
+    let h : length (x .bytes .now) * 1 ≤ length (x .entries .now) = rw (ne-eqb _ _ (c .if1 .left))
+    at (c .before .before .before .pre .1) in
     omega arith
 
 returns-2 : tie.Need-returns-2

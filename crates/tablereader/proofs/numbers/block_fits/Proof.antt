@@ -28,7 +28,8 @@ bytes-fit-requires c κs = simp length-take (omega arith)
 
 returns : tie.Need-returns
 returns c =
-    let x = c .before .before .before .before .before .before .before .args in
+    let before4 = c .before .before .before .before in
+    let x = before4 .before .before .before .args in
     c .bytes-fit .ensures
     ∙ ap (λ l. allFit 8 (x .infinity) l (x .entries .now)) (c .before .before .before .unpack .ensures)
     ∙ fit-widened (x .infinity) (numbers 4 (x .bytes .now)) (x .entries .now)

@@ -14,7 +14,8 @@ use Rattle.tablereader.proofs.numbers.nibbles_fit.Tie as tie
 abbrev Inv-loop : tie.InvT-loop
 Inv-loop bytes entries infinity good₀ at₀ good at =
     (at ≤ length bytes)
-    × (allFit 4 infinity (numbers 4 bytes) entries ≡ (good && allFit 4 infinity (drop (at * 2) (numbers 4 bytes)) (drop (at * 2) entries)))
+    × (allFit 4 infinity (numbers 4 bytes) entries ≡ (good && allFit 4 infinity (drop (at * 2) (numbers 4 bytes))
+    (drop (at * 2) entries)))
 
 abbrev μ-loop : tie.MeasureT-loop
 μ-loop bytes entries infinity good₀ at₀ good at = length bytes - at
@@ -47,18 +48,21 @@ part-block-fits-end-2 : tie.Need-part-block-fits-end-2 Inv-loop μ-loop
 part-block-fits-end-2 c = search needs
 
 block-fits-requires : tie.Need-block-fits-requires Inv-loop μ-loop
-block-fits-requires c κs = (simp (length-take, length-drop) (omega arith), simp (length-take, length-drop) (omega arith))
+block-fits-requires c κs =
+    (simp (length-take, length-drop) (omega arith), simp (length-take, length-drop) (omega arith))
 
 loop-less : tie.Need-loop-less Inv-loop μ-loop
 loop-less c = search needs
 
 loop-again : tie.Need-loop-again Inv-loop μ-loop
 loop-again c =
-    let x = c .before .before .before .before .before .before .before .before .args in
-    let l = c .before .before .before .before .before .loop in (
+    let before4 = c .before .before .before .before in
+    let x = before4 .before .before .before .before .args in
+    let l = before4 .before .loop in (
       omega arith,
       l .inv .1
-          ∙ block-tested (l .at) (c .before .before .before .block-end .result) (x .bytes .now) (x .entries .now) (omega arith) (omega arith)
+          ∙ block-tested (l .at) (c .before .before .before .block-end .result) (x .bytes .now) (x .entries .now)
+          (omega arith) (omega arith)
           (x .infinity) (l .good) (c .block-fits .result) (c .block-fits .ensures),
     )
 
@@ -68,7 +72,8 @@ returns c =
     let l = c .before .loop in
     sym
     (l .inv .1
-    ∙ testing-end 4 (x .infinity) (l .at * 2) (numbers 4 (x .bytes .now)) (x .entries .now) (l .good) (omega (arith, numbers-length 4 (x .bytes .now))))
+    ∙ testing-end 4 (x .infinity) (l .at * 2) (numbers 4 (x .bytes .now)) (x .entries .now) (l .good)
+    (omega (arith, numbers-length 4 (x .bytes .now))))
 
 pub nibbles-fit-spec : {M : Type 1} → statement M
 nibbles-fit-spec =

@@ -9,13 +9,15 @@ sum-of-requires c κs = search needs
 returns : tie.Need-returns
 returns c =
     let x = c .before .before .args in
-    fits-adding (x .infinity) (x .number) (x .entry) (c .before .sum-of .result) (search needs) (search needs) (search needs)
+    fits-adding (x .infinity) (x .number) (x .entry) (c .before .sum-of .result) (search needs)
+    (search needs) (search needs)
     (c .before .sum-of .ensures) (c .if1 .taken)
 
 returns-2 : tie.Need-returns-2
 returns-2 c =
     let x = c .before .before .args in
-    fits-taking (x .infinity) (x .number) (x .entry) (c .before .sum-of .result) (search needs) (search needs) (search needs)
+    fits-taking (x .infinity) (x .number) (x .entry) (c .before .sum-of .result) (search needs)
+    (search needs) (search needs)
     (c .before .sum-of .ensures) (c .if1 .left)
 
 pub number-fits-spec : {M : Type 1} → statement M

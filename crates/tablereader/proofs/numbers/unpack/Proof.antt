@@ -47,9 +47,11 @@ loop-less c = search needs
 
 loop-again : tie.Need-loop-again Inv-loop μ-loop
 loop-again c =
-    let x = c .before .before .before .before .before .before .before .args in
-    let l = c .before .before .before .before .loop in
-    unpacking-more (x .bytes .now) (x .numbers .now) (l .numbers) (l .i) (l .inv) (c .before .as-byte .result) (c .as-byte2 .result)
+    let before4 = c .before .before .before .before in
+    let x = before4 .before .before .before .args in
+    let l = before4 .loop in
+    unpacking-more (x .bytes .now) (x .numbers .now) (l .numbers) (l .i) (l .inv) (c .before .as-byte .result)
+    (c .as-byte2 .result)
     (omega arith) (omega arith) (c .before .as-byte .ensures) (c .as-byte2 .ensures)
 
 same-length : tie.Need-same-length Inv-loop μ-loop

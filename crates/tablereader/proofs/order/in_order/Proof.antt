@@ -18,7 +18,10 @@ within-limits-requires c κs = search needs
 returns-2 : tie.Need-returns-2
 unfolding tableInOrder
 returns-2 c =
-    rw (le-leb _ _ (c .before .before .before .if1 .left), sym (c .before .before .takes-patch .ensures) ∙ c .before .if2 .taken) (c .within-limits .ensures)
+    rw (
+      le-leb _ _ (c .before .before .before .if1 .left),
+      sym (c .before .before .takes-patch .ensures) ∙ c .before .if2 .taken,
+    ) (c .within-limits .ensures)
 
 returns-3 : tie.Need-returns-3
 unfolding tableInOrder

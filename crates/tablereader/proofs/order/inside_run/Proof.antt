@@ -26,14 +26,15 @@ returns-3 c =
 
 returns-4 : tie.Need-returns-4
 returns-4 c =
+    let before4 = c .before .before .before .before in
     rw (
-      le-leb _ _ (c .before .before .before .before .before .if1 .left),
+      le-leb _ _ (before4 .before .if1 .left),
       le-leb _ _ (c .before .before .before .if2 .left),
       sym
           (c .before .before .good-bits .ensures) ∙ not-false _ (c .before .if3 .left),
     )
-    (sym (and-true (leb (c .before .before .before .before .before .before .before .args .table .nextentry)
-    (c .before .before .before .before .before .before .before .args .table .length))))
+    (sym (and-true (leb (before4 .before .before .before .args .table .nextentry)
+    (before4 .before .before .before .args .table .length))))
 
 pub inside-run-spec : {M : Type 1} → statement M
 inside-run-spec = tie.close (tie.spec returns returns-2 good-bits-requires returns-3 returns-4)

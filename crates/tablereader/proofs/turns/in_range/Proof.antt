@@ -29,24 +29,30 @@ part-all-fit-end : tie.Need-part-all-fit-end
 part-all-fit-end c = search needs
 
 sub-all-fit-2 : tie.Need-sub-all-fit-2
-sub-all-fit-2 c = let k = known (c .before .before .before .before .before .before) in omega arith
+sub-all-fit-2 c =
+    let before4 = c .before .before .before .before in
+    let k = known (before4 .before .before) in omega arith
 
 part-all-fit-start-2 : tie.Need-part-all-fit-start-2
-part-all-fit-start-2 c = let k = known (c .before .before .before .before .before .before) in omega arith
+part-all-fit-start-2 c =
+    let before4 = c .before .before .before .before in
+    let k = known (before4 .before .before) in omega arith
 
 part-all-fit-end-2 : tie.Need-part-all-fit-end-2
 part-all-fit-end-2 c = search needs
 
 all-fit-requires : tie.Need-all-fit-requires
 all-fit-requires c κs =
-    let s = c .before .before .before .before .before .before .before in
+    let before4 = c .before .before .before .before in
+    let s = before4 .before .before .before in
     let x = s .args in
     let n = c .before .before .entry-count in
     (known s .fields .width, lent-room (x .table) (x .payload .now) (x .part .now) (n .result) (n .ensures) (s .pre .1))
 
 returns : tie.Need-returns
 returns c =
-    let x = c .before .before .before .before .before .before .before .before .args in
+    let before4 = c .before .before .before .before in
+    let x = before4 .before .before .before .before .args in
     let n = c .before .before .before .entry-count in
     c .all-fit .ensures ∙ lent-range (x .table) (x .payload .now) (x .part .now) (n .result) (n .ensures)
 

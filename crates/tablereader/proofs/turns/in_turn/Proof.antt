@@ -24,7 +24,10 @@ returns c = rw (sym (c .before .takes-patch .ensures) ∙ not-true _ (c .if1 .ta
 
 returns-2 : tie.Need-returns-2
 unfolding inTurn
-returns-2 c = rw (sym (c .before .before .before .takes-patch .ensures) ∙ not-false _ (c .before .before .if1 .left), ne-eqb _ _ (c .if2 .taken))
+returns-2 c = rw (
+  sym (c .before .before .before .takes-patch .ensures) ∙ not-false _ (c .before .before .if1 .left),
+  ne-eqb _ _ (c .if2 .taken),
+)
 
 same-run-requires : tie.Need-same-run-requires
 same-run-requires c κs = search needs
@@ -58,13 +61,17 @@ ends-right-requires c κs = search needs
 returns-4 : tie.Need-returns-4
 unfolding inTurn
 returns-4 c =
-    let x = c .before .before .before .before .before .before .before .before .before .before .before .before .before .before .before .args in
-    turn-last (x .table) (x .payload .now) (x .part .now) (c .ends-right .result) (c .before .before .before .number-count .result)
+    let before4 = c .before .before .before .before in
+    let before8 = before4 .before .before .before .before in
+    let before12 = before8 .before .before .before .before in
+    let x = before12 .before .before .before .args in
+    turn-last (x .table) (x .payload .now) (x .part .now) (c .ends-right .result)
+    (c .before .before .before .number-count .result)
     (c .before .before .entry-count .result)
-    (sym (c .before .before .before .before .before .before .before .before .before .takes-patch .ensures)
-    ∙ not-false _ (c .before .before .before .before .before .before .before .before .if1 .left))
-    (c .before .before .before .before .before .before .if2 .left)
-    (sym (c .before .before .before .before .before .same-run .ensures) ∙ not-false _ (c .before .before .before .before .if3 .left))
+    (sym (before8 .before .takes-patch .ensures)
+    ∙ not-false _ (before8 .if1 .left))
+    (before4 .before .before .if2 .left)
+    (sym (before4 .before .same-run .ensures) ∙ not-false _ (before4 .if3 .left))
     (c .before .before .before .number-count .ensures)
     (c .before .before .entry-count .ensures)
     (c .ends-right .ensures)

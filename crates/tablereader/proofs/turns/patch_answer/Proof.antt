@@ -25,7 +25,8 @@ returns-2 : tie.Need-returns-2
 returns-2 c = rw (good (c .before .before), sym (c .before .in-turn .ensures) ∙ not-true _ (c .if2 .taken))
 
 turn : (c : tie.Else2)
-    → (let x = c .before .before .before .before .before .before .args in inTurn (heldIn (x .table) (x .part .now)) (x .payload .now)) ≡ true
+    → (let before4 = c .before .before .before .before in
+    let x = before4 .before .before .args in inTurn (heldIn (x .table) (x .part .now)) (x .payload .now)) ≡ true
 turn c = sym (c .before .in-turn .ensures) ∙ not-false _ (c .if2 .left)
 
 in-range-requires : tie.Need-in-range-requires

@@ -31,7 +31,8 @@ loop-again c =
     let v = c .before .loop .inv in
     let x = c .before .before .args in (
       omega arith,
-      ap (λ l. set l (c .before .loop .i) (x .v)) (v .1) ∙ fill-more (c .before .loop .i) (x .v) (x .part .now) (omega arith),
+      ap (λ l. set l (c .before .loop .i) (x .v)) (v .1) ∙ fill-more (c .before .loop .i) (x .v)
+          (x .part .now) (omega arith),
       simp length-set (v .2),
     )
 

@@ -10,14 +10,16 @@ use Rattle.tablereader.proofs.updates.patch.Tie as tie
 
 -- what an answer of 0 says, at hand
 passed : (c : tie.Else1) → Taken
-    (heldIn (c .before .before .before .before .before .args .table) (c .before .before .before .before .before .args .part .now))
+    (heldIn (c .before .before .before .before .before .args .table)
+    (c .before .before .before .before .before .args .part .now))
     (c .before .before .before .before .before .args .payload .now)
 passed c =
     let x = c .before .before .before .before .before .args in
     taken (heldIn (x .table) (x .part .now)) (x .payload .now) (sym (c .before .patch-answer .ensures) ∙ c .if1 .left)
 
 known : (c : tie.Else1) → Awaited (c .before .before .before .before .before .args .table)
-    (c .before .before .before .before .before .args .payload .now) (c .before .before .before .before .before .args .part .now)
+    (c .before .before .before .before .before .args .payload .now)
+    (c .before .before .before .before .before .args .part .now)
 known c =
     let x = c .before .before .before .before .before .args in
     awaited (x .table) (x .payload .now) (x .part .now) (passed c .fields) (passed c .turn)
@@ -33,9 +35,11 @@ same-length c = search needs
 
 returns : tie.Need-returns
 returns c =
-    let x = c .before .before .before .before .before .before .args in
+    let before4 = c .before .before .before .before in
+    let x = before4 .before .before .args in
     let a = c .before .before .patch-answer in
-    let d = patch-refused (x .table) (x .payload .now) (x .part .now) (a .result) (a .ensures) (c .before .if1 .taken) in
+    let d = patch-refused (x .table) (x .payload .now) (x .part .now) (a .result) (a .ensures)
+    (c .before .if1 .taken) in
     (c .refused .ensures ∙ d .result, d .entries)
 
 shared-slice-read-bits : tie.Need-shared-slice-read-bits
@@ -67,29 +71,36 @@ part-add-all-end-2 c = search needs
 
 add-all-requires : tie.Need-add-all-requires
 add-all-requires c κs =
-    let s = c .before .before .before .before .before in
-    let x = c .before .before .before .before .before .before .before .before .before .before .args in
+    let before4 = c .before .before .before .before in
+    let before8 = before4 .before .before .before .before in
+    let s = before4 .before in
+    let x = before8 .before .before .args in
     let n = c .before .before .entry-count in (
       known s .fields .width,
       lent-fit (x .table) (x .payload .now) (x .part .now) (n .result) (n .ensures)
-          (omega (arith, c .before .before .before .before .before .before .before .before .before .before .good .0)) (passed s .range),
+          (omega (arith, before8 .before .before .good .0)) (passed s .range),
     )
 
 moved-on-requires : tie.Need-moved-on-requires
 moved-on-requires c κs =
-    let s = c .before .before .before .before .before .before .before .before in
+    let before4 = c .before .before .before .before in
+    let before8 = before4 .before .before .before .before in
+    let s = before8 in
     let k = known s in
-    (passed s .fields, omega (arith, c .before .before .before .before .before .before .before .before .before .before .before .before .before .good .0))
+    (passed s .fields, omega (arith, before8 .before .before .before .before .before .good .0))
 
 same-length-2 : tie.Need-same-length-2
 same-length-2 c = search needs
 
 returns-2 : tie.Need-returns-2
 returns-2 c =
-    let s = c .before .before .before .before .before .before .before .before .before in
-    let x = c .before .before .before .before .before .before .before .before .before .before .before .before .before .before .args in
+    let before4 = c .before .before .before .before in
+    let before8 = before4 .before .before .before .before in
+    let before12 = before8 .before .before .before .before in
+    let s = before8 .before in
+    let x = before12 .before .before .args in
     let a = s .before .patch-answer in
-    let n = c .before .before .before .before .before .before .entry-count in
+    let n = before4 .before .before .entry-count in
     let y = c .before .before .before .add-all in
     let d =
     patch-taken (x .table) (x .payload .now) (x .part .now) (a .result) (a .ensures) (s .if1 .left)

@@ -9,10 +9,12 @@ use Rattle.tablereader.proofs.updates.reset.Statement.{statement}
 use Rattle.tablereader.proofs.updates.reset.Tie as tie
 
 -- what a good RESET has, at hand
-known : (c : tie.Else1) → ResetFields (length (c .before .before .before .before .args .part .now)) (c .before .before .before .before .args .payload .now)
+known : (c : tie.Else1) → ResetFields (length (c .before .before .before .before .args .part .now))
+    (c .before .before .before .before .args .payload .now)
 known c =
     let x = c .before .before .before .before .args in
-    reset-fields (length (x .part .now)) (x .payload .now) (sym (c .before .good-reset .ensures) ∙ not-false _ (c .if1 .left))
+    reset-fields (length (x .part .now)) (x .payload .now) (sym (c .before .good-reset .ensures)
+    ∙ not-false _ (c .if1 .left))
 
 good-reset-requires : tie.Need-good-reset-requires
 good-reset-requires c κs = search needs
@@ -23,7 +25,8 @@ refused-requires c κs = search needs
 returns : tie.Need-returns
 returns c =
     let x = c .before .before .before .before .before .args in
-    let d = reset-refused (x .table) (x .payload .now) (x .part .now) (sym (c .before .before .good-reset .ensures) ∙ not-true _ (c .before .if1 .taken)) in
+    let d = reset-refused (x .table) (x .payload .now) (x .part .now) (sym (c .before .before .good-reset .ensures)
+    ∙ not-true _ (c .before .if1 .taken)) in
     (c .refused .ensures ∙ d .result, d .entries)
 
 length-in-requires : tie.Need-length-in-requires
@@ -46,12 +49,15 @@ same-length c = search needs
 
 returns-2 : tie.Need-returns-2
 returns-2 c =
-    let s = c .before .before .before .before .before .before .before in
-    let x = c .before .before .before .before .before .before .before .before .before .before .before .args in
-    let l = c .before .before .before .before .before .before .length-in in
+    let before4 = c .before .before .before .before in
+    let before8 = before4 .before .before .before .before in
+    let s = before4 .before .before .before in
+    let x = before8 .before .before .before .args in
+    let l = before4 .before .before .length-in in
     let y = c .before .before .before .fill in
     let d =
-    reset-taken (x .table) (x .payload .now) (x .part .now) (sym (s .before .good-reset .ensures) ∙ not-false _ (s .if1 .left))
+    reset-taken (x .table) (x .payload .now) (x .part .now) (sym (s .before .good-reset .ensures)
+    ∙ not-false _ (s .if1 .left))
     (l .result) (c .at-rest .result) (y .last .0) (l .ensures) (c .at-rest .ensures) (y .ensures) in
     (d .result, d .entries)
 

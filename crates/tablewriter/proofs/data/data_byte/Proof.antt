@@ -16,14 +16,18 @@ mul-pair-byte c =
 pair-byte-requires : tie.Need-pair-byte-requires
 pair-byte-requires c κs =
     let x = c .before .before .before .args in
-    let p = c .before .before .before .pre in
-    (p .0 .like, p .0 .close (c .if1 .taken), omega (arith, small-length (x .plan) (x .old .now) (x .new .now) (p .0) (c .if1 .taken)))
+    let p = c .before .before .before .pre in (
+      p .0 .like,
+      p .0 .close (c .if1 .taken),
+      omega (arith, small-length (x .plan) (x .old .now) (x .new .now) (p .0) (c .if1 .taken)),
+    )
 
 returns : tie.Need-returns
 returns c =
     let x = c .before .before .before .before .args in
     let p = c .before .before .before .before .pre in
-    c .pair-byte .ensures ∙ sym (small-at (x .plan) (x .old .now) (x .new .now) (p .0) (c .before .if1 .taken) (x .j) (p .1))
+    c .pair-byte .ensures ∙ sym (small-at (x .plan) (x .old .now) (x .new .now) (p .0) (c .before .if1 .taken) (x .j)
+    (p .1))
 
 base-at-requires : tie.Need-base-at-requires
 base-at-requires c κs =
@@ -42,8 +46,9 @@ difference-requires c κs = search needs
 
 returns-2 : tie.Need-returns-2
 returns-2 c =
-    let x = c .before .before .before .before .before .before .args in
-    let p = c .before .before .before .before .before .before .pre in
+    let before4 = c .before .before .before .before in
+    let x = before4 .before .before .args in
+    let p = before4 .before .before .pre in
     c .difference .ensures
     ∙ ap (rawIn 256 (getD (x .new .now) (x .j) 0)) (c .before .before .base-at .ensures)
     ∙ sym (wide-at (x .plan) (x .old .now) (x .new .now) (p .0) (c .before .before .before .if1 .left) (x .j) (p .1))

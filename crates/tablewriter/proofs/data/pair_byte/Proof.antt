@@ -30,15 +30,16 @@ cast-result c = search needs
 
 returns : tie.Need-returns
 returns c =
-    let x = c .before .before .before .before .before .before .args in
-    let p = c .before .before .before .before .before .before .pre in
+    let before4 = c .before .before .before .before in
+    let x = before4 .before .before .args in
+    let p = before4 .before .before .pre in
     let new = x .new .now in
     let base = baseBy (x .plan) (x .old .now) new in
     let e = c .before .before .before .pair-at in
     let b = c .before .before .base-pair in
     pair-raw (getD new (x .i) 0) (getD new (x .i + 1) 0) (getD base (x .i) 0) (getD base (x .i + 1) 0)
     (e .result) (b .result) (c .before .low-bits .result) (c .low-bits2 .result)
-    (omega (arith, c .before .before .before .before .shared-slice-known2 .given (x .i)))
+    (omega (arith, before4 .shared-slice-known2 .given (x .i)))
     (b .ensures .1)
     (near-at new base (x .i) (p .0) (omega arith) (p .1))
     (near-at new base (x .i + 1) (p .0) (omega arith) (p .1))

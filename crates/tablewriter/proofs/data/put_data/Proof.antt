@@ -41,14 +41,16 @@ loop-less c = search needs
 
 loop-again : tie.Need-loop-again Inv-loop μ-loop
 loop-again c =
-    let x = c .before .before .before .before .before .before .args in
-    let p = c .before .before .before .before .before .before .pre in
+    let before4 = c .before .before .before .before in
+    let x = before4 .before .before .args in
+    let p = before4 .before .before .pre in
     let i = c .before .before .loop .i in
     let v = c .before .before .loop .inv in
     let d = dataBy (x .plan) (x .old .now) (x .new .now) in (
       omega arith,
       ap (λ a. set a i (c .data-byte .result)) (v .1)
-          ∙ ap (set (over 0 (take i (drop (x .from) d)) (x .part .now)) i) (c .data-byte .ensures ∙ sym (getD-drop (x .from) d i 0))
+          ∙ ap (set (over 0 (take i (drop (x .from) d)) (x .part .now)) i) (c .data-byte .ensures
+          ∙ sym (getD-drop (x .from) d i 0))
           ∙ byte-next (drop (x .from) d) (x .part .now) i (rw length-drop (omega arith)) (omega arith),
       simp length-set (v .2),
     )

@@ -35,7 +35,8 @@ good-infinity-requires c κs = search needs
 returns-3 : tie.Need-returns-3
 unfolding goodTable
 returns-3 c =
-    let x = c .before .before .before .before .before .before .args in
+    let before4 = c .before .before .before .before in
+    let x = before4 .before .before .args in
     let e : goodLength (length (x .entries .now)) ≡ true =
     sym (c .before .before .before .good-length .ensures) ∙ not-false _ (c .before .before .if2 .left) in
     let f : goodInfinity (x .infinity) ≡ false = sym (c .before .good-infinity .ensures) ∙ not-true _ (c .if3 .taken) in
@@ -47,10 +48,12 @@ in-range-requires c κs = search needs
 returns-4 : tie.Need-returns-4
 unfolding goodTable
 returns-4 c =
-    let x = c .before .before .before .before .before .before .before .args in
+    let before4 = c .before .before .before .before in
+    let x = before4 .before .before .before .args in
     let e : goodLength (length (x .entries .now)) ≡ true =
-    sym (c .before .before .before .before .good-length .ensures) ∙ not-false _ (c .before .before .before .if2 .left) in
-    let f : goodInfinity (x .infinity) ≡ true = sym (c .before .before .good-infinity .ensures) ∙ not-false _ (c .before .if3 .left) in
+    sym (before4 .good-length .ensures) ∙ not-false _ (c .before .before .before .if2 .left) in
+    let f : goodInfinity (x .infinity) ≡ true = sym (c .before .before .good-infinity .ensures)
+    ∙ not-false _ (c .before .if3 .left) in
     rw (e, f) (c .in-range .ensures)
 
 pub good-table-spec : {M : Type 1} → statement M

@@ -40,7 +40,8 @@ returns : tie.Need-returns Inv-loop μ-loop
 returns c =
     let x = c .before .before .args in
     let l = c .before .loop in
-    sym (l .inv .1 ∙ ap (λ t. l .good && t) (all-end (inRange (x .infinity)) (x .entries .now) (l .i) (omega arith)) ∙ and-true (l .good))
+    sym (l .inv .1 ∙ ap (λ t. l .good && t) (all-end (inRange (x .infinity)) (x .entries .now) (l .i) (omega arith))
+    ∙ and-true (l .good))
 
 pub in-range-spec : {M : Type 1} → statement M
 in-range-spec =

@@ -17,47 +17,58 @@ same-length c = search needs
 
 returns : tie.Need-returns
 returns c =
-    let x = c .before .before .before .before .before .before .before .before .args in
+    let before4 = c .before .before .before .before in
+    let x = before4 .before .before .before .before .args in
     c .before .before .put-run .ensures
-    ∙ ap (λ b. over 0 b (x .out .now)) (all-had (x .number) (x .plan) (x .old .now) (x .new .now) (c .before .before .before .before .if1 .taken))
+    ∙ ap (λ b. over 0 b (x .out .now)) (all-had (x .number) (x .plan) (x .old .now) (x .new .now) (before4 .if1 .taken))
 
 cast-put-reset : tie.Need-cast-put-reset
 cast-put-reset c = search needs
 
 put-reset-requires : tie.Need-put-reset-requires
-put-reset-requires c κs = omega (arith, ap resetLength (c .before .if1 .left), c .before .before .before .before .before .pre .reset)
+put-reset-requires c κs =
+    let before4 = c .before .before .before .before in
+    omega (arith, ap resetLength (c .before .if1 .left), before4 .before .pre .reset)
 
 sub-put-run : tie.Need-sub-put-run
 sub-put-run c =
-    omega (arith, ap resetLength (c .before .before .before .before .if1 .left), c .before .before .before .before .before .before .before .before .pre .reset)
+    let before4 = c .before .before .before .before in
+    omega (arith, ap resetLength (before4 .if1 .left), before4 .before .before .before .before .pre .reset)
 
 part-put-run-start : tie.Need-part-put-run-start
 part-put-run-start c =
-    omega (arith, ap resetLength (c .before .before .before .before .if1 .left), c .before .before .before .before .before .before .before .before .pre .reset)
+    let before4 = c .before .before .before .before in
+    omega (arith, ap resetLength (before4 .if1 .left), before4 .before .before .before .before .pre .reset)
 
 part-put-run-end : tie.Need-part-put-run-end
 part-put-run-end c = search needs
 
 put-run-requires-2 : tie.Need-put-run-requires-2
 put-run-requires-2 c κs =
-    let x = c .before .before .before .before .before .before .before .before .before .args in
-    let q = c .before .before .before .before .before .before .before .before .before .pre in
-    more-room (x .number) (x .plan) (x .old .now) (x .new .now) (length (x .out .now) - resetLength (x .plan .had)) _ (q .run)
-    (simp (length-take, length-drop) (omega (arith, ap resetLength (c .before .before .before .before .before .if1 .left))))
+    let before4 = c .before .before .before .before in
+    let before8 = before4 .before .before .before .before in
+    let x = before8 .before .args in
+    let q = before8 .before .pre in
+    more-room (x .number) (x .plan) (x .old .now) (x .new .now) (length (x .out .now) - resetLength (x .plan .had)) _
+    (q .run)
+    (simp (length-take, length-drop) (omega (arith, ap resetLength (before4 .before .if1 .left))))
 
 same-length-2 : tie.Need-same-length-2
 same-length-2 c = search needs
 
 returns-2 : tie.Need-returns-2
 returns-2 c =
-    let x = c .before .before .before .before .before .before .before .before .before .before .before .before .args in
-    let q = c .before .before .before .before .before .before .before .before .before .before .before .before .pre in
+    let before4 = c .before .before .before .before in
+    let before8 = before4 .before .before .before .before in
+    let before12 = before8 .before .before .before .before in
+    let x = before12 .args in
+    let q = before12 .pre in
     all-stored (x .number) (x .plan) (x .old .now) (x .new .now) (x .out .now)
-    (c .before .before .before .before .before .before .put-reset .last .1 .1 .1 .0) (c .before .before .put-run2 .last .1 .1 .1 .1 .0)
+    (before4 .before .before .put-reset .last .1 .1 .1 .0) (c .before .before .put-run2 .last .1 .1 .1 .1 .0)
     (omega arith)
-    (c .before .before .before .before .before .before .before .before .if1 .left)
-    (omega (arith, ap resetLength (c .before .before .before .before .before .before .before .before .if1 .left), q .reset, q .run .fits))
-    (c .before .before .before .before .before .before .put-reset .ensures)
+    (before8 .if1 .left)
+    (omega (arith, ap resetLength (before8 .if1 .left), q .reset, q .run .fits))
+    (before4 .before .before .put-reset .ensures)
     (c .before .before .put-run2 .ensures)
 
 pub put-all-spec : {M : Type 1} → statement M

@@ -1,4 +1,5 @@
--- Message after message: each carries what is left of the data, or as much as a message may, and stands behind the one before.
+-- Message after message: each carries what is left of the data, or as much as a message may, and stands behind the one
+-- before.
 use Prim.Native.Nat.{_+_, _-_, _≤_, _<_, min}
 use mathlib.Core.Path.{_≡_, ap, sym, _∙_}
 use native.Mathlib.Omega.{arith}
@@ -19,14 +20,18 @@ abbrev μ-loop : tie.MeasureT-loop
 
 -- what is known once the message's data is counted
 least : (c : tie.After-smaller Inv-loop μ-loop)
-    → let x = c .before .before .before .before .before .before .before .args in
-    c .smaller .result ≡ min (x .plan .size) (length (dataBy (x .plan) (x .old .now) (x .new .now)) - c .before .before .loop .from)
+    → let before4 = c .before .before .before .before in
+    let x = before4 .before .before .before .args in
+    c .smaller .result ≡ min (x .plan .size)
+    (length (dataBy (x .plan) (x .old .now) (x .new .now)) - c .before .before .loop .from)
 least c =
-    c .smaller .ensures ∙ ap (λ k. min (c .before .before .before .before .before .before .before .args .plan .size)
+    let before4 = c .before .before .before .before in
+    c .smaller .ensures ∙ ap (λ k. min (before4 .before .before .before .args .plan .size)
     (k - c .before .before .loop .from)) (c .before .before .loop .inv .0)
 
 bounds : (c : tie.After-smaller Inv-loop μ-loop)
-    → let x = c .before .before .before .before .before .before .before .args in
+    → let before4 = c .before .before .before .before in
+    let x = before4 .before .before .before .args in
     let i = c .before .before .loop in
     (i .at + 28 + c .smaller .result ≤ length (i .out))
     × (i .place ≤ x .plan .count)
@@ -34,18 +39,22 @@ bounds : (c : tie.After-smaller Inv-loop μ-loop)
     × (c .smaller .result ≤ 4091)
     × (0 < c .smaller .result)
 bounds c =
-    let x = c .before .before .before .before .before .before .before .args in
-    let q = c .before .before .before .before .before .before .before .pre in
+    let before4 = c .before .before .before .before in
+    let x = before4 .before .before .before .args in
+    let q = before4 .before .before .before .pre in
     let i = c .before .before .loop in
     let l = least c in
     let d = dataBy (x .plan) (x .old .now) (x .new .now) in
     let n = c .smaller .result in
     let m : i .from < length d = omega arith in
     let s : length (x .number) ≡ 16 = omega arith in
-    let r = turn-room (x .number) s (x .plan) (q .some) d (x .out .now) (i .out) (i .place) (i .from) (i .at) (i .inv .1) n m l in (
+    let r = turn-room (x .number) s (x .plan) (q .some) d (x .out .now) (i .out) (i .place) (i .from) (i .at)
+    (i .inv .1) n m l in (
       omega (arith, r, i .inv .1 .long, q .fits),
-      turn-place (x .number) s (x .plan) (q .some) d (x .out .now) (i .out) (i .place) (i .from) (i .at) (i .inv .1) n m l,
-      turn-data (x .number) s (x .plan) (q .some) d (x .out .now) (i .out) (i .place) (i .from) (i .at) (i .inv .1) n m l,
+      turn-place (x .number) s (x .plan) (q .some) d (x .out .now) (i .out) (i .place) (i .from)
+          (i .at) (i .inv .1) n m l,
+      turn-data (x .number) s (x .plan) (q .some) d (x .out .now) (i .out) (i .place) (i .from)
+          (i .at) (i .inv .1) n m l,
       omega (arith, q .most),
       omega (arith, q .some),
     )
@@ -87,11 +96,15 @@ part-put-patch-end c = bounds c .0
 
 put-patch-requires : tie.Need-put-patch-requires Inv-loop μ-loop
 put-patch-requires c κs =
+    let before4 = c .before .before .before .before in
+    let before8 = before4 .before .before .before .before in
     let b = bounds (c .before) in
-    (c .before .before .before .before .before .before .before .before .pre .sound, b .2, b .3, simp (length-take, length-drop) (omega (arith, b .0)))
+    (before8 .pre .sound, b .2, b .3, simp (length-take, length-drop) (omega (arith, b .0)))
 
 add-from : tie.Need-add-from Inv-loop μ-loop
-add-from c = omega (arith, bounds (c .before .before .before .before) .2, c .before .before .before .before .before .before .loop .inv .0)
+add-from c =
+    let before4 = c .before .before .before .before in
+    omega (arith, bounds (before4) .2, before4 .before .before .loop .inv .0)
 
 add-place : tie.Need-add-place Inv-loop μ-loop
 add-place c = omega (arith, bounds (c .before .before .before .before) .1)
@@ -101,16 +114,20 @@ loop-less c = omega (arith, bounds (c .before .before .before .before) .4)
 
 loop-again : tie.Need-loop-again Inv-loop μ-loop
 loop-again c =
-    let x = c .before .before .before .before .before .before .before .before .before .before .before .args in
-    let q = c .before .before .before .before .before .before .before .before .before .before .before .pre in
-    let i = c .before .before .before .before .before .before .loop in
-    let n = c .before .before .before .before .smaller .result in
-    let b = bounds (c .before .before .before .before) in
+    let before4 = c .before .before .before .before in
+    let before8 = before4 .before .before .before .before in
+    let x = before8 .before .before .before .args in
+    let q = before8 .before .before .before .pre in
+    let i = before4 .before .before .loop in
+    let n = before4 .smaller .result in
+    let b = bounds (before4) in
     let m : i .from < length (dataBy (x .plan) (x .old .now) (x .new .now)) = omega arith in (
       i .inv .0,
-      turn (x .number) (omega arith) (x .plan) (q .some) (dataBy (x .plan) (x .old .now) (x .new .now)) (x .out .now) (i .out) (i .place) (i .from)
+      turn (x .number) (omega arith) (x .plan) (q .some) (dataBy (x .plan) (x .old .now) (x .new .now)) (x .out .now)
+          (i .out) (i .place) (i .from)
           (i .at) (i .inv .1) n m
-          (least (c .before .before .before .before)) (i .at + 28 + n - i .at) _ (omega arith) (omega (arith, b .0)) (c .before .before .put-patch .ensures),
+          (least (before4)) (i .at + 28 + n - i .at) _ (omega arith) (omega (arith, b .0))
+          (c .before .before .put-patch .ensures),
     )
 
 same-length : tie.Need-same-length Inv-loop μ-loop
@@ -118,10 +135,12 @@ same-length c = c .before .loop .inv .1 .long
 
 returns : tie.Need-returns Inv-loop μ-loop
 returns c =
-    let x = c .before .before .before .before .before .before .args in
-    let q = c .before .before .before .before .before .before .pre in
+    let before4 = c .before .before .before .before in
+    let x = before4 .before .before .args in
+    let q = before4 .before .before .pre in
     let i = c .before .loop in
-    ends (x .number) (omega arith) (x .plan) (q .some) (dataBy (x .plan) (x .old .now) (x .new .now)) (x .out .now) (i .out) (i .place) (i .from)
+    ends (x .number) (omega arith) (x .plan) (q .some) (dataBy (x .plan) (x .old .now) (x .new .now)) (x .out .now)
+    (i .out) (i .place) (i .from)
     (i .at) (i .inv .1) (omega arith)
 
 pub put-run-spec : {M : Type 1} → statement M

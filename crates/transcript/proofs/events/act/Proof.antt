@@ -1,107 +1,79 @@
--- By the event's kind.
+-- By the event's kind: what the call ensures, with the line's record put in its place.
 use Rattle.laws.proofs.Parts.{part-tail}
 use Rattle.protocol.specs.Memory.{memoryOf}
 use Rattle.protocol.specs.State.{stationOf}
-use Rattle.transcript.proofs.Acting.{act-open, act-close, act-message}
+use Rattle.protocol.specs.Calls.{opening, closing}
+use Rattle.transcript.proofs.Acting.{
+  handed,
+  opening-quiet,
+  closing-quiet,
+  message-answered,
+  message-route,
+  act-open,
+  act-close,
+  act-message,
+}
 use borrow.Author.Needs.{needs}
 use Rattle.transcript.proofs.events.act.Statement.{statement}
 use Rattle.transcript.proofs.events.act.Tie as tie
 
-line-of-requires : tie.Need-line-of-requires
-line-of-requires c κs = search needs
-
-shared-slice-read-kind : tie.Need-shared-slice-read-kind
-shared-slice-read-kind c = search needs
-
-open-event-requires : tie.Need-open-event-requires
-open-event-requires c κs = search needs
-
 returns : tie.Need-returns
 returns c =
-    let at-if1 = c .before .before .before .before in
-    let at-line-of = at-if1 .before .before .before .before in
-    let a = at-line-of .before .before .before .before .args in
+    let at-call = c .before .before in
+    let at-if1 = at-call .before .before .before .before in
+    let at-line = at-if1 .before .before .before .before in
+    let a = at-line .before .before .before .before .args in
+    let l = at-line .line-of in
     let q = memoryOf (a .lo .now) (a .hi .now) (a .asker .now) (a .count .now) (a .next .now) in
     let s = stationOf (a .room) (a .lines) q in
-    act-open s (a .route .now) (a .event .now) (at-line-of .line-of .result) (at-line-of .line-of .ensures)
-    (at-if1 .if1 .taken) (c .open-event .ensures)
-
-close-event-requires : tie.Need-close-event-requires
-close-event-requires c κs = search needs
+    act-open s (a .route .now) (a .event .now) (l .result) (l .ensures) (at-if1 .if1 .taken)
+    (handed (a .lines) (l .result) (at-call .lunozhar-open-lent .result .line) (opening s (l .result))
+    (at-call .lunozhar-open-lent .ensures) (opening-quiet s (l .result)) (c .hand-on .ensures))
 
 returns-2 : tie.Need-returns-2
 returns-2 c =
-    let at-if2 = c .before .before .before .before in
+    let at-call = c .before .before in
+    let at-if2 = at-call .before .before .before .before in
     let at-if1 = at-if2 .before in
-    let at-line-of = at-if1 .before .before .before .before in
-    let a = at-line-of .before .before .before .before .args in
+    let at-line = at-if1 .before .before .before .before in
+    let a = at-line .before .before .before .before .args in
+    let l = at-line .line-of in
     let q = memoryOf (a .lo .now) (a .hi .now) (a .asker .now) (a .count .now) (a .next .now) in
     let s = stationOf (a .room) (a .lines) q in
-    act-close s (a .route .now) (a .event .now) (at-line-of .line-of .result) (at-line-of .line-of .ensures)
-    (at-if1 .if1 .left) (at-if2 .if2 .taken) (c .close-event .ensures)
-
-sub-little4 : tie.Need-sub-little4
-sub-little4 c = search needs
-
-part-little4-start : tie.Need-part-little4-start
-part-little4-start c = search needs
-
-part-little4-end : tie.Need-part-little4-end
-part-little4-end c = search needs
-
-little4-requires : tie.Need-little4-requires
-little4-requires c κs = search needs
-
-sub-message-event : tie.Need-sub-message-event
-sub-message-event c = search needs
-
-part-message-event-start : tie.Need-part-message-event-start
-part-message-event-start c = search needs
-
-part-message-event-end : tie.Need-part-message-event-end
-part-message-event-end c = search needs
-
-message-event-requires : tie.Need-message-event-requires
-message-event-requires c κs = search needs
-
-same-length : tie.Need-same-length
-same-length c = search needs
-
-same-length-2 : tie.Need-same-length-2
-same-length-2 c = search needs
+    act-close s (a .route .now) (a .event .now) (l .result) (l .ensures) (at-if1 .if1 .left) (at-if2 .if2 .taken)
+    (handed (a .lines) (l .result) (at-call .lunozhar-close-lent .result .line) (closing s (l .result))
+    (at-call .lunozhar-close-lent .ensures) (closing-quiet s (l .result)) (c .hand-on2 .ensures))
 
 returns-3 : tie.Need-returns-3
 returns-3 c =
-    let at-message-event = c .before .before .before .before in
-    let at-little4 = at-message-event .before .before .before .before .before .before .before .before .before in
-    let at-if2 = at-little4 .before .before in
+    let before4 = c .before .before .before .before in
+    let at-call = before4 .before .before .before .before in
+    let at-call4 = at-call .before .before .before .before in
+    let at-own = at-call4 .before .before .before .before .before in
+    let at-clock = at-own .before in
+    let at-if2 = at-clock .before .before in
     let at-if1 = at-if2 .before in
-    let at-line-of = at-if1 .before .before .before .before in
-    let a = at-line-of .before .before .before .before .args in
+    let at-line = at-if1 .before .before .before .before in
+    let start = at-line .before .before .before .before in
+    let a = start .args in
+    let l = at-line .line-of in
     let q = memoryOf (a .lo .now) (a .hi .now) (a .asker .now) (a .count .now) (a .next .now) in
     let s = stationOf (a .room) (a .lines) q in
-    act-message s (a .route .now) (a .event .now) (at-line-of .line-of .result) (at-line-of .line-of .ensures)
-    (at-if1 .if1 .left) (at-if2 .if2 .left) (rw part-tail at (at-little4 .little4 .ensures)) (part-tail 6 (a .event .now))
-    (at-message-event .message-event .ensures .0) (at-message-event .message-event .ensures .1)
+    let x = at-call .lunozhar-message-lent .result .line in
+    let clock = at-clock .little4 .result in
+    let own = at-own .own-pong .ensures in
+    let met = at-call .lunozhar-message-lent .ensures in
+    act-message s (a .route .now) (a .event .now) (l .result) (l .ensures) (at-if1 .if1 .left) (at-if2 .if2 .left)
+    (rw part-tail at (at-clock .little4 .ensures)) (part-tail 6 (a .event .now))
+    (message-answered s (a .lines) (l .result) clock _ (a .area .now) (a .route .now) own (start .pre .0) x met
+    (c .hand-on3 .ensures))
+    (message-route s (a .lines) (l .result) clock _ (a .area .now) (a .route .now) own (start .pre .0) x met)
 
 pub act-spec : {M : Type 1} → statement M
 act-spec =
     tie.close
-    (tie.spec
-    line-of-requires
-    shared-slice-read-kind
-    open-event-requires
-    returns
-    close-event-requires
-    returns-2
-    sub-little4
-    part-little4-start
-    part-little4-end
-    little4-requires
-    sub-message-event
-    part-message-event-start
-    part-message-event-end
-    message-event-requires
-    same-length
-    same-length-2
-    returns-3)
+    (tie.spec (λ c κs. search needs) (λ c. search needs) (λ c κs. search needs) (λ c κs. search needs) returns
+    (λ c κs. search needs) (λ c κs. search needs) returns-2
+    (λ c. search needs) (λ c. search needs) (λ c. search needs) (λ c κs. search needs) (λ c κs. search needs)
+    (λ c. search needs) (λ c. search needs) (λ c. search needs) (λ c κs. search needs) (λ c κs. search needs)
+    (λ c. search needs) (λ c. search needs) returns-3)

@@ -1,3 +1,4 @@
+-- The events gone through are good; those left decide.
 use borrow.Author.Tests.{not-true, not-false}
 use mathlib.Core.Path.{sym, _∙_}
 use Rattle.transcript.proofs.Reading.{Tested, tested-start, tested-bad, tested-on, tested-end}
@@ -15,34 +16,22 @@ abbrev μ-loop : tie.MeasureT-loop
 loop-holds : tie.Need-loop-holds Inv-loop μ-loop
 loop-holds c = tested-start (c .before .args .file .now) (c .before .args .n)
 
-good-event-requires : tie.Need-good-event-requires Inv-loop μ-loop
-good-event-requires c κs = search needs
-
 returns : tie.Need-returns Inv-loop μ-loop
-returns c = tested-bad (c .before .before .before .before .before .args .file .now) (c .before .before .before .before .before .args .n) (c .before .before .before .loop .i) (c .before .before .before .loop .inv) (c .before .before .loop-test .taken) (sym (c .before .good-event .ensures) ∙ not-true _ (c .if1 .taken))
-
-add-i : tie.Need-add-i Inv-loop μ-loop
-add-i c = search needs
-
-loop-less : tie.Need-loop-less Inv-loop μ-loop
-loop-less c = search needs
+returns c =
+    let turn = c .before .before in
+    tested-bad (turn .before .loop .inv) (turn .loop-test .taken) (sym (c .before .good-event .ensures)
+    ∙ not-true _ (c .if1 .taken))
 
 loop-again : tie.Need-loop-again Inv-loop μ-loop
-loop-again c = tested-on (c .before .before .before .before .before .args .file .now) (c .before .before .before .before .before .args .n) (c .before .before .before .loop .i) (c .before .before .before .loop .inv) (c .before .before .loop-test .taken) (sym (c .before .good-event .ensures) ∙ not-false _ (c .if1 .left))
+loop-again c =
+    let turn = c .before .before in
+    tested-on (turn .before .loop .inv) (turn .loop-test .taken) (sym (c .before .good-event .ensures)
+    ∙ not-false _ (c .if1 .left))
 
 returns-2 : tie.Need-returns-2 Inv-loop μ-loop
-returns-2 c = tested-end (c .before .before .before .args .file .now) (c .before .before .before .args .n) (c .before .loop .i) (c .before .loop .inv) (c .loop-test .left)
+returns-2 c = tested-end (c .before .loop .inv) (c .loop-test .left)
 
 pub good-events-spec : {M : Type 1} → statement M
-good-events-spec =
-    tie.close
-    (tie.spec
-    Inv-loop
-    μ-loop
-    loop-holds
-    good-event-requires
-    returns
-    add-i
-    loop-less
-    loop-again
+good-events-spec = tie.close (tie.spec
+    Inv-loop μ-loop loop-holds (λ c κs. search needs) returns (λ c. search needs) (λ c. search needs) loop-again
     returns-2)

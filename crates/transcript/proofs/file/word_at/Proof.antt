@@ -3,25 +3,10 @@ use borrow.Author.Needs.{needs}
 use Rattle.transcript.proofs.file.word_at.Statement.{statement}
 use Rattle.transcript.proofs.file.word_at.Tie as tie
 
-sub-little4 : tie.Need-sub-little4
-sub-little4 c = search needs
-
-part-little4-start : tie.Need-part-little4-start
-part-little4-start c = search needs
-
-part-little4-end : tie.Need-part-little4-end
-part-little4-end c = search needs
-
-little4-requires : tie.Need-little4-requires
-little4-requires c κs = search needs
-
-cast-result : tie.Need-cast-result
-cast-result c = search needs
-
 returns : tie.Need-returns
 returns c = (rw part-tail at (c .little4 .ensures), search needs)
 
 pub word-at-spec : {M : Type 1} → statement M
-word-at-spec =
-    tie.close
-    (tie.spec sub-little4 part-little4-start part-little4-end little4-requires cast-result returns)
+word-at-spec = tie.close (tie.spec
+    (λ c. search needs) (λ c. search needs) (λ c. search needs) (λ c κs. search needs) (λ c. search needs)
+    returns)

@@ -33,7 +33,8 @@ loop-again : tie.Need-loop-again Inv-loop μ-loop
 loop-again c =
     let args = c .before .before .before .args in
     let loop = c .before .before .loop in
-    copying-on (args .text .now) (args .out .now) (args .at) (loop .out) (loop .i) (loop .inv) (c .before .before .before .pre) (c .before .loop-test .taken)
+    copying-on (args .text .now) (args .out .now) (args .at) (loop .out) (loop .i) (loop .inv)
+    (c .before .before .before .pre) (c .before .loop-test .taken)
 
 add-result : tie.Need-add-result Inv-loop μ-loop
 add-result c = search needs

@@ -1,11 +1,11 @@
 -- The loop over the events; what each leaves is what the next begins with.
-use Prim.Native.Nat.{_-_}
+use Prim.Native.Nat.{_+_, _-_, _≤_, _<_}
 use mathlib.Core.Path.{sym, _∙_}
 use native.Mathlib.Omega.{arith}
 use Rattle.protocol.specs.Memory.{memoryOf}
 use Rattle.protocol.specs.State.{stationOf}
 use Rattle.transcript.proofs.Writing.{Rows, rows-start, rows-on, rows-end}
-use Rattle.transcript.proofs.Writing.{part-rises, part-within, part-size, part-event}
+use Rattle.transcript.proofs.Writing.{Part, part-rises, part-within, part-size, part-event}
 use borrow.Author.Needs.{needs}
 use Rattle.transcript.proofs.text.put_rows.Statement.{statement}
 use Rattle.transcript.proofs.text.put_rows.Tie as tie
@@ -30,111 +30,97 @@ loop-holds c =
     (start .pre)
 
 offset-requires : tie.Need-offset-requires Inv-loop μ-loop
-offset-requires c κs = omega (arith, c .before .before .before .before .before .before .pre .offsets, c .loop-test .taken)
-
-add-offset : tie.Need-add-offset Inv-loop μ-loop
-add-offset c = search needs
+offset-requires c κs =
+    let before4 = c .before .before .before .before in
+    omega (arith, before4 .before .before .pre .offsets, c .loop-test .taken)
 
 offset-requires-2 : tie.Need-offset-requires-2 Inv-loop μ-loop
 offset-requires-2 c κs =
     let at-loop-test = c .before in
-    omega (arith, at-loop-test .before .before .before .before .before .before .pre .offsets, at-loop-test .loop-test .taken)
+    let at-start = at-loop-test .before .before .before .before in
+    omega (arith, at-start .before .before .pre .offsets, at-loop-test .loop-test .taken)
+
+-- once both its offsets are read: the event's part of the file, and the loop's turn
+abbrev turn-of : tie.After-offset2 Inv-loop μ-loop → tie.At-loop Inv-loop μ-loop
+turn-of o = o .before .before .before
+
+abbrev start-of : tie.At-loop Inv-loop μ-loop → tie.Start Inv-loop μ-loop
+start-of l = l .before .before .before .before .before
+
+part : (o : tie.After-offset2 Inv-loop μ-loop)
+    → Part (start-of (turn-of o) .args .file .now) (start-of (turn-of o) .args .n) (turn-of o .loop .i)
+    (o .before .offset .result) (o .offset2 .result)
+part o = record {
+  more = o .before .before .loop-test .taken;
+  starts = o .before .offset .ensures .0;
+  ends = o .offset2 .ensures .0;
+}
+
+rises : (o : tie.After-offset2 Inv-loop μ-loop) → o .before .offset .result + 6 ≤ o .offset2 .result
+rises o = part-rises (turn-of o .loop .inv) (part o)
 
 sub-act : tie.Need-sub-act Inv-loop μ-loop
-sub-act c =
-    let at-offset2 = c .before .before .before .before .before in
-    let at-offset = at-offset2 .before in
-    let at-loop-test = at-offset .before in
-    let turn = at-loop-test .before in
-    omega (
-      arith,
-      part-rises (turn .loop .inv) (at-loop-test .loop-test .taken) (at-offset .offset .ensures .0)
-          (at-offset2 .offset2 .ensures .0),
-    )
+sub-act c = omega (arith, rises (c .before .before .before .before .before))
 
 part-act-start : tie.Need-part-act-start Inv-loop μ-loop
-part-act-start c =
-    let at-offset2 = c .before .before .before .before .before in
-    let at-offset = at-offset2 .before in
-    let at-loop-test = at-offset .before in
-    let turn = at-loop-test .before in
-    omega (
-      arith,
-      part-rises (turn .loop .inv) (at-loop-test .loop-test .taken) (at-offset .offset .ensures .0)
-          (at-offset2 .offset2 .ensures .0),
-    )
+part-act-start c = omega (arith, rises (c .before .before .before .before .before))
 
 part-act-end : tie.Need-part-act-end Inv-loop μ-loop
-part-act-end c =
-    let at-offset2 = c .before .before .before .before .before in
-    let at-offset = at-offset2 .before in
-    let at-loop-test = at-offset .before in
-    let turn = at-loop-test .before in
-    part-within (turn .loop .inv) (at-loop-test .loop-test .taken) (at-offset .offset .ensures .0)
-    (at-offset2 .offset2 .ensures .0)
+part-act-end c = let o = c .before .before .before .before .before in part-within (turn-of o .loop .inv) (part o)
 
 act-requires : tie.Need-act-requires Inv-loop μ-loop
 act-requires c κs =
-    let at-offset2 = c .before .before .before .before .before .before .before .before in
-    let at-offset = at-offset2 .before in
-    let at-loop-test = at-offset .before in
-    let turn = at-loop-test .before in (
-      turn .loop .inv .output,
-      part-size (turn .loop .inv) (at-loop-test .loop-test .taken) (at-offset .offset .ensures .0)
-          (at-offset2 .offset2 .ensures .0),
-    )
+    let before4 = c .before .before .before .before in
+    let o = before4 .before .before .before .before in
+    (turn-of o .loop .inv .output, part-size (turn-of o .loop .inv) (part o))
+
+-- the turn in which the event was acted on
+abbrev test-of : tie.After-act Inv-loop μ-loop → tie.In-loop Inv-loop μ-loop
+test-of a =
+    let before4 = a .before .before .before .before in
+    let before8 = before4 .before .before .before .before in
+    before8 .before .before .before
+
+-- a file has fewer events than 16 bits count
+few : (t : tie.In-loop Inv-loop μ-loop) → t .before .loop .i < 8192
+few t = omega (arith, start-of (t .before) .pre .offsets, start-of (t .before) .pre .short, t .loop-test .taken)
 
 cast-put-row : tie.Need-cast-put-row Inv-loop μ-loop
 cast-put-row c =
-    let at-act = c .before .before .before .before .before .before in
-    let at-loop-test = at-act .before .before .before .before .before .before .before .before .before .before .before in
-    let turn = at-loop-test .before in
-    let start = turn .before .before .before .before .before in
-    omega (arith, start .pre .offsets, start .pre .short, at-loop-test .loop-test .taken)
+    let before4 = c .before .before .before .before in
+    omega (arith, few (test-of (before4 .before .before)))
 
 put-row-requires : tie.Need-put-row-requires Inv-loop μ-loop
 put-row-requires c κs =
-    let at-act = c .before .before .before .before .before .before in
-    let at-loop-test = at-act .before .before .before .before .before .before .before .before .before .before .before in
-    let turn = at-loop-test .before in
-    let start = turn .before .before .before .before .before in
-    omega (
-      arith,
-      start .pre .room,
-      turn .loop .inv .near,
-      turn .loop .inv .rest .size,
-      at-loop-test .loop-test .taken,
-    )
+    let before4 = c .before .before .before .before in
+    let t = test-of (before4 .before .before) in
+    let inv = t .before .loop .inv in
+    omega (arith, start-of (t .before) .pre .room, inv .near, inv .rest .size, t .loop-test .taken)
 
 add-i : tie.Need-add-i Inv-loop μ-loop
 add-i c =
-    let at-act = c .before .before .before .before .before .before .before .before .before .before in
-    let at-loop-test = at-act .before .before .before .before .before .before .before .before .before .before .before in
-    let turn = at-loop-test .before in
-    let start = turn .before .before .before .before .before in
-    omega (arith, start .pre .offsets, start .pre .short, at-loop-test .loop-test .taken)
-
-loop-less : tie.Need-loop-less Inv-loop μ-loop
-loop-less c = search needs
+    let before4 = c .before .before .before .before in
+    let before8 = before4 .before .before .before .before in
+    omega (arith, few (test-of (before8 .before .before)))
 
 loop-again : tie.Need-loop-again Inv-loop μ-loop
 loop-again c =
     let at-put-row = c .before .before .before in
-    let at-act = at-put-row .before .before .before .before .before .before .before in
-    let at-offset2 = at-act .before .before .before .before .before .before .before .before .before in
-    let at-offset = at-offset2 .before in
-    let at-loop-test = at-offset .before in
-    let turn = at-loop-test .before in
-    let start = turn .before .before .before .before .before in
-    let event = part-event (turn .loop .inv) (at-loop-test .loop-test .taken) (at-offset .offset .ensures .0)
-    (at-offset2 .offset2 .ensures .0) in
+    let at-put-row4 = at-put-row .before .before .before .before in
+    let at-act = at-put-row4 .before .before .before in
+    let at-act4 = at-act .before .before .before .before in
+    let o = at-act4 .before .before .before .before .before in
+    let inv = turn-of o .loop .inv in
+    let event = part-event inv (part o) in
     let kept = at-act .act .kept .1 .1 .1 .1 .1 .1 .1 .1 in
-    rows-on (turn .loop .inv) (at-loop-test .loop-test .taken) (rw event at (at-act .act .ensures .0))
-    (rw event at (at-act .act .ensures .1)) (kept .0) (kept .1 .0) (at-put-row .put-row .ensures .0)
-    (at-put-row .put-row .ensures .1) (start .pre .room)
+    rows-on inv (part o .more) (rw event at (at-act .act .ensures .0)) (rw event at (at-act .act .ensures .1))
+    (kept .0) (kept .1 .0)
+    (at-put-row .put-row .ensures .0) (at-put-row .put-row .ensures .1) (start-of (turn-of o) .pre .room)
 
 same-length : tie.Need-same-length Inv-loop μ-loop
-same-length c = c .before .loop .inv .output ∙ sym (c .before .before .before .before .before .before .pre .output)
+same-length c =
+    let before4 = c .before .before .before .before in
+    c .before .loop .inv .output ∙ sym (before4 .before .before .pre .output)
 
 same-length-2 : tie.Need-same-length-2 Inv-loop μ-loop
 same-length-2 c = c .before .loop .inv .kept
@@ -146,25 +132,7 @@ returns : tie.Need-returns Inv-loop μ-loop
 returns c = rows-end (c .before .loop .inv) (c .loop-test .left)
 
 pub put-rows-spec : {M : Type 1} → statement M
-put-rows-spec =
-    tie.close
-    (tie.spec
-    Inv-loop
-    μ-loop
-    loop-holds
-    offset-requires
-    add-offset
-    offset-requires-2
-    sub-act
-    part-act-start
-    part-act-end
-    act-requires
-    cast-put-row
-    put-row-requires
-    add-i
-    loop-less
-    loop-again
-    same-length
-    same-length-2
-    same-length-3
-    returns)
+put-rows-spec = tie.close (tie.spec
+    Inv-loop μ-loop loop-holds offset-requires (λ c. search needs) offset-requires-2 sub-act part-act-start
+    part-act-end act-requires cast-put-row put-row-requires add-i (λ c. search needs) loop-again same-length
+    same-length-2 same-length-3 returns)

@@ -6,24 +6,8 @@ use borrow.Author.Needs.{needs}
 use Rattle.vectors.proofs.keyword.starts.Statement.{statement}
 use Rattle.vectors.proofs.keyword.starts.Tie as tie
 
-abbrev Inv-loop : tie.InvT-loop
-Inv-loop text area₀ count₀ at₀ i₀ area count at i = (length area ≡ length area₀) × (i ≤ 256)
-
-abbrev μ-loop : tie.MeasureT-loop
-μ-loop text area₀ count₀ at₀ i₀ area count at i = 256 - i
-
 pub starts-spec : {M : Type 1} → statement M
-starts-spec =
-    tie.close
-    (tie.spec
-    Inv-loop
-    μ-loop
-    (λ c. search needs)
-    (λ c κs. search needs)
-    (λ c. search needs)
-    (λ c κs. search needs)
-    (λ c. search needs)
-    (λ c. search needs)
-    (λ c. search needs)
-    (λ c. search needs)
-    (λ c. search needs))
+starts-spec = tie.close (tie.spec
+    (λ _ area₀ _ _ _ area _ _ i. (length area ≡ length area₀) × (i ≤ 256)) (λ _ _ _ _ _ _ _ _ i. 256 - i)
+    (λ c. search needs) (λ c κs. search needs) (λ c. search needs) (λ c κs. search needs) (λ c. search needs)
+    (λ c. search needs) (λ c. search needs) (λ c. search needs) (λ c. search needs))

@@ -5,23 +5,7 @@ use borrow.Author.Needs.{needs}
 use Rattle.vectors.proofs.lines.all.Statement.{statement}
 use Rattle.vectors.proofs.lines.all.Tie as tie
 
-abbrev Inv-loop : tie.InvT-loop
-Inv-loop input at₀ at = at ≤ length input + 1
-
-abbrev μ-loop : tie.MeasureT-loop
-μ-loop input at₀ at = (length input + 1) - at
-
 pub all-spec : {M : Type 1} → statement M
-all-spec =
-    tie.close
-    (tie.spec
-    Inv-loop
-    μ-loop
-    (λ c. search needs)
-    (λ c κs. search needs)
-    (λ c κs. search needs)
-    (λ c κs. search needs)
-    (λ c. search needs)
-    (λ c. search needs)
-    (λ c. search needs)
-    (λ c. search needs))
+all-spec = tie.close (tie.spec (λ input _ at. at ≤ length input + 1) (λ input _ at. (length input + 1) - at)
+    (λ c. search needs) (λ c κs. search needs) (λ c κs. search needs) (λ c κs. search needs) (λ c. search needs)
+    (λ c. search needs) (λ c. search needs) (λ c. search needs))

@@ -6,28 +6,9 @@ use borrow.Author.Needs.{needs}
 use Rattle.vectors.proofs.updates.updated.Statement.{statement}
 use Rattle.vectors.proofs.updates.updated.Tie as tie
 
-abbrev Inv-loop : tie.InvT-loop
-Inv-loop row ttl hops part₀ count u₀ n₀ part u n = (length part ≡ length part₀) × (n ≤ 4096)
-
-abbrev μ-loop : tie.MeasureT-loop
-μ-loop row ttl hops part₀ count u₀ n₀ part u n = 4096 - n
-
 pub updated-spec : {M : Type 1} → statement M
-updated-spec =
-    tie.close
-    (tie.spec
-    Inv-loop
-    μ-loop
-    (λ c κs. search needs)
-    (λ c κs. search needs)
-    (λ c. search needs)
-    (λ c. search needs)
-    (λ c κs. search needs)
-    (λ c κs. search needs)
-    (λ c κs. search needs)
-    (λ c κs. search needs)
-    (λ c. search needs)
-    (λ c. search needs)
-    (λ c. search needs)
-    (λ c. search needs)
-    (λ c. search needs))
+updated-spec = tie.close (tie.spec
+    (λ _ _ _ part₀ _ _ _ part _ n. (length part ≡ length part₀) × (n ≤ 4096)) (λ _ _ _ _ _ _ _ _ _ n. 4096 - n)
+    (λ c κs. search needs) (λ c κs. search needs) (λ c. search needs) (λ c. search needs) (λ c κs. search needs)
+    (λ c κs. search needs) (λ c κs. search needs) (λ c κs. search needs) (λ c. search needs) (λ c. search needs)
+    (λ c. search needs) (λ c. search needs) (λ c. search needs))

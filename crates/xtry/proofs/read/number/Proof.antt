@@ -26,7 +26,8 @@ returns-4 c =
     let d = c .before .before .before .before in
     let x = d .before .before .args in
     ap (λ (v : Decimal). v .value) (d .leading-number .ensures)
-    ∙ number-read (x .widest) (x .text .now) (c .before .before .before .if1 .left) (search needs) (d .before .before .pre)
+    ∙ number-read (x .widest) (x .text .now) (c .before .before .before .if1 .left) (search needs)
+    (d .before .before .pre)
     (sym (ap (λ (v : Decimal). v .count) (d .leading-number .ensures)) ∙ c .if3 .left)
 
 pub number-spec : {M : Type 1} → statement M

@@ -23,7 +23,8 @@ returns c =
     let args = c .before .before .before .before .before .args in
     let find = c .before .before .before .find in
     let number = c .before .number in
-    octet-in (args .s) (args .text .now) (find .result) (find .ensures) (number .result) (c .after .result) (number .ensures) (c .after .ensures)
+    octet-in (args .s) (args .text .now) (find .result) (find .ensures) (number .result) (c .after .result)
+    (number .ensures) (c .after .ensures)
 
 pub read-octet-spec : {M : Type 1} → statement M
 read-octet-spec =

@@ -63,19 +63,24 @@ pair-of-requires c κs = search needs
 
 returns : tie.Need-returns
 returns c =
-    let args = c .before .before .before .before .before .before .before .before .before .before .before .args in
+    let before4 = c .before .before .before .before in
+    let before8 = before4 .before .before .before .before in
+    let args = before8 .before .before .before .args in
     let number = c .before .number in
     let t₁ = args .item .now in
-    let o₁ = c .before .before .before .before .before .before .before .before .before .read-octet in
+    let o₁ = before8 .before .read-octet in
     let t₂ = take (length t₁ - o₁ .result .next) (drop (o₁ .result .next) t₁) in
-    let o₂ = c .before .before .before .before .before .before .before .read-octet2 in
+    let o₂ = before4 .before .before .before .read-octet2 in
     let t₃ = take (length t₂ - o₂ .result .next) (drop (o₂ .result .next) t₂) in
-    let o₃ = c .before .before .before .before .before .read-octet3 in
+    let o₃ = before4 .before .read-octet3 in
     let t₄ = take (length t₃ - o₃ .result .next) (drop (o₃ .result .next) t₃) in
     let o₄ = c .before .before .before .read-octet4 in
     let t₅ = take (length t₄ - o₄ .result .next) (drop (o₄ .result .next) t₄) in
     c .pair-of .ensures
-    ∙ parse-item t₁ t₂ t₃ t₄ t₅ (o₁ .result) (o₂ .result) (o₃ .result) (o₄ .result) (number .result) (o₁ .ensures) (octet-rest dot t₁ (o₁ .result) (o₁ .ensures)) (o₂ .ensures) (octet-rest dot t₂ (o₂ .result) (o₂ .ensures)) (o₃ .ensures) (octet-rest dot t₃ (o₃ .result) (o₃ .ensures)) (o₄ .ensures) (octet-rest colon t₄ (o₄ .result) (o₄ .ensures)) (number .ensures)
+    ∙ parse-item t₁ t₂ t₃ t₄ t₅ (o₁ .result) (o₂ .result) (o₃ .result) (o₄ .result) (number .result) (o₁ .ensures)
+    (octet-rest dot t₁ (o₁ .result) (o₁ .ensures)) (o₂ .ensures) (octet-rest dot t₂ (o₂ .result) (o₂ .ensures))
+    (o₃ .ensures) (octet-rest dot t₃ (o₃ .result) (o₃ .ensures)) (o₄ .ensures)
+    (octet-rest colon t₄ (o₄ .result) (o₄ .ensures)) (number .ensures)
 
 pub read-pair-spec : {M : Type 1} → statement M
 read-pair-spec =

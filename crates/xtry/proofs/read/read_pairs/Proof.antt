@@ -33,8 +33,9 @@ find-requires c κs = search needs
 
 slice-aggregate-take-item : tie.Need-slice-aggregate-take-item Inv-loop μ-loop
 slice-aggregate-take-item c =
-    let args = c .before .before .before .before .before .before .before .args in
-    let loop = c .before .before .before .before .loop in
+    let before4 = c .before .before .before .before in
+    let args = before4 .before .before .before .args in
+    let loop = before4 .loop in
     let find = c .before .find in
     turn-count (args .value .now) (loop .at) (loop .pairs) (loop .inv) (find .result) (find .ensures)
 
@@ -46,38 +47,50 @@ no-pairs-requires-2 c κs = search needs
 
 returns : tie.Need-returns Inv-loop μ-loop
 returns c =
-    let args = c .before .before .before .before .before .before .before .before .before .before .before .args in
-    let loop = c .before .before .before .before .before .before .before .before .loop in
-    let find = c .before .before .before .before .before .find in
+    let before4 = c .before .before .before .before in
+    let before8 = before4 .before .before .before .before in
+    let args = before8 .before .before .before .args in
+    let loop = before8 .loop in
+    let find = before4 .before .find in
     let take-item = c .before .before .before .take-item in
-    rw (c .no-pairs2 .ensures) (turn-bad (args .value .now) (loop .at) (loop .pairs) (loop .inv) (find .result) (find .ensures) (take-item .result) (take-item .ensures) (not-true _ (c .before .if1 .taken)))
+    rw (c .no-pairs2 .ensures) (turn-bad (args .value .now) (loop .at) (loop .pairs) (loop .inv) (find .result)
+    (find .ensures) (take-item .result) (take-item .ensures) (not-true _ (c .before .if1 .taken)))
 
 skip-requires : tie.Need-skip-requires Inv-loop μ-loop
 skip-requires c κs =
-    let args = c .before .before .before .before .before .before .before .before .before .before .before .args in
-    let loop = c .before .before .before .before .before .before .before .before .loop in
-    let find = c .before .before .before .before .before .find in
+    let before4 = c .before .before .before .before in
+    let before8 = before4 .before .before .before .before in
+    let args = before8 .before .before .before .args in
+    let loop = before8 .loop in
+    let find = before4 .before .find in
     ((find .ensures), omega (arith, rest-length (args .value .now) (loop .at)))
 
 add-at : tie.Need-add-at Inv-loop μ-loop
 add-at c =
-    let args = c .before .before .before .before .before .before .before .before .before .before .before .before .args in
-    let loop = c .before .before .before .before .before .before .before .before .before .loop in
+    let before4 = c .before .before .before .before in
+    let before8 = before4 .before .before .before .before in
+    let args = before8 .before .before .before .before .args in
+    let loop = before8 .before .loop in
     omega (arith, rest-length (args .value .now) (loop .at))
 
 loop-less : tie.Need-loop-less Inv-loop μ-loop
 loop-less c =
-    let args = c .before .before .before .before .before .before .before .before .before .before .before .before .args in
-    let loop = c .before .before .before .before .before .before .before .before .before .loop in
+    let before4 = c .before .before .before .before in
+    let before8 = before4 .before .before .before .before in
+    let args = before8 .before .before .before .before .args in
+    let loop = before8 .before .loop in
     omega (arith, rest-length (args .value .now) (loop .at))
 
 loop-again : tie.Need-loop-again Inv-loop μ-loop
 loop-again c =
-    let args = c .before .before .before .before .before .before .before .before .before .before .before .before .args in
-    let loop = c .before .before .before .before .before .before .before .before .before .loop in
-    let find = c .before .before .before .before .before .before .find in
-    let take-item = c .before .before .before .before .take-item in
-    turn-on (args .value .now) (loop .at) (loop .pairs) (loop .inv) (find .result) (find .ensures) (take-item .result) (take-item .ensures) (c .skip .result) (not-false _ (c .before .before .if1 .left)) (c .skip .ensures)
+    let before4 = c .before .before .before .before in
+    let before8 = before4 .before .before .before .before in
+    let args = before8 .before .before .before .before .args in
+    let loop = before8 .before .loop in
+    let find = before4 .before .before .find in
+    let take-item = before4 .take-item in
+    turn-on (args .value .now) (loop .at) (loop .pairs) (loop .inv) (find .result) (find .ensures) (take-item .result)
+    (take-item .ensures) (c .skip .result) (not-false _ (c .before .before .if1 .left)) (c .skip .ensures)
 
 returns-2 : tie.Need-returns-2 Inv-loop μ-loop
 returns-2 c =

@@ -4,7 +4,8 @@ use Rattle.xtry.proofs.read.skip.Statement.{statement}
 use Rattle.xtry.proofs.read.skip.Tie as tie
 
 returns : tie.Need-returns
-returns c = skip-all (c .before .args .text .now) (c .before .args .end) (c .before .pre .0) (c .before .pre .1) (c .if1 .taken)
+returns c = skip-all (c .before .args .text .now) (c .before .args .end) (c .before .pre .0)
+    (c .before .pre .1) (c .if1 .taken)
 
 add-next : tie.Need-add-next
 add-next c = search needs

@@ -14,16 +14,19 @@ keep-requires c κs = search needs
 
 returns-2 : tie.Need-returns-2
 returns-2 c =
-    let args = c .before .before .before .before .before .before .args in
-    let if1 = c .before .before .before .before .if1 in
+    let before4 = c .before .before .before .before in
+    let args = before4 .before .before .args in
+    let if1 = before4 .if1 in
     let read-pair = c .before .before .before .read-pair in
-    taken-good (args .pairs) (args .item .now) (read-pair .result) (c .keep .result) (if1 .left) (read-pair .ensures) (c .before .if2 .taken) (c .keep .ensures)
+    taken-good (args .pairs) (args .item .now) (read-pair .result) (c .keep .result) (if1 .left) (read-pair .ensures)
+    (c .before .if2 .taken) (c .keep .ensures)
 
 returns-3 : tie.Need-returns-3
 returns-3 c =
     let args = c .before .before .before .before .before .args in
     let read-pair = c .before .before .read-pair in
-    taken-bad (args .pairs) (args .item .now) (read-pair .result) (c .before .before .before .if1 .left) (read-pair .ensures) (c .if2 .left)
+    taken-bad (args .pairs) (args .item .now) (read-pair .result) (c .before .before .before .if1 .left)
+    (read-pair .ensures) (c .if2 .left)
 
 pub take-item-spec : {M : Type 1} → statement M
 take-item-spec = tie.close (tie.spec returns read-pair-requires keep-requires returns-2 returns-3)

@@ -24,7 +24,9 @@ array-share-prefix-spelled c =
     omega (arith, e .1, spelled-room (c .before .before .before .args .n) (e .0) (e .1))
 
 slice-aggregate-copy : tie.Need-slice-aggregate-copy
-slice-aggregate-copy c = sym (spelled-size (c .before .before .before .before .args .n) (c .before .before .spell .ensures .0))
+slice-aggregate-copy c =
+    let before4 = c .before .before .before .before in
+    sym (spelled-size (before4 .args .n) (c .before .before .spell .ensures .0))
 
 sub-copy : tie.Need-sub-copy
 sub-copy c = simp length-set (omega (arith, c .before .before .before .before .pre))
@@ -43,8 +45,10 @@ copy-requires c κs =
     let e = at-spell .spell .ensures .0 in
     let area = set (x .out .now) (x .at) (x .lead) in
     let d = at-spell .spell .result in
-    let lent : length (take (length area - (x .at + 1)) (drop (x .at + 1) area)) ≡ length (x .out .now) - (x .at + 1) = simp (length-take, length-drop, length-set) (omega arith) in
-    let fits : length (take (d .size) (d .bytes)) ≤ length (take (length area - (x .at + 1)) (drop (x .at + 1) area)) = omega (arith, lent, spelled-size (x .n) e, at-spell .spell .ensures .1, start .pre) in
+    let lent : length (take (length area - (x .at + 1)) (drop (x .at + 1) area)) ≡ length (x .out .now) - (x .at + 1) =
+    simp (length-take, length-drop, length-set) (omega arith) in
+    let fits : length (take (d .size) (d .bytes)) ≤ length (take (length area - (x .at + 1)) (drop (x .at + 1) area)) =
+    omega (arith, lent, spelled-size (x .n) e, at-spell .spell .ensures .1, start .pre) in
     fits
 
 add-result : tie.Need-add-result
@@ -58,11 +62,13 @@ same-length c =
 
 returns : tie.Need-returns
 returns c =
-    let at-spell = c .before .before .before .before .before .before in
+    let before4 = c .before .before .before .before in
+    let at-spell = before4 .before .before in
     let start = at-spell .before .before in
     let x = start .args in
     let e = at-spell .spell .ensures in (
-      put-led (x .n) (x .at) (x .lead) (at-spell .spell .result) (x .out .now) _ (e .0) (omega (arith, start .pre)) (c .before .before .copy .ensures .1),
+      put-led (x .n) (x .at) (x .lead) (at-spell .spell .result) (x .out .now) _ (e .0) (omega (arith, start .pre))
+          (c .before .before .copy .ensures .1),
       omega (arith, e .1),
     )
 

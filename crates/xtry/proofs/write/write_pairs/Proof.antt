@@ -1,9 +1,8 @@
+-- The pairs gone through are written, and those left make the whole.
 use Prim.Native.Nat.{_-_}
-use native.Mathlib.Omega.{arith}
-use mathlib.Core.Path.{_≡_, sym, _∙_}
-use mathlib.Core.List.{[]}
-use lib.ListN.{length, length-map}
-use Rattle.xtry.proofs.Listing.{Listing, led-none, listing-start, listing-room, listing-on, listing-end}
+use mathlib.Core.Path.{sym, _∙_}
+use lib.ListN.{length-map}
+use Rattle.xtry.proofs.Listing.{Listing, InUse, led-none, listing-start, listing-room, listing-on, listing-end}
 use borrow.Author.Needs.{needs}
 use Rattle.xtry.proofs.write.write_pairs.Statement.{statement}
 use Rattle.xtry.proofs.write.write_pairs.Tie as tie
@@ -17,45 +16,32 @@ abbrev μ-loop : tie.MeasureT-loop
 returns : tie.Need-returns Inv-loop μ-loop
 returns c = let x = c .before .before .args in led-none (x .t1) (x .first) (x .out .now) (c .if1 .taken)
 
-used-requires : tie.Need-used-requires Inv-loop μ-loop
-used-requires c κs = search needs
-
 loop-holds : tie.Need-loop-holds Inv-loop μ-loop
-loop-holds c = let x = c .before .before .before .args in listing-start (x .t1) (x .first) (x .out .now) (c .used .result)
+loop-holds c = let x = c .before .before .before .args in listing-start (x .t1) (x .first)
+    (x .out .now) (c .used .result)
 
-mul-p : tie.Need-mul-p Inv-loop μ-loop
-mul-p c = search needs
+-- where the function begins, and the pairs in use
+abbrev start-of : tie.After-used Inv-loop μ-loop → tie.Start Inv-loop μ-loop
+start-of u = u .before .before .before
 
-element-copy-out-p : tie.Need-element-copy-out-p Inv-loop μ-loop
-element-copy-out-p c = search needs
+in-use : (u : tie.After-used Inv-loop μ-loop) → InUse (start-of u .args .t1) (u .used .result)
+in-use u =
+    record {
+      places = sym (length-map (start-of u .args .t1 .pairs) _) ∙ (start-of u .good .0 .1 .1 .1 .0 .1 .0 .1);
+      count = u .used .ensures;
+    }
 
 put-pair-requires : tie.Need-put-pair-requires Inv-loop μ-loop
 put-pair-requires c κs =
     let l = c .before .before .before in
-    let u = l .before in
-    let start = u .before .before .before in
-    let x = start .args in
-    let k : length (x .t1 .pairs) ≡ 32 = sym (length-map (x .t1 .pairs) _) ∙ (start .good .0 .1 .1 .1 .0 .1 .0 .1) in
-    let o = l .loop in
-    listing-room (x .t1) (u .used .result) k (u .used .ensures) (x .first) (x .out .now) (o .out) (o .to) (o .lead) (o .i) (o .inv) (u .before .if1 .left) (search needs)
-
-add-i : tie.Need-add-i Inv-loop μ-loop
-add-i c = search needs
-
-loop-less : tie.Need-loop-less Inv-loop μ-loop
-loop-less c = search needs
+    listing-room (in-use (l .before)) (l .loop .inv) (l .before .before .if1 .left) (search needs)
 
 loop-again : tie.Need-loop-again Inv-loop μ-loop
 loop-again c =
     let p = c .before .before in
     let l = p .before .before .before .before in
-    let u = l .before in
-    let start = u .before .before .before in
-    let x = start .args in
-    let k : length (x .t1 .pairs) ≡ 32 = sym (length-map (x .t1 .pairs) _) ∙ (start .good .0 .1 .1 .1 .0 .1 .0 .1) in
-    let o = l .loop in
-    listing-on (x .t1) (u .used .result) k (u .used .ensures) (x .first) (x .out .now) (o .out) (o .to) (o .lead) (o .i) (o .inv) (u .before .if1 .left) (record { address = []; port = 0 }) (search needs)
-    (p .put-pair .last .0) (p .put-pair .result) (p .put-pair .kept .0) (p .put-pair .ensures .0) (p .put-pair .ensures .1)
+    listing-on (in-use (l .before)) (l .loop .inv) (l .before .before .if1 .left) (search needs)
+    (p .put-pair .kept .0) (p .put-pair .ensures .0) (p .put-pair .ensures .1)
 
 same-length : tie.Need-same-length Inv-loop μ-loop
 same-length c = c .before .loop .inv .size
@@ -63,27 +49,9 @@ same-length c = c .before .loop .inv .size
 returns-2 : tie.Need-returns-2 Inv-loop μ-loop
 returns-2 c =
     let l = c .before in
-    let u = l .before in
-    let start = u .before .before .before in
-    let x = start .args in
-    let k : length (x .t1 .pairs) ≡ 32 = sym (length-map (x .t1 .pairs) _) ∙ (start .good .0 .1 .1 .1 .0 .1 .0 .1) in
-    let o = l .loop in
-    listing-end (x .t1) (u .used .result) k (u .used .ensures) (x .first) (x .out .now) (o .out) (o .to) (o .lead) (o .i) (o .inv) (u .before .if1 .left) (search needs)
+    listing-end (in-use (l .before)) (l .loop .inv) (l .before .before .if1 .left) (search needs)
 
 pub write-pairs-spec : {M : Type 1} → statement M
-write-pairs-spec =
-    tie.close
-    (tie.spec
-    Inv-loop
-    μ-loop
-    returns
-    used-requires
-    loop-holds
-    mul-p
-    element-copy-out-p
-    put-pair-requires
-    add-i
-    loop-less
-    loop-again
-    same-length
-    returns-2)
+write-pairs-spec = tie.close (tie.spec
+    Inv-loop μ-loop returns (λ c κs. search needs) loop-holds (λ c. search needs) (λ c. search needs)
+    put-pair-requires (λ c. search needs) (λ c. search needs) loop-again same-length returns-2)

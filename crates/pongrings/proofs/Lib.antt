@@ -1,0 +1,3 @@
+-- The laws of rings and of a walk over them.
+pub mod RingLaws
+pub mod WalkLaws

@@ -1,0 +1,2 @@
+-- The rings of stored pongs as the code reads them.
+pub mod Ring

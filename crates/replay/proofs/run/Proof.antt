@@ -1,0 +1,16 @@
+-- Each turn takes at least one word, notes an answer or none, and leaves the areas as long as they were.
+use Prim.Native.Nat.{_-_, _≤_}
+use mathlib.Core.Path.{_≡_}
+use lib.ListN.{length}
+use borrow.Author.Needs.{needs}
+use Rattle.replay.proofs.run.Statement.{statement}
+use Rattle.replay.proofs.run.Tie as tie
+
+pub run-spec : {M : Type 1} → statement M
+run-spec = tie.close (tie.spec
+    (λ _ _ out₀ route₀ _ _ _ _ out route _ count k.
+    (length out ≡ length out₀) × (length route ≡ length route₀) × (count ≤ 256) × (k ≤ 4110))
+    (λ _ _ _ _ _ _ _ _ _ _ _ _ k. 4110 - k)
+    (λ c. search needs) (λ c κs. search needs) (λ c κs. search needs) (λ c κs. search needs) (λ c κs. search needs)
+    (λ c κs. search needs) (λ c. search needs) (λ c. search needs) (λ c. search needs) (λ c κs. search needs)
+    (λ c. search needs) (λ c. search needs) (λ c. search needs))

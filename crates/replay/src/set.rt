@@ -1,0 +1,102 @@
+// A station whose ring or lines are set by hand, so that its state can be out of order.
+use crate::calls;
+use crate::calls::Held;
+use crate::calls::Ring;
+use protocol::Line;
+use protocol::Pong;
+use tables::Table;
+
+// `kept I NUMBER ASKER COUNT NEXT`: the low half of the number at a place, its high half being 0, its asker, and the
+// ring's count and next place
+fn kept(mut ring: Ring, row: &[u8], k: usize) -> Ring {
+    let i = rows::size(row, k, 1) % 512;
+    ring.lo[i] = rows::number(row, k, 2) as u64;
+    ring.hi[i] = 0;
+    ring.asker[i] = rows::byte(row, k, 3);
+    ring.count = rows::size(row, k, 4);
+    ring.next = rows::size(row, k, 5);
+    ring
+}
+
+fn numbered() -> [u64; 512] {
+    let mut lo = [0u64; 512];
+    let mut i: usize = 0;
+    while i < 512 {
+        lo[i] = i as u64;
+        i += 1;
+    }
+    lo
+}
+
+// `fill ASKER`: 512 remembered queries of this asker, the oldest with the number 0 and the newest with 511
+fn filled(who: u8) -> Ring {
+    let lo = numbered();
+    let hi = [0; 512];
+    let asker = [who; 512];
+    Ring {
+        lo,
+        hi,
+        asker,
+        count: 512,
+        next: 0,
+    }
+}
+
+// Ten pongs with Hops 0, but for the one at this place.
+fn pongs(i: usize, hops: u8) -> [Pong; 10] {
+    let bytes = [0u8; 14];
+    let mut one = Pong {
+        bytes,
+        hops: 0,
+        clock: 0,
+    };
+    let mut all = [one; 10];
+    one.hops = hops;
+    let j = i % 10;
+    all[j] = one;
+    all
+}
+
+fn table(row: &[u8], k: usize) -> Table {
+    Table {
+        mark: rows::byte(row, k, 7),
+        length: rows::number(row, k, 8),
+        infinity: rows::byte(row, k, 9),
+        nextplace: rows::byte(row, k, 10),
+        runsize: rows::byte(row, k, 11),
+        runbits: rows::byte(row, k, 12),
+        nextentry: rows::number(row, k, 13),
+    }
+}
+
+// `line OPEN PINGED PONGS NEXT I HOPS MARK LENGTH INFINITY PLACE SIZE BITS AT`: line 2, with the Hops of the pong at
+// place I
+fn line_of(row: &[u8], k: usize) -> Line {
+    let pongs = pongs(rows::size(row, k, 5), rows::byte(row, k, 6));
+    let table = table(row, k);
+    Line {
+        live: rows::byte(row, k, 1) != 0,
+        pinged: rows::byte(row, k, 2) != 0,
+        pingtime: 0,
+        pongcount: rows::size(row, k, 3),
+        pongnext: rows::size(row, k, 4),
+        pongs,
+        table,
+    }
+}
+
+pub(crate) fn by_hand(mut w: Held, kind: usize, row: &[u8], k: usize) -> Held {
+    let ring = w.ring;
+    match kind {
+        5 => {
+            w.ring = kept(ring, row, k);
+            w
+        }
+        6 => calls::stored(w, 2, line_of(row, k)),
+        7 => {
+            w.ring = filled(rows::byte(row, k, 1));
+            w
+        }
+        _ => w,
+    }
+}

@@ -1,0 +1,2 @@
+-- What the reading of rows promises.
+pub mod Rows
