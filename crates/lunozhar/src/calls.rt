@@ -3,8 +3,10 @@
 // comes back.
 ghost use mathlib.Core.Path.{_≡_};
 ghost use Prim.Native.Nat.{_%_};
-ghost use lib.ListN.{length, set};
-ghost use Rattle.protocol.specs.Memory.{memoryOf};
+ghost use mathlib.Core.Bool.{false};
+ghost use lib.ListN.{length, set, getD};
+ghost use Rattle.protocol.specs.Memory.{memoryOf, numberFrom, capacity, memoryInOrder, queriesIn, find, lookupOf};
+ghost use Rattle.protocol.specs.Lines.{livesIn};
 ghost use Rattle.protocol.specs.State.{stationOf};
 ghost use Rattle.protocol.specs.Order.{inOrder};
 ghost use Rattle.protocol.specs.Outcomes.{termsOf};
@@ -13,6 +15,7 @@ ghost use Rattle.station.specs.Calls.{MessageMet, OwnMet, Changed};
 ghost use Rattle.tally.specs.Counts.{counted};
 use crate::Lines;
 use crate::Number;
+use memory::Survey;
 use memory::leave::leave;
 use memory::order::survey;
 use memory::remember::fresh;
@@ -43,6 +46,28 @@ const ONES: u64 = 18446744073709551615;
 pub struct Arrival {
     pub line: Line,
     pub report: Report,
+}
+
+// Whether the ring beside these lines is in order, and what it knows of the number (low, high).
+fn survey_ring<'a>(
+    lo: &'a [u64; 512],
+    hi: &'a [u64; 512],
+    asker: &'a [u8; 512],
+    count: usize,
+    next: usize,
+    lines: [Line; 8],
+    low: u64,
+    high: u64,
+) -> Survey
+    ensures order { λ r.
+        let memory = memoryOf (now (lo .entry)) (now (hi .entry)) (now (asker .entry)) count next in
+        ⌜ r .order ≡ memoryInOrder capacity (λ k. getD (livesIn lines) k false) memory ⌝ }
+    ensures known { λ r.
+        let memory = memoryOf (now (lo .entry)) (now (hi .entry)) (now (asker .entry)) count next in
+        ⌜ r .known ≡ lookupOf (find (queriesIn capacity memory) (numberFrom low high)) ⌝ }
+{
+    let live = lives(lines);
+    survey(lo, hi, asker, count, next, live, low, high)
 }
 
 // A fresh state over a route area of so many bytes.
@@ -83,8 +108,7 @@ pub extern "C" fn lunozhar_open_lent<'a>(
         ⌜ Changed (opening before line) (r .answer) after ⌝ }
 {
     let at = lines.at;
-    let live = lives(at);
-    let s = survey(lo, hi, asker, count, next, live, ONES, ONES);
+    let s = survey_ring(lo, hi, asker, count, next, at, ONES, ONES);
     open_line(s.order, room, at, line)
 }
 
@@ -107,8 +131,7 @@ pub extern "C" fn lunozhar_close_lent(
         ⌜ Changed (closing before line) (r .answer) after ⌝ }
 {
     let at = lines.at;
-    let live = lives(at);
-    let s = survey(lo, hi, asker, count, next, live, ONES, ONES);
+    let s = survey_ring(lo, hi, asker, count, next, at, ONES, ONES);
     let change = close_line(s.order, room, at, line);
     leave(asker, leaver(change.answer, line));
     change
@@ -142,8 +165,7 @@ pub extern "C" fn lunozhar_message_lent(
 {
     let at = lines.at;
     let h = read_header(message);
-    let live = lives(at);
-    let s = survey(lo, hi, asker, *count, *next, live, h.lo, h.hi);
+    let s = survey_ring(lo, hi, asker, *count, *next, at, h.lo, h.hi);
     let a = arrive(s, room, at, line, clock, own, message, out, route);
     let by = (line % 8) as u8;
     remember(lo, hi, asker, count, next, a.remember, h.lo, h.hi, by);
@@ -180,8 +202,7 @@ pub extern "C" fn lunozhar_ask_lent(
     let at = lines.at;
     let bytes = number.bytes;
     let h = read_header(&bytes);
-    let live = lives(at);
-    let s = survey(lo, hi, asker, *count, *next, live, h.lo, h.hi);
+    let s = survey_ring(lo, hi, asker, *count, *next, at, h.lo, h.hi);
     let report = ask(s, room, at, bytes, text, out, route);
     let taken = report.answer == 0;
     remember(lo, hi, asker, count, next, taken, h.lo, h.hi, HERE);
@@ -204,8 +225,7 @@ pub extern "C" fn lunozhar_in_order_lent<'a>(
         ⌜ r ≡ inOrder s ⌝ }
 {
     let at = lines.at;
-    let live = lives(at);
-    let s = survey(lo, hi, asker, count, next, live, ONES, ONES);
+    let s = survey_ring(lo, hi, asker, count, next, at, ONES, ONES);
     in_order(s.order, room, at)
 }
 

@@ -322,14 +322,11 @@ module _ (lines : List Line) (room l : ℕ) {v : View} (ev : v ≡ viewOf lines 
 pub line-is : (lines : List Line) (room l : ℕ) {v : View} → v ≡ viewOf lines room l → v .line ≡ lineIn lines l
 line-is lines room l ev = ap (λ (v : View). v .line) ev
 
--- how the ring is surveyed, given the lines that are open: the station is in order where the ring and the lines are
-pub surveyed-order : (room : ℕ) (lines : List Line) (q : Memory) {live : List Bool} → live ≡ livesIn lines
-    → {order : Bool} → order ≡ memoryInOrder capacity (λ k. getD live k false) q
+-- how the ring is surveyed: the station is in order where the ring and the lines are
+pub surveyed-order : (room : ℕ) (lines : List Line) (q : Memory) {order : Bool}
+    → order ≡ memoryInOrder capacity (λ k. getD (livesIn lines) k false) q
     → bothInOrder order room lines ≡ inOrder (state room lines q)
-surveyed-order room lines q el e =
-    order-is room lines q
-    (ap (λ b. b && linesInOrder room lines)
-    (e ∙ ap (λ (live : List Bool). memoryInOrder capacity (λ k. getD live k false) q) el))
+surveyed-order room lines q e = order-is room lines q (ap (λ b. b && linesInOrder room lines) e)
 
 -- the number of a message by its header: what the ring knows of it, and what the ring is after it
 module _ (m : List ℕ) {h : Header} (eh : h ≡ headerIn m) (q : Memory) where

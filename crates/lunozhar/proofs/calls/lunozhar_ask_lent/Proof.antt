@@ -12,14 +12,13 @@ returns c =
     let at-ask = before5 .before .before .before .before in
     let at-survey = at-ask .before .before in
     let at-given = at-survey .before .before .before in
-    let at-lives = at-given .before .before .before in
-    let at-header = at-lives .before in
+    let at-header = at-given .before .before .before in
     let before3 = at-header .before .before .before in
     let a = before3 .before .before .before .before .args in
     let q = memoryOf (a .lo .now) (a .hi .now) (a .asker .now) (a .count .now) (a .next .now) in
     let number = at-header .read-header .ensures in
-    let s = at-survey .survey in
-    let order = surveyed-order (a .room) (a .lines .at) q (at-lives .lives .ensures) (s .ensures .0) in
+    let s = at-survey .survey-ring in
+    let order = surveyed-order (a .room) (a .lines .at) q (s .ensures .0) in
     let after = ring-after (a .number .bytes) number q (eqb (at-ask .ask .result .answer) 0) here
     (c .remember .ensures) in
     rw after
@@ -30,5 +29,5 @@ returns c =
 pub lunozhar-ask-lent-spec : {M : Type 1} → statement M
 lunozhar-ask-lent-spec =
     tie.close
-    (tie.spec (λ c. search needs) (λ c κs. search needs) (λ c κs. search needs) (λ c κs. search needs)
+    (tie.spec (λ c. search needs) (λ c κs. search needs) (λ c κs. search needs)
     (λ c κs. search needs) (λ c κs. search needs) (λ c. search needs) returns)

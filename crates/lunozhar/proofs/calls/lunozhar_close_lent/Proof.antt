@@ -10,10 +10,10 @@ returns c =
     let at-close = at-leaver .before .before in
     let at-survey = at-close .before in
     rw (c .leave .ensures, at-leaver .leaver .ensures)
-    (closing-met _ _ _ _ (at-survey .survey .result .order)
-    (surveyed-order _ _ _ (at-survey .before .before .before .before .lives .ensures) (at-survey .survey .ensures .0))
+    (closing-met _ _ _ _ (at-survey .survey-ring .result .order)
+    (surveyed-order _ _ _ (at-survey .survey-ring .ensures .0))
     (at-close .close-line .ensures))
 
 pub lunozhar-close-lent-spec : {M : Type 1} → statement M
-lunozhar-close-lent-spec = tie.close (tie.spec (λ c κs. search needs) (λ c κs. search needs) (λ c κs. search needs)
+lunozhar-close-lent-spec = tie.close (tie.spec (λ c κs. search needs) (λ c κs. search needs)
     (λ c κs. search needs) (λ c κs. search needs) returns)

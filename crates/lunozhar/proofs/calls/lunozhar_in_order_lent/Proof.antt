@@ -9,8 +9,8 @@ returns : tie.Need-returns
 returns c =
     let at-survey = c .before in
     c .in-order .ensures
-    ∙ surveyed-order _ _ _ (at-survey .before .lives .ensures) (at-survey .survey .ensures .0)
+    ∙ surveyed-order _ _ _ (at-survey .survey-ring .ensures .0)
 
 pub lunozhar-in-order-lent-spec : {M : Type 1} → statement M
-lunozhar-in-order-lent-spec = tie.close (tie.spec (λ c κs. search needs) (λ c κs. search needs)
+lunozhar-in-order-lent-spec = tie.close (tie.spec (λ c κs. search needs)
     (λ c κs. search needs) returns)

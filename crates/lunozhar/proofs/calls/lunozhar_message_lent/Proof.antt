@@ -15,13 +15,12 @@ returns c =
     let at-arrive = before5 .before .before .before .before .before in
     let at-survey = at-arrive .before .before .before in
     let at-given = at-survey .before .before .before in
-    let at-lives = at-given .before .before .before in
-    let at-header = at-lives .before in
+    let at-header = at-given .before .before .before in
     let a = at-header .before .before .before .before .before .args in
     let q = memoryOf (a .lo .now) (a .hi .now) (a .asker .now) (a .count .now) (a .next .now) in
     let number = at-header .read-header .ensures in
-    let s = at-survey .survey in
-    let order = surveyed-order (a .room) (a .lines .at) q (at-lives .lives .ensures) (s .ensures .0) in
+    let s = at-survey .survey-ring in
+    let order = surveyed-order (a .room) (a .lines .at) q (s .ensures .0) in
     let after = ring-after (a .message .now) number q (at-arrive .arrive .result .remember) (a .line % 8)
     (at-remember .remember .ensures) in
     rw after
@@ -32,5 +31,5 @@ returns c =
 pub lunozhar-message-lent-spec : {M : Type 1} → statement M
 lunozhar-message-lent-spec =
     tie.close
-    (tie.spec (λ c κs. search needs) (λ c κs. search needs) (λ c κs. search needs) (λ c κs. search needs)
+    (tie.spec (λ c κs. search needs) (λ c κs. search needs) (λ c κs. search needs)
     (λ c. search needs) (λ c κs. search needs) (λ c. search needs) (λ c. search needs) returns)
