@@ -37,8 +37,8 @@ use station::order::in_order;
 use tally::Tally;
 use wire::read_header;
 
-// The halves of a number of ones, which the survey looks up only where a word of its filter is all ones: what a call
-// without a number asks for.
+// The halves of a number of ones: what a call without a number asks for. In a ring in order the survey looks it up only
+// where a word of its filter is all ones.
 const ONES: u64 = 18446744073709551615;
 
 // The record of the message's line after it, and what the caller is told.

@@ -7,7 +7,7 @@ use crate::calls::Held;
 use protocol::Report;
 use rows::words;
 
-// What a row's calls told: the answers of the first 256, and how many these are; the whole report of the last event;
+// What a row's calls told: the answers of the first 256, and how many these are; the whole report of the last call;
 // and the mark of line 1's table after all.
 pub struct Told {
     pub answers: [u8; 256],

@@ -94,9 +94,10 @@ use Rattle.forwarding.specs.Messages.{sendable, countIf, writtenIf, ownInto}
 use Rattle.forwarding.specs.Passing.{heldOf}
 use Rattle.station.specs.declared.lines.View.{View}
 use Rattle.station.specs.declared.changes.LineChange.{LineChange}
+use Rattle.station.specs.declared.changes.Beginning.{Beginning}
 use Rattle.station.specs.Actions.{actionOf, viewOf, quietReport, quietAction, Does, Whole, Fit, acting}
 use Rattle.station.specs.Calls.{Met, OwnMet, Changed, bothInOrder, changedBy, openedBy, closedBy, firstRefusal}
-use Rattle.station.specs.Calls.{arrivalStep, Handed, changeBy, Arrives, askedState, ownFirst, ownSent, Sends}
+use Rattle.station.specs.Calls.{arrivalStep, Handed, MessageMet, ownAnswerBy, ownQuerySent, Sends, begunOver}
 use Rattle.station.proofs.ActionLaws.{sentIn, step-refused}
 
 -- ---- what a message does by its type
@@ -365,6 +366,17 @@ module _ (order : Bool) (room out route line : ℕ) (live : Bool) (m : List ℕ)
 
 -- ---- an arriving message
 
+-- what a message leaves of the state, as it is handed on
+abbrev pub changeOf : Action → Change
+changeOf a = record { line = a .line; taken = a .remember }
+
+-- what is handed on of a message meets its outcome, once the line's record is stored and its number remembered, if
+-- it is to be
+abbrev pub Arrives : Station → ℕ → List ℕ → Terms → List ℕ → Action → List ℕ → List ℕ → List ℕ → Type 0
+Arrives before line m t route a out out′ route′ =
+    MessageMet before line m t route (a .report) (stateAfter before (line % 8) (numberIn m) (changeOf a)) out out′
+    route′
+
 -- a report with the bytes used
 abbrev usedIn : Report → ℕ → Report
 usedIn q n =
@@ -420,11 +432,11 @@ module _ (room : ℕ) (lines : List Line) (q : Memory) (m : List ℕ) (t : Terms
 
   -- what a step hands on, stored
   met-by : (l : ℕ) (x : Number) (r : Step) {a : Action} {out′ route′ : List ℕ} → Handed r m a out out′ route′
-      → Met (stored S l x r) (usedOf (r .answer) m) (a .report) (stateAfter S l x (changeBy a)) out out′ route′
+      → Met (stored S l x r) (usedOf (r .answer) m) (a .report) (stateAfter S l x (changeOf a)) out out′ route′
   met-by l x r h =
       record {
         report = ap (λ (a : Action). a .report) (h .action);
-        state = ap (λ (a : Action). stateAfter S l x (changeBy a)) (h .action);
+        state = ap (λ (a : Action). stateAfter S l x (changeOf a)) (h .action);
         output = h .output;
         area = h .area;
       }
@@ -433,7 +445,7 @@ module _ (room : ℕ) (lines : List Line) (q : Memory) (m : List ℕ) (t : Terms
     module _ (a : Action) (out′ route′ : List ℕ) where
       abbrev Goal : Outcome → Type 0
       Goal o = Met o (usedOf (o .answer) m) (a .report)
-          (stateAfter S (line % 8) (numberIn m) (changeBy a)) out out′ route′
+          (stateAfter S (line % 8) (numberIn m) (changeOf a)) out out′ route′
 
       module _ {n : ℕ} (en : n ≡ firstRefusal order room lines line m (t .out) (length route))
           (d : Handed (acting n room lines (line % 8) (lookedUp S (numberIn m)) m t route) m a out out′ route′) where
@@ -583,6 +595,11 @@ module _ (room : ℕ) (lines : List Line) (q : Memory) (line : ℕ) where
 
 -- ---- an own query
 
+-- the state after an own query: its number is remembered where it is answered 0
+abbrev pub askedState : Station → List ℕ → Report → Station
+askedState before number r = withMemory before
+    (rememberIf (eqb (r .answer) 0) capacity (before .memory) (numberIn number) here)
+
 -- one that is not refused has room
 pub own-fits : (order : Bool) (room : ℕ) (text route out : List ℕ) (zero : Bool) (known : Lookup) {n : ℕ}
     → n ≡ firstOf (ownRules order room (length out) (length route) (length text) zero known) → n ≡ 0
@@ -599,7 +616,7 @@ own-fits order room text route out zero known e z =
 pub own-first : (order : Bool) (known : Lookup) (room : ℕ) (lines : List Line) (text : List ℕ) (out route : ℕ)
     {v : View} → v ≡ viewOf lines room 0 → {zero : Bool} → zero ≡ any (eqb 0) text → {n : ℕ}
     → n ≡ firstOf (ownRules (order && v .order) room out route (length text) zero known)
-    → n ≡ ownFirst order known room lines text out route
+    → n ≡ ownAnswerBy order known room lines text out route
 own-first order known room lines text out route ev ez en =
     en
     ∙ rw ez (ap (λ (v : View). firstOf (ownRules (order && v .order) room out route (length text)
@@ -607,19 +624,19 @@ own-first order known room lines text out route ev ez en =
 
 -- answered so, and answered as the definition has it
 pub answered-as : (room : ℕ) (lines : List Line) (number text route out : List ℕ) {n k : ℕ} → n ≡ k → {r : Report}
-    {out′ : List ℕ} → Sends (ownSent usualLimit n room lines number text route) r out out′
-    → Sends (ownSent usualLimit k room lines number text route) r out out′
+    {out′ : List ℕ} → Sends (ownQuerySent usualLimit n room lines number text route) r out out′
+    → Sends (ownQuerySent usualLimit k room lines number text route) r out out′
 answered-as room lines number text route out e {r} {out′} d =
-    subst (λ n. Sends (ownSent usualLimit n room lines number text route) r out out′) e d
+    subst (λ n. Sends (ownQuerySent usualLimit n room lines number text route) r out out′) e d
 
 module _ (room : ℕ) (lines : List Line) (q : Memory) (number text route out : List ℕ) where
   abbrev asked : Station
   asked = state room lines q
 
   own-done : {n : ℕ} → n ≡ ownAnswer asked number text (length out) (length route) → {r : Report} {out′ : List ℕ}
-      → Sends (ownSent usualLimit n room lines number text route) r out out′
+      → Sends (ownQuerySent usualLimit n room lines number text route) r out out′
       → OwnMet asked number text route r (askedState asked number r) out out′
-  unfolding asking ownSent
+  unfolding asking ownQuerySent
   own-done {n} own-is {r} {out′} d =
       subst (λ k. Met (refusedOr k asked route (ownTaken usualLimit asked number text route)) 0 r
       (askedState asked number r) out out′ route) own-is
@@ -650,13 +667,13 @@ module _ (room : ℕ) (lines : List Line) (q : Memory) (number text route out : 
 
   pub own-met : (order : Bool) → bothInOrder order room lines ≡ inOrder asked → (known : Lookup)
       → known ≡ lookedUp asked (numberIn number) → {r : Report} {out′ : List ℕ}
-      → Sends (ownSent usualLimit (ownFirst order known room lines text (length out) (length route)) room lines
+      → Sends (ownQuerySent usualLimit (ownAnswerBy order known room lines text (length out) (length route)) room lines
       number text route) r out out′
       → OwnMet asked number text route r (askedState asked number r) out out′
   unfolding ownAnswer
   own-met order eo known ek d = own-done own-is d
     where
-      own-is : ownFirst order known room lines text (length out) (length route)
+      own-is : ownAnswerBy order known room lines text (length out) (length route)
           ≡ ownAnswer asked number text (length out) (length route)
       own-is = rw (eo, ek)
 
@@ -664,10 +681,10 @@ module _ (room : ℕ) (lines : List Line) (q : Memory) (number text route out : 
 module _ (limit n room : ℕ) (lines : List Line) (l : ℕ) (v : View) (ev : v ≡ viewOf lines room l)
     (number text route out : List ℕ) where
   abbrev told : Report → List ℕ → Type 0
-  told r out′ = Sends (ownSent limit n room lines number text route) r out out′
+  told r out′ = Sends (ownQuerySent limit n room lines number text route) r out out′
 
   pub own-refused : {r : Report} → (n ≡ 0 → ⊥) → r ≡ quietReport n → told r out
-  unfolding ownSent
+  unfolding ownQuerySent
   own-refused z er = rw (ne-eqb n 0 z) (record { report = er; output = refl })
 
   module _ (z : n ≡ 0) {q : Report} (eq : q ≡ quietReport n) {to : List Bool}
@@ -677,7 +694,7 @@ module _ (limit n room : ℕ) (lines : List Line) (l : ℕ) (v : View) (ev : v �
         text) ev
 
     pub own-unsent : any (λ b. b) to ≡ false → told (sentIn q (q .written) to) out
-    unfolding ownSent
+    unfolding ownQuerySent
     own-unsent e =
         let f : any (λ b. b) (ownLines limit room lines text route) ≡ false = sym (ap (any (λ b. b)) to-is) ∙ e in
         rw (eq-eqb n 0 z, f)
@@ -686,7 +703,7 @@ module _ (limit n room : ℕ) (lines : List Line) (l : ℕ) (v : View) (ev : v �
     pub own-sent : any (λ b. b) to ≡ true → {w : ℕ} {out′ : List ℕ} → w ≡ length (ownBytes limit number text)
         → out′ ≡ over 0 (ownBytes limit number text) out
         → told (sentIn q w to) out′
-    unfolding ownSent
+    unfolding ownQuerySent
     own-sent e {w} ew eo =
         let f : any (λ b. b) (ownLines limit room lines text route) ≡ true = sym (ap (any (λ b. b)) to-is) ∙ e in
         rw (eq-eqb n 0 z, f)
@@ -694,11 +711,16 @@ module _ (limit n room : ℕ) (lines : List Line) (l : ℕ) (v : View) (ev : v �
 
 -- ---- a fresh state
 
-pub fresh-done : (n : ℕ) {room answer : ℕ} {x : Line} → room ≡ freshRoom n → answer ≡ freshAnswer n
-    → x ≡ emptyLine false
-    → Changed (fresh n) answer (stationOf room (replicate 8 x) freshMemory)
+pub begun-is : (n : ℕ) {room answer : ℕ} {x : Line} → room ≡ freshRoom n → answer ≡ freshAnswer n → x ≡ emptyLine false
+    → _≡_ {A = Beginning} (record { answer = answer; room = room; lines = replicate 8 x }) (begunOver n)
+begun-is n er ea ex = rw (er, ea, ex)
+
+pub fresh-met : (n : ℕ) {r : Beginning} → r ≡ begunOver n
+    → Changed (fresh n) (r .answer) (stationOf (r .room) (r .lines) freshMemory)
 unfolding fresh
-fresh-done n er ea ex = record { answered = ea; state = rw (er, ex) }
+fresh-met n e =
+    subst (λ (r : Beginning). Changed (fresh n) (r .answer) (stationOf (r .room) (r .lines) freshMemory)) (sym e)
+    (record { answered = refl; state = refl })
 
 -- an own query that fits, written
 module _ (limit : ℕ) (number text out : List ℕ) (sixteen : length number ≡ 16) (short : length text ≤ 4093)

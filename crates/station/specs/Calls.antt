@@ -12,16 +12,17 @@ use Rattle.wire.specs.Header.{sizeOf}
 use Rattle.protocol.specs.declared.Line.{Line}
 use Rattle.protocol.specs.declared.Lookup.{Lookup}
 use Rattle.protocol.specs.declared.Report.{Report}
-use Rattle.protocol.specs.Memory.{capacity, numberIn, rememberIf, here}
 use Rattle.protocol.specs.Lines.{lineIn, emptyLine}
 use Rattle.protocol.specs.Order.{linesInOrder}
-use Rattle.protocol.specs.State.{Station, Change, withMemory, stateAfter}
+use Rattle.protocol.specs.State.{Station}
 use Rattle.protocol.specs.Outcomes.{Terms, Result, Outcome, Step, writtenFor, reportOf, usedOf, quiet, sends}
 use Rattle.protocol.specs.Outcomes.{refusedOr}
-use Rattle.protocol.specs.Queries.{usualLimit, ownLines, ownBytes}
-use Rattle.protocol.specs.Calls.{openingRules, closingRules, earlyRules, ownRules, messageOutcome, ownOutcome}
+use Rattle.protocol.specs.Queries.{ownLines, ownBytes}
+use Rattle.protocol.specs.Calls.{freshRoom, freshAnswer, freshLines, openingRules, closingRules, earlyRules, ownRules}
+use Rattle.protocol.specs.Calls.{messageOutcome, ownOutcome}
 use Rattle.station.specs.declared.actions.Action.{Action}
 use Rattle.station.specs.declared.changes.LineChange.{LineChange}
+use Rattle.station.specs.declared.changes.Beginning.{Beginning}
 use Rattle.station.specs.Actions.{handedOn, acting}
 
 -- a report, the state after, and the output and the route area after are an outcome's, of a message of which so many
@@ -53,6 +54,10 @@ pub record Changed (o : Outcome) (answer : ℕ) (after : Station) : Type 0 where
 abbrev pub bothInOrder : Bool → ℕ → List Line → Bool
 bothInOrder order room lines = order && linesInOrder room lines
 
+-- a fresh state over a route area of so many bytes: its answer, its room and its lines
+abbrev pub begunOver : ℕ → Beginning
+begunOver n = record { answer = freshAnswer n; room = freshRoom n; lines = freshLines }
+
 -- a line opened or closed with this answer: its record after it
 abbrev pub changedBy : ℕ → Bool → Line → LineChange
 changedBy n live x = record { answer = n; line = cond (eqb n 0) (emptyLine live) x }
@@ -83,28 +88,14 @@ pub record Handed (r : Step) (m : List ℕ) (a : Action) (out out′ route′ : 
   pub output : out′ ≡ over 0 (r .sent) out
   pub area : route′ ≡ r .route
 
--- what is handed on of a message meets its outcome, once the line's record is stored and its number remembered, if
--- it is to be
-abbrev pub changeBy : Action → Change
-changeBy a = record { line = a .line; taken = a .remember }
-
-abbrev pub Arrives : Station → ℕ → List ℕ → Terms → List ℕ → Action → List ℕ → List ℕ → List ℕ → Type 0
-Arrives before line m t route a out out′ route′ =
-    MessageMet before line m t route (a .report) (stateAfter before (line % 8) (numberIn m) (changeBy a)) out out′
-    route′
-
--- the state after an own query: its number is remembered where it is answered 0
-abbrev pub askedState : Station → List ℕ → Report → Station
-askedState before number r = withMemory before
-    (rememberIf (eqb (r .answer) 0) capacity (before .memory) (numberIn number) here)
-
--- the answer to an own query, and what is told and written of one that is answered n
-abbrev pub ownFirst : Bool → Lookup → ℕ → List Line → List ℕ → ℕ → ℕ → ℕ
-ownFirst order known room lines text out route =
+-- the answer to an own query, and what is told and written of one that is answered n (its state: whether the ring takes
+-- the number in)
+abbrev pub ownAnswerBy : Bool → Lookup → ℕ → List Line → List ℕ → ℕ → ℕ → ℕ
+ownAnswerBy order known room lines text out route =
     firstOf (ownRules (bothInOrder order room lines) room out route (length text) (any (eqb 0) text) known)
 
-unfoldable pub ownSent : ℕ → ℕ → ℕ → List Line → List ℕ → List ℕ → List ℕ → Result Bool
-ownSent limit n room lines number text route =
+unfoldable pub ownQuerySent : ℕ → ℕ → ℕ → List Line → List ℕ → List ℕ → List ℕ → Result Bool
+ownQuerySent limit n room lines number text route =
     refusedOr n (eqb n 0) route
     (sends (ownLines limit room lines text route) (writtenFor (ownLines limit room lines text route)
     (ownBytes limit number text))

@@ -6,7 +6,7 @@ ghost use lib.ListN.{length};
 ghost use Rattle.protocol.specs.declared.Line.{Line};
 ghost use Rattle.protocol.specs.Queries.{usualLimit};
 ghost use Rattle.station.specs.Actions.{viewOf};
-ghost use Rattle.station.specs.Calls.{Sends, ownFirst, ownSent};
+ghost use Rattle.station.specs.Calls.{Sends, ownAnswerBy, ownQuerySent};
 use crate::actions::quiet;
 use crate::lines::View;
 use crate::lines::read_lines;
@@ -33,7 +33,7 @@ fn send_own(
     requires { ⌜ (answer ≡ 0 → (length (now text) ≤ 4093) × (4119 ≤ length (now out))) ⌝ }
     ensures { λ r.
         ⌜ ((lines : List Line) (l : ℕ) → v ≡ viewOf lines room l
-        → Sends (ownSent limit answer room lines number (now (text .entry)) (now (route .entry))) r (now (out .entry)) (now (out .exit))) ⌝ }
+        → Sends (ownQuerySent limit answer room lines number (now (text .entry)) (now (route .entry))) r (now (out .entry)) (now (out .exit))) ⌝ }
 {
     let mut report = quiet(answer);
     if answer != 0 {
@@ -62,8 +62,8 @@ pub fn ask(
     route: &[u8],
 ) -> Report
     ensures { λ r.
-        let n = ownFirst (s .order) (s .known) room lines (now (text .entry)) (length (now (out .entry))) (length (now (route .entry))) in
-        ⌜ Sends (ownSent usualLimit n room lines number (now (text .entry)) (now (route .entry))) r (now (out .entry)) (now (out .exit)) ⌝ }
+        let n = ownAnswerBy (s .order) (s .known) room lines (now (text .entry)) (length (now (out .entry))) (length (now (route .entry))) in
+        ⌜ Sends (ownQuerySent usualLimit n room lines number (now (text .entry)) (now (route .entry))) r (now (out .entry)) (now (out .exit)) ⌝ }
 {
     let v = read_lines(lines, room, 0);
     let zero = any_zero(text);

@@ -5,9 +5,8 @@ ghost use Prim.Native.Nat.{_%_};
 ghost use lib.Dec.{eqb};
 ghost use Rattle.protocol.specs.Memory.{gone};
 ghost use Rattle.protocol.specs.Lines.{emptyLine};
-ghost use Rattle.protocol.specs.State.{stationOf};
-ghost use Rattle.protocol.specs.Calls.{fresh, freshRoom, freshAnswer, freshMemory};
-ghost use Rattle.station.specs.Calls.{Changed, openedBy, closedBy};
+ghost use Rattle.protocol.specs.Calls.{freshRoom, freshAnswer};
+ghost use Rattle.station.specs.Calls.{begunOver, openedBy, closedBy};
 use crate::lines::read_lines;
 use protocol::GONE;
 use protocol::Line;
@@ -65,9 +64,9 @@ fn area_answer(n: usize) -> u8
     if n < 32 { 2 } else { 0 }
 }
 
-// The room and the lines of a fresh state over a route area of so many bytes.
+// The answer, the room and the lines of a fresh state over a route area of so many bytes.
 pub fn begin(length: usize) -> Beginning
-    ensures { λ r. ⌜ Changed (fresh length) (r .answer) (stationOf (r .room) (r .lines) freshMemory) ⌝ }
+    ensures { λ r. ⌜ r ≡ begunOver length ⌝ }
 {
     let room = room_of(length);
     let answer = area_answer(length);

@@ -63,7 +63,7 @@ fn tables_of(lines: [Line; 8]) -> [Table; 8]
     tables
 }
 
-// With the record of line l, for each neighbour's table this room.
+// All of it, with the record of line l, for each neighbour's table this room.
 pub(crate) fn read_lines(lines: [Line; 8], room: usize, l: u32) -> View
     requires { ⌜ l < 8 ⌝ }
     ensures { λ r. ⌜ r ≡ viewOf lines room l ⌝ }
