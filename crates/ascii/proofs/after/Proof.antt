@@ -1,3 +1,4 @@
+-- A part up to the end is what `drop` leaves; at the end or past it both are empty.
 use mathlib.Core.Path.{sym, _∙_}
 use borrow.Author.Needs.{needs}
 use lib.ListN.{length, drop-of-length-le}

@@ -1,3 +1,4 @@
+-- A place within the text is read; past the end the default of `getD` is the 0 returned.
 use mathlib.Core.Path.{sym}
 use borrow.Author.Needs.{needs}
 use lib.ListN.{List·getD-eq-default}

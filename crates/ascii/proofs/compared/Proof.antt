@@ -1,3 +1,4 @@
+-- With `fold` the byte is what `lower` returns, without it the byte itself.
 use borrow.Author.Needs.{needs}
 use Rattle.ascii.specs.Text.{compared}
 use Rattle.ascii.proofs.compared.Statement.{statement}

@@ -1,3 +1,4 @@
+-- A part of n bytes is what `take` gives; where the text has no more than n bytes `take` gives all of it.
 use mathlib.Core.Path.{sym}
 use borrow.Author.Needs.{needs}
 use lib.Seq.{length-take-le, take-all}

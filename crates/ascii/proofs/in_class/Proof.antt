@@ -1,3 +1,4 @@
+-- Each class has its case, closed by what the test of that class ensures; the last one is the digits.
 use borrow.Author.Needs.{needs}
 use Rattle.ascii.proofs.Tests.{tests}
 use Rattle.ascii.proofs.in_class.Statement.{statement}

@@ -1,3 +1,4 @@
+-- Space is the first case, and the comparison with tab decides the other.
 use Rattle.ascii.proofs.Tests.{tests}
 use Rattle.ascii.proofs.is_blank.Statement.{statement}
 use Rattle.ascii.proofs.is_blank.Tie as tie

@@ -1,3 +1,4 @@
+-- A byte below the digit 0 is refused; for the others the comparison with the digit 9 decides.
 use Rattle.ascii.proofs.Tests.{tests}
 use Rattle.ascii.proofs.is_digit.Statement.{statement}
 use Rattle.ascii.proofs.is_digit.Tie as tie

@@ -1,3 +1,4 @@
+-- Space and tab are refused in a case each, and the comparison with a colon decides the rest.
 use Rattle.ascii.proofs.Tests.{tests}
 use Rattle.ascii.proofs.is_name.Statement.{statement}
 use Rattle.ascii.proofs.is_name.Tie as tie

@@ -1,3 +1,4 @@
+-- CR is refused in the first case, and the comparison with LF decides the other.
 use Rattle.ascii.proofs.Tests.{tests}
 use Rattle.ascii.proofs.is_text.Statement.{statement}
 use Rattle.ascii.proofs.is_text.Tie as tie

@@ -1,3 +1,4 @@
+-- The digits counted are a run within the first six bytes, so that the value is taken of at most six.
 use Prim.Native.Nat.{ℕ}
 use mathlib.Core.Path.{_≡_, ap, ap₂, _∙_}
 use native.Mathlib.Omega.{arith}

@@ -1,3 +1,4 @@
+-- Below A and above Z the byte is itself; between them the addition of 32 does not overflow.
 use borrow.Author.Needs.{needs}
 use Rattle.ascii.specs.Text.{lower}
 use Rattle.ascii.proofs.Tests.{tests}

@@ -1,3 +1,4 @@
+-- The front that is compared is as long as the prefix, and the comparison counts the case of letters.
 use mathlib.Core.Path.{ap, _∙_}
 use mathlib.Core.Bool.{false}
 use borrow.Author.Needs.{needs}

@@ -1,3 +1,4 @@
+-- Each bound of a power of ten has a law on how many digits the numbers below it have.
 use Rattle.digits.proofs.Sizes.{size-one, size-two, size-three, size-four, size-five}
 use mathlib.Core.Path.{sym}
 use borrow.Author.Needs.{needs}

@@ -1,3 +1,4 @@
+-- The first byte, or 0 where the line is empty, is tested as a blank.
 use mathlib.Core.Path.{ap, _∙_}
 use Rattle.ascii.specs.Text.{isBlank}
 use borrow.Author.Needs.{needs}

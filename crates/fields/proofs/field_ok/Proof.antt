@@ -1,3 +1,4 @@
+-- The cases are a field, a line behind a field, which must go on with it, and any other, which is refused.
 use mathlib.Core.Path.{sym, _∙_}
 use borrow.Author.Needs.{needs}
 use Rattle.fields.proofs.field_ok.Statement.{statement}

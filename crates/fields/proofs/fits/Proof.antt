@@ -1,3 +1,4 @@
+-- Lines that are no fields and a name that is not there are refused first; then the length decides.
 use borrow.Author.Tests.{not-true, not-false}
 use Rattle.fields.proofs.fits.Statement.{statement}
 use Rattle.fields.proofs.fits.Tie as tie

@@ -1,3 +1,4 @@
+-- An empty name is refused; behind another one the byte at its length is compared with a colon.
 use mathlib.Core.Path.{sym}
 use borrow.Author.Tests.{le-ltb, lt-ltb}
 use borrow.Author.Needs.{needs}

@@ -1,3 +1,4 @@
+-- The first n bytes are the name, since n is its length, and they are compared without regard to case.
 use mathlib.Core.Path.{ap, _∙_}
 use lib.ListN.{take}
 use Rattle.ascii.specs.Text.{sameName}

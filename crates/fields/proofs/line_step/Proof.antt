@@ -1,3 +1,4 @@
+-- The cases are a line that goes on, with the name or without, and a field, with the name or without.
 use mathlib.Core.Path.{sym, _∙_}
 use Rattle.fields.specs.Step.{stepFrom}
 use borrow.Author.Needs.{needs}

@@ -1,3 +1,4 @@
+-- Without a separator one copy writes all; with one, the byte stored and the copy behind it are one write.
 use mathlib.Core.Path.{refl, _∙_}
 use native.Mathlib.Omega.{arith}
 use Prim.Native.Nat.{_+_}

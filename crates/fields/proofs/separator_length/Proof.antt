@@ -1,3 +1,4 @@
+-- The test for 0 is the one by which the definition has no byte or one.
 use borrow.Author.Tests.{eq-eqb, ne-eqb}
 use Rattle.fields.proofs.separator_length.Statement.{statement}
 use Rattle.fields.proofs.separator_length.Tie as tie

@@ -1,3 +1,4 @@
+-- The name, the colon and the blanks are runs within the line, so that neither sum overflows.
 use mathlib.Core.Path.{ap, _∙_}
 use Prim.Native.Nat.{_+_}
 use native.Mathlib.Omega.{arith}

@@ -1,3 +1,4 @@
+-- Four cases: reading is refused, the area is short, the value fits, and the name is absent.
 use borrow.Author.Tests.{lt-ltb, le-ltb}
 use Rattle.ascii.proofs.Tests.{tests}
 use Rattle.handshake.specs.Group.{askedFrom}

@@ -1,3 +1,4 @@
+-- Three cases, by the answer: 0, 10 for an absent name, and any other refusal.
 use borrow.Author.Tests.{eq-eqb, ne-eqb}
 use Rattle.handshake.specs.Group.{askedWith}
 use Rattle.handshake.proofs.asked_with.Statement.{statement}

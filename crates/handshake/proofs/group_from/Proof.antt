@@ -1,3 +1,4 @@
+-- Two cases: answer 0 gives the start's fields, and any other answer gives the refused group.
 use Rattle.ascii.proofs.Tests.{tests}
 use borrow.Author.Tests.{ne-eqb}
 use Rattle.handshake.specs.Group.{groupFrom}

@@ -1,3 +1,4 @@
+-- Four cases: no end, with 4,096 bytes or with fewer, and a whole group, understood or not.
 use borrow.Author.Tests.{ne-eqb}
 use Rattle.ascii.proofs.Tests.{tests}
 use Rattle.handshake.specs.Group.{groupNumber}

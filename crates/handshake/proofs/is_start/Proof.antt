@@ -1,3 +1,4 @@
+-- The line is all text exactly where its leading run of text is as long as the line.
 use mathlib.Core.Path.{sym, _∙_}
 use Rattle.ascii.specs.Text.{isText}
 use Rattle.ascii.proofs.TextLaws.{all-run, not-all-run}

@@ -1,3 +1,4 @@
+-- Finding a field tells whether all lines are good, and a first line that is no start decides alone.
 use mathlib.Core.Path.{sym, ap, _∙_}
 use mathlib.Core.List.{[]}
 use Rattle.groups.specs.Lines.{linesOf}

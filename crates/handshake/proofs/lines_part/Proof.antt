@@ -1,3 +1,4 @@
+-- Where n is below 2, n - 2 is 0, so that the empty front is the one the contract asks for.
 use mathlib.Core.Path.{_≡_}
 use Prim.Native.Nat.{_-_}
 use native.Mathlib.Omega.{arith}

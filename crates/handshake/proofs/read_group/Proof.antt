@@ -1,3 +1,4 @@
+-- One law joins the calls up to the fields, and a second joins the test, the answer and the group to them.
 use Rattle.handshake.proofs.GroupLaws.{front-of, read-is}
 use borrow.Author.Needs.{needs}
 use Rattle.handshake.proofs.read_group.Statement.{statement}

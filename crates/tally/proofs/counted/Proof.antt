@@ -1,3 +1,4 @@
+-- An answer number below the bound has its count raised by one; any other leaves the tally.
 use borrow.Author.Needs.{needs}
 use borrow.Author.Tests.{lt-ltb, le-ltb}
 use Rattle.tally.specs.Counts.{bump, counted}

@@ -1,3 +1,4 @@
+-- A count below the largest goes up by one without overflow; the largest stays.
 use native.Mathlib.Omega.{arith}
 use borrow.Author.Needs.{needs}
 use Rattle.tally.specs.Counts.{oneMore}

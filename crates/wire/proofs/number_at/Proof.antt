@@ -1,3 +1,4 @@
+-- Within the bytes it is the byte that is read; past their end the default, which is 0.
 use mathlib.Core.Path.{sym}
 use lib.ListN.{List·getD-eq-default}
 use borrow.Author.Needs.{needs}

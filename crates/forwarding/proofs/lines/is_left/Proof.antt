@@ -1,3 +1,4 @@
+-- A line without the flag is out already; for the others the answer of the route table is negated.
 use mathlib.Core.Path.{ap}
 use mathlib.Core.Bool.{not}
 use borrow.Author.Tests.{not-true, not-false}

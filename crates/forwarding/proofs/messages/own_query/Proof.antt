@@ -1,3 +1,4 @@
+-- A text too long or a lack of room writes nothing; else the stores, one behind another, make the query.
 use mathlib.Core.Path.{_≡_, _∙_}
 use mathlib.Core.Bool.{true}
 use lib.ListN.{length-set, length-take, length-drop}

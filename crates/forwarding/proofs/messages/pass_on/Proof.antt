@@ -1,3 +1,4 @@
+-- Each refusal makes the message not passable; else the copy with TTL and Hops stored is the one passed on.
 use mathlib.Core.Path.{_≡_}
 use mathlib.Core.Bool.{true}
 use lib.ListN.{length-set, length-take}

@@ -1,3 +1,4 @@
+-- A text has a zero byte exactly where the bytes before the first are fewer than all.
 use mathlib.Core.Path.{sym, ap, _∙_}
 use lib.Dec.{ltb}
 use lib.ListN.{length}

@@ -1,3 +1,4 @@
+-- A payload of less than two bytes has no text; in others it ends at the first zero byte behind the speed.
 use Rattle.forwarding.proofs.TextLaws.{text-none, text-some}
 use borrow.Author.Needs.{needs}
 use Rattle.forwarding.proofs.texts.text_length.Statement.{statement}

@@ -1,3 +1,4 @@
+-- The cases are no CR and LF before n, n of 2, n of 3, and a second CR and LF two bytes earlier.
 use mathlib.Core.Path.{sym, _∙_}
 use borrow.Author.Tests.{eq-eqb, ne-eqb, lt-leb, le-leb, not-true, not-false}
 use Rattle.groups.specs.Lines.{endsAt}

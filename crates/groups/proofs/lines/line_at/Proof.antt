@@ -1,3 +1,4 @@
+-- The line is the front, up to its length, of what stands from the place on.
 use Rattle.groups.specs.Lines.{lineAt}
 use borrow.Author.Needs.{needs}
 use Rattle.groups.proofs.lines.line_at.Statement.{statement}

@@ -1,3 +1,4 @@
+-- Where nothing is left the line ends; where something is, it ends exactly with CR and LF.
 use mathlib.Core.Path.{sym, ap, _∙_}
 use native.Mathlib.Omega.{arith}
 use lib.ListN.{drop-of-length-le}

@@ -1,3 +1,4 @@
+-- Past the end a byte counts as 0, which is neither CR nor LF; the other cases compare the bytes read.
 use lib.ListN.{List·getD-eq-default}
 use borrow.Author.Tests.{eq-eqb, ne-eqb}
 use borrow.Author.Needs.{needs}

@@ -1,3 +1,4 @@
+-- Both cases of the test against 4,096 are the smaller number, by arithmetic.
 use borrow.Author.Needs.{needs}
 use Rattle.groups.proofs.lines.searched.Statement.{statement}
 use Rattle.groups.proofs.lines.searched.Tie as tie

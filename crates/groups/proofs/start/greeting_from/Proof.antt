@@ -1,3 +1,4 @@
+-- Three cases: no version, a version with more behind it, and a version that is the whole text.
 use borrow.Author.Tests.{eq-eqb, ne-eqb}
 use Rattle.groups.specs.Start.{greetingFrom}
 use borrow.Author.Needs.{needs}

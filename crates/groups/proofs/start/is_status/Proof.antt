@@ -1,3 +1,4 @@
+-- The last call gives the status test, and the values it is handed are rewritten by what each call ensures.
 use mathlib.Core.Path.{_∙_}
 use borrow.Author.Needs.{needs}
 use Rattle.groups.proofs.start.is_status.Statement.{statement}

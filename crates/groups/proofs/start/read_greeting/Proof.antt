@@ -1,3 +1,4 @@
+-- The greeting made from a version, with that version replaced by the one that was read from the text.
 use mathlib.Core.Path.{_∙_}
 use borrow.Author.Needs.{needs}
 use Rattle.groups.proofs.start.read_greeting.Statement.{statement}

@@ -1,3 +1,4 @@
+-- The reply made from version, status and code, each replaced by what the call that read it ensures.
 use mathlib.Core.Path.{_∙_}
 use borrow.Author.Needs.{needs}
 use Rattle.groups.proofs.start.read_reply.Statement.{statement}

@@ -1,3 +1,4 @@
+-- Three cases, by the words the line starts with: a greeting, a reply, and neither.
 use mathlib.Core.Path.{sym, ap, _∙_}
 use Rattle.groups.specs.Start.{startOf, greetingOf, replyOf}
 use borrow.Author.Needs.{needs}

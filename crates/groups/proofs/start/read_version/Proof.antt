@@ -1,3 +1,4 @@
+-- At most six digits are counted, so that the place behind the dot does not overflow.
 use mathlib.Core.Path.{ap}
 use native.Mathlib.Omega.{arith}
 use Rattle.ascii.specs.declared.Decimal.{Decimal}

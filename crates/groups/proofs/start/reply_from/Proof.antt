@@ -1,3 +1,4 @@
+-- Three cases: no version, a version with a status behind it, and a version without one.
 use borrow.Author.Tests.{eq-eqb, ne-eqb}
 use Rattle.groups.specs.Start.{replyFrom}
 use borrow.Author.Needs.{needs}

@@ -1,3 +1,4 @@
+-- Each return is the value that the definition has under the same tests, in the same order.
 use Rattle.groups.specs.Start.{statusOk}
 use Rattle.ascii.proofs.Tests.{tests}
 use Rattle.groups.proofs.start.status_ok.Statement.{statement}

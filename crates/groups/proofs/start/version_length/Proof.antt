@@ -1,3 +1,4 @@
+-- Each of the eight returns is the definition's value under the tests before it, and no sum overflows.
 use Rattle.groups.specs.Start.{versionLength}
 use Rattle.ascii.proofs.Tests.{tests}
 use borrow.Author.Needs.{needs}

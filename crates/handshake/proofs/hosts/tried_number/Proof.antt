@@ -1,3 +1,4 @@
+-- Three cases, by the answer to asking for the field: 0, 10 for an absent name, and any other.
 use Rattle.ascii.proofs.Tests.{tests}
 use borrow.Author.Needs.{needs}
 use Rattle.handshake.proofs.hosts.tried_number.Statement.{statement}

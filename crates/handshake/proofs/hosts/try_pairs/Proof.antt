@@ -1,3 +1,4 @@
+-- One law of asking shows that what was written is within the array, and that its pairs are the group's.
 use Prim.Native.Nat.{ℕ}
 use mathlib.Core.Path.{sym}
 use lib.ListN.{replicate, length-replicate}

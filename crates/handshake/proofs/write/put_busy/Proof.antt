@@ -1,3 +1,4 @@
+-- The words, the pairs and the line ends are put one behind another, and come to 1,024 bytes at most.
 use mathlib.Core.Path.{refl}
 use Rattle.handshake.proofs.Busy.{busy-size, busy-all}
 use borrow.Author.Needs.{needs}

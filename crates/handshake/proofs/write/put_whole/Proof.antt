@@ -1,3 +1,4 @@
+-- Two cases: an area shorter than the text stays as it is, and any other has the text copied to its front.
 use Rattle.handshake.proofs.Busy.{whole-short, whole-put}
 use borrow.Author.Needs.{needs}
 use Rattle.handshake.proofs.write.put_whole.Statement.{statement}

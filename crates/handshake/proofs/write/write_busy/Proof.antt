@@ -1,3 +1,4 @@
+-- Three cases, a law for each: pairs that cannot be written, no pairs, and some pairs.
 use mathlib.Core.Path.{_≡_, sym, _∙_}
 use lib.ListN.{length, length-map, replicate}
 use borrow.Author.Tests.{not-true, not-false}

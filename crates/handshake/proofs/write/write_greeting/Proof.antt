@@ -1,3 +1,4 @@
+-- The greeting's bytes are those of the text that is put whole.
 use Rattle.handshake.specs.Groups.{greetingBytes}
 use borrow.Author.Needs.{needs}
 use Rattle.handshake.proofs.write.write_greeting.Statement.{statement}

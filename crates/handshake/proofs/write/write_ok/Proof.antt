@@ -1,3 +1,4 @@
+-- The bytes of the 200 reply are those of the text that is put whole.
 use Rattle.handshake.specs.Groups.{okBytes}
 use borrow.Author.Needs.{needs}
 use Rattle.handshake.proofs.write.write_ok.Statement.{statement}

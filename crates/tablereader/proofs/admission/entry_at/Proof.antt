@@ -1,3 +1,4 @@
+-- A place among the entries that the part holds is read there, and one beyond them gives 0, the default.
 use mathlib.Core.Path.{sym}
 use native.Mathlib.Omega.{arith}
 use lib.Seq.{getD-take}

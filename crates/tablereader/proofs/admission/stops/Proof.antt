@@ -1,3 +1,4 @@
+-- Three cases: the table is not settled, its entry is Infinity, and the entry is compared with the TTL.
 use borrow.Author.Tests.{eq-eqb, ne-eqb}
 use borrow.Author.Needs.{needs}
 use Rattle.tablereader.proofs.admission.stops.Statement.{statement}

@@ -1,3 +1,4 @@
+-- Two cases: a number below 2 is refused by the lower bound, and any other is decided by the upper one.
 use borrow.Author.Tests.{le-leb, lt-leb}
 use Rattle.tablereader.proofs.bounds.good_infinity.Statement.{statement}
 use Rattle.tablereader.proofs.bounds.good_infinity.Tie as tie

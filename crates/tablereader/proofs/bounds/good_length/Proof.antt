@@ -1,3 +1,4 @@
+-- The arm's numbers are the list of lengths: one of them passes the list's test, and any other fails it.
 use mathlib.Core.List.{[], _∷_}
 use mathlib.Core.Path.{sym}
 use Rattle.tables.specs.Tables.{goodLength}

@@ -1,3 +1,4 @@
+-- An end before the start, too few entries left, the last message of a run, and any other, by arithmetic.
 use Prim.Native.Nat.{_+_, _-_}
 use native.Mathlib.Omega.{arith}
 use borrow.Author.Tests.{le-leb, lt-leb}

@@ -1,3 +1,4 @@
+-- The test for 4 comes first; where it fails, the test for 8 is what is left of the rule.
 use borrow.Author.Tests.{eq-eqb, ne-eqb}
 use Rattle.tablereader.proofs.fields.good_bits.Statement.{statement}
 use Rattle.tablereader.proofs.fields.good_bits.Tie as tie

@@ -1,3 +1,4 @@
+-- Each test is one of a PATCH's, in their order: the first that fails refuses it, and the bits decide last.
 use mathlib.Core.Path.{sym, _∙_}
 use mathlib.Core.Bool.{and-true}
 use borrow.Author.Tests.{le-leb, lt-leb, eq-eqb, ne-eqb}

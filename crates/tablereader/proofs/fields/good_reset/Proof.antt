@@ -1,3 +1,4 @@
+-- Each test is one of a RESET's, in their order: the first that fails refuses it, and Infinity decides last.
 use mathlib.Core.Path.{sym, _∙_}
 use mathlib.Core.Bool.{and-true}
 use native.Mathlib.Omega.{arith}

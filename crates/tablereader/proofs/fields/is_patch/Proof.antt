@@ -1,3 +1,4 @@
+-- An empty payload is no PATCH, by a law; any other is told by its first byte.
 use borrow.Author.Needs.{needs}
 use Rattle.tablereader.proofs.FieldLaws.{empty-no-patch}
 use Rattle.tablereader.proofs.fields.is_patch.Statement.{statement}

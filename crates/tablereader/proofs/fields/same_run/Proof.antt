@@ -1,3 +1,4 @@
+-- Outside a run nothing is compared; inside one the size is, and then the bits.
 use borrow.Author.Tests.{eq-eqb, ne-eqb}
 use Rattle.tablereader.proofs.fields.same_run.Statement.{statement}
 use Rattle.tablereader.proofs.fields.same_run.Tie as tie

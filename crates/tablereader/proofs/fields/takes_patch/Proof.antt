@@ -1,3 +1,4 @@
+-- The three marks in the order of the rule: waiting, running, settled.
 use borrow.Author.Tests.{eq-eqb, ne-eqb}
 use Rattle.tablereader.proofs.fields.takes_patch.Statement.{statement}
 use Rattle.tablereader.proofs.fields.takes_patch.Tie as tie

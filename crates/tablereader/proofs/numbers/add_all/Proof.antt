@@ -1,3 +1,4 @@
+-- Numbers of 4 bits go to `add_nibbles`; otherwise they have 8, and each byte is a number as it stands.
 use Rattle.tables.proofs.NumberLaws.{eight, numbers-whole}
 use borrow.Author.Needs.{needs}
 use Rattle.tablereader.proofs.numbers.add_all.Statement.{statement}

@@ -1,3 +1,4 @@
+-- The unpacked numbers fit where the 4-bit ones do, and adding them gives the same entries.
 use mathlib.Core.Path.{sym, ap, _∙_}
 use native.Mathlib.Omega.{arith}
 use lib.Seq.{length-take-le}

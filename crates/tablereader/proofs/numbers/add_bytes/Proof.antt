@@ -1,3 +1,4 @@
+-- The entries gone through, and the numbers left added to the entries left, make the whole sum.
 use Prim.Native.Nat.{_-_}
 use mathlib.Core.Path.{_∙_}
 use native.Mathlib.Omega.{arith}

@@ -1,3 +1,4 @@
+-- Two numbers for each byte gone through are added, and those left fit and complete the whole sum.
 use Prim.Native.Nat.{_-_, _*_}
 use native.Mathlib.Omega.{arith}
 use lib.ListN.{length, length-take, length-drop}

@@ -1,3 +1,4 @@
+-- Numbers of 4 bits go to `nibbles_fit`; otherwise they have 8, and each byte is tried as it stands.
 use Prim.Native.Nat.{_*_, _≤_}
 use native.Mathlib.Omega.{arith}
 use lib.ListN.{length}

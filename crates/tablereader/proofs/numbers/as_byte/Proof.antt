@@ -1,3 +1,4 @@
+-- A number below 8 stays; any other gets 240 more, which stays within a byte.
 use borrow.Author.Needs.{needs}
 use borrow.Author.Tests.{lt-ltb, le-ltb}
 use Rattle.tablereader.proofs.numbers.as_byte.Statement.{statement}

@@ -1,3 +1,4 @@
+-- The block is unpacked within the 256 numbers, and these fit exactly where the 4-bit ones do.
 use mathlib.Core.Path.{sym, ap, _∙_}
 use native.Mathlib.Omega.{arith}
 use lib.ListN.{length-take}

@@ -1,3 +1,4 @@
+-- All numbers fit exactly if `good` holds and those of the bytes left, two for each, fit the entries left.
 use Prim.Native.Nat.{_-_, _*_, _≤_}
 use mathlib.Core.Path.{_≡_, refl, sym, _∙_}
 use mathlib.Core.Bool.{_&&_}

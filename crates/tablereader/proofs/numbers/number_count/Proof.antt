@@ -1,3 +1,4 @@
+-- Two numbers for each byte at 4 bits, one otherwise; the bound on n keeps the product within a usize.
 use native.Mathlib.Omega.{arith}
 use borrow.Author.Tests.{eq-eqb, ne-eqb}
 use borrow.Author.Needs.{needs}

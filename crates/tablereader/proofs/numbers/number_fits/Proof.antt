@@ -1,3 +1,4 @@
+-- One law for a number that adds and one for a number that takes away, both on the sum modulo 256.
 use borrow.Author.Needs.{needs}
 use Rattle.tables.proofs.NumberLaws.{fits-adding, fits-taking}
 use Rattle.tablereader.proofs.numbers.number_fits.Statement.{statement}

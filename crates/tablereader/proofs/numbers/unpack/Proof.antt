@@ -1,3 +1,4 @@
+-- Twice as many numbers as bytes gone through are written, and they are what those bytes unpack to.
 use Prim.Native.Nat.{_-_}
 use native.Mathlib.Omega.{arith}
 use lib.ListN.{length, length-set}

@@ -1,3 +1,4 @@
+-- The next place is tested first; if it is 1, the next entry decides.
 use borrow.Author.Tests.{eq-eqb, ne-eqb}
 use Rattle.tablereader.proofs.order.between_runs.Statement.{statement}
 use Rattle.tablereader.proofs.order.between_runs.Tie as tie

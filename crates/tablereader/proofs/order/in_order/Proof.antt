@@ -1,3 +1,4 @@
+-- A mark past the five, a mark that takes a PATCH and so has limits, and a mark without limits.
 use mathlib.Core.Path.{sym, _∙_}
 use borrow.Author.Tests.{le-leb, lt-leb}
 use borrow.Author.Needs.{needs}

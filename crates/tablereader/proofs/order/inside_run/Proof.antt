@@ -1,3 +1,4 @@
+-- Each test is one of the run position, in their order, and the next entry decides last.
 use mathlib.Core.Bool.{and-true}
 use mathlib.Core.Path.{sym, _∙_}
 use lib.Dec.{leb}

@@ -1,3 +1,4 @@
+-- The mark, the place and the run each refuse; past them, where the data ends decides, by `turn-last`.
 use mathlib.Core.Path.{sym, _∙_}
 use borrow.Author.Tests.{eq-eqb, ne-eqb, not-true, not-false}
 use borrow.Author.Needs.{needs}

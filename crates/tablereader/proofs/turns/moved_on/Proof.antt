@@ -1,3 +1,4 @@
+-- The last place settles the table; any other is below the run size, so the next place fits a byte.
 use native.Mathlib.Omega.{arith}
 use borrow.Author.Tests.{eq-eqb, ne-eqb}
 use borrow.Author.Needs.{needs}

@@ -1,3 +1,4 @@
+-- The first i bytes are v, those behind are as they were, and the length stays.
 use Prim.Native.Nat.{_≤_, _-_}
 use mathlib.Core.List.{_++_}
 use mathlib.Core.Path.{_≡_, refl, ap, _∙_}

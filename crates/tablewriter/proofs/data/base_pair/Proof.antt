@@ -1,3 +1,4 @@
+-- With an old table the pair is read from it; without one both entries of the base are Infinity.
 use mathlib.Core.Path.{ap, _∙_}
 use mathlib.Core.Bool.{cond}
 use native.Mathlib.Omega.{arith}

@@ -1,3 +1,4 @@
+-- By the plan's bits: a byte of two 4-bit differences, or one 8-bit difference from the base's entry.
 use mathlib.Core.Path.{ap, sym, _∙_}
 use native.Mathlib.Omega.{arith}
 use lib.ListN.{getD}

@@ -1,3 +1,4 @@
+-- Half a byte for each entry where the differences are small, else a byte.
 use borrow.Author.Needs.{needs}
 use Rattle.tablewriter.proofs.data.data_length.Statement.{statement}
 use Rattle.tablewriter.proofs.data.data_length.Tie as tie

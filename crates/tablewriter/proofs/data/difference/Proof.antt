@@ -1,3 +1,4 @@
+-- 256 is added so that nothing goes below 0; a law makes the remainder the two's complement number.
 use Rattle.tablemessages.proofs.DataLaws.{raw-eight}
 use borrow.Author.Needs.{needs}
 use Rattle.tablewriter.proofs.data.difference.Statement.{statement}

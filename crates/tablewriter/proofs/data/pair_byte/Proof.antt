@@ -1,3 +1,4 @@
+-- Both differences lie in -8..7, so one law takes each from the last four bits of its entries.
 use Prim.Native.Nat.{_+_}
 use native.Mathlib.Omega.{arith}
 use lib.ListN.{getD}

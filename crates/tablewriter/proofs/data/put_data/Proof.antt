@@ -1,3 +1,4 @@
+-- The first i bytes of the data from `from` on stand at the front of the part, whose length stays.
 use Prim.Native.Nat.{_-_, _≤_}
 use mathlib.Core.Path.{_≡_, refl, ap, sym, _∙_}
 use native.Mathlib.Omega.{arith}

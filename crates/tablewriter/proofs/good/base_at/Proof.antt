@@ -1,3 +1,4 @@
+-- With an old table entry i of the base is the old one, without one it is Infinity: one law, both cases.
 use mathlib.Core.Path.{sym, ap, _∙_}
 use mathlib.Core.Bool.{cond}
 use native.Mathlib.Omega.{arith}

@@ -1,3 +1,4 @@
+-- The entries gone through are in range where `good` says so; those left decide.
 use Prim.Native.Nat.{_≤_, _-_}
 use mathlib.Core.Path.{_≡_, refl, sym, ap, _∙_}
 use mathlib.Core.Bool.{_&&_, and-true}

@@ -1,3 +1,4 @@
+-- An entry is at most 255, so a sum capped at 255 bounds it as the sum itself does.
 use mathlib.Core.Path.{ap₂}
 use mathlib.Core.Bool.{_&&_}
 use Prim.Native.Nat.{_+_}

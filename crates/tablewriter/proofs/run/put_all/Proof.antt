@@ -1,3 +1,4 @@
+-- With an old table the run alone; without one the RESET, and the run in the part of `out` behind it.
 use Prim.Native.Nat.{_-_}
 use mathlib.Core.Path.{ap, _∙_}
 use native.Mathlib.Omega.{arith}

@@ -1,3 +1,4 @@
+-- The event has at least six bytes, so its second can be read, and a byte fits the wider type.
 use native.Mathlib.Omega.{arith}
 use borrow.Author.Needs.{needs}
 use Rattle.transcript.proofs.events.line_of.Statement.{statement}

@@ -1,3 +1,4 @@
+-- Bad offsets make a bad file; good ones leave room for the events' offsets, and the events decide.
 use Rattle.transcript.proofs.Reading.{offsets-room, file-bad, file-events}
 use native.Mathlib.Omega.{arith}
 use mathlib.Core.Path.{sym, _∙_}

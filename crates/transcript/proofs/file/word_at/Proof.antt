@@ -1,3 +1,4 @@
+-- The part from a place up to the end is the file with the bytes before that place dropped.
 use Rattle.laws.proofs.Parts.{part-tail}
 use borrow.Author.Needs.{needs}
 use Rattle.transcript.proofs.file.word_at.Statement.{statement}

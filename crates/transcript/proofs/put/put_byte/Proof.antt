@@ -1,3 +1,4 @@
+-- One store within the area is a text of one byte put there, and the next place is one further.
 use Rattle.transcript.proofs.Putting.{put-one}
 use borrow.Author.Needs.{needs}
 use Rattle.transcript.proofs.put.put_byte.Statement.{statement}

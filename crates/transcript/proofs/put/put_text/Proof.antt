@@ -1,3 +1,4 @@
+-- The bytes left, put over the area behind those copied, make the whole text put over the first area.
 use Rattle.transcript.proofs.Putting.{Copying, copying-start, copying-on, copying-end}
 use lib.ListN.{length}
 use Prim.Native.Nat.{_-_}

@@ -1,3 +1,4 @@
+-- The scan goes over the whole text, and the place it finds is the length of what stands before the byte.
 use mathlib.Core.Path.{ap, _∙_}
 use native.Mathlib.Nat.{zero-add}
 use native.Mathlib.Omega.{arith}

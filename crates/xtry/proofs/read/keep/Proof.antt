@@ -1,3 +1,4 @@
+-- Where 32 pairs are kept nothing changes; else the pair is stored at the count, which is within.
 use borrow.Author.Tests.{lt-ltb, le-ltb}
 use Rattle.xtry.specs.Reading.{kept}
 use borrow.Author.Needs.{needs}

@@ -1,3 +1,4 @@
+-- A count of 0 and 32 empty places are the pairs of the empty list, by definition.
 use mathlib.Core.Path.{refl}
 use Rattle.xtry.specs.Pairs.{pairsFrom}
 use Rattle.xtry.proofs.read.no_pairs.Statement.{statement}

@@ -1,3 +1,4 @@
+-- A law for each case: an empty text, one too wide, one that is not all digits, and a number.
 use mathlib.Core.Path.{sym, ap, _∙_}
 use borrow.Author.Needs.{needs}
 use Rattle.ascii.specs.declared.Decimal.{Decimal}

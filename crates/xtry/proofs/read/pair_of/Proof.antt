@@ -1,3 +1,4 @@
+-- Each test in its order, with those before it passed; past them all the numbers fit their types.
 use borrow.Author.Tests.{le-leb, lt-leb}
 use Rattle.xtry.specs.Reading.{parsedFrom}
 use borrow.Author.Needs.{needs}

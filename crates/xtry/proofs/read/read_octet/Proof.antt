@@ -1,3 +1,4 @@
+-- The separator is within the text or at its end; the number before it and the place behind it make the octet.
 use Rattle.xtry.proofs.Parsing.{octet-count, octet-in}
 use borrow.Author.Needs.{needs}
 use Rattle.xtry.proofs.read.read_octet.Statement.{statement}

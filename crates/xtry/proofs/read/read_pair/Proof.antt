@@ -1,3 +1,4 @@
+-- Each octet is read from what the one before it leaves, and the port from the rest: one law joins the five.
 use Rattle.xtry.proofs.Parsing.{octet-rest, parse-item}
 use Rattle.xtry.specs.Pairs.{dot, colon}
 use lib.ListN.{length, take, drop}

@@ -1,3 +1,4 @@
+-- The pairs kept so far and the items from `at` on give the answer of the whole value; a bad item refuses it.
 use borrow.Author.Tests.{not-true, not-false}
 use native.Mathlib.Omega.{arith}
 use Rattle.xtry.proofs.Items.{Left, left-all, left-end, turn-count, turn-on, turn-bad, rest-length}

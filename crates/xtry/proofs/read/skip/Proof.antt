@@ -1,3 +1,4 @@
+-- The four cases: no comma, a comma at the end, a comma with a space behind it, a comma without one.
 use Rattle.xtry.proofs.Skipping.{skip-all, skip-last, skip-space, skip-plain}
 use borrow.Author.Needs.{needs}
 use Rattle.xtry.proofs.read.skip.Statement.{statement}

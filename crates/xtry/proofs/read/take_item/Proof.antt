@@ -1,3 +1,4 @@
+-- A law for each case: an empty item, one that is a pair, which is kept, and a bad one.
 use Rattle.xtry.proofs.Parsing.{taken-empty, taken-good, taken-bad}
 use borrow.Author.Needs.{needs}
 use Rattle.xtry.proofs.read.take_item.Statement.{statement}
