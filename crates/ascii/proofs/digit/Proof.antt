@@ -1,4 +1,4 @@
--- Below the digit 0 and above the digit 9 the value is 0; between them the subtraction stays in range and gives the digit.
+-- Below the digit 0 and above the digit 9 the value is 0; between them the difference stays in range.
 use borrow.Author.Needs.{needs}
 use Rattle.ascii.specs.Text.{digitOf}
 use Rattle.ascii.proofs.Tests.{tests}
