@@ -11,7 +11,7 @@ use Rattle.wire.specs.Header.{message}
 use Rattle.tables.specs.declared.Table.{Table}
 use Rattle.protocol.specs.declared.Line.{Line}
 use Rattle.protocol.specs.Memory.{memoryOf}
-use Rattle.protocol.specs.Lines.{emptyLine, withTable}
+use Rattle.protocol.specs.Lines.{emptyLine, withTable, pingedAt, withPending}
 use Rattle.protocol.specs.State.{Station, lineAt, withLine, withMemory}
 use Rattle.protocol.specs.Order.{inOrder}
 use Rattle.protocol.specs.Runs.{Ask, Same, run}
@@ -56,6 +56,7 @@ pongsOf count next place hops x =
       pongnext = next;
       pongs = set (x .pongs) place (record { bytes = replicate 14 0; hops = hops; clock = 0 });
       table = x .table;
+      pending = x .pending;
     }
 
 abbrev pub withPongs : ℕ → ℕ → ℕ → ℕ → Station
@@ -63,17 +64,11 @@ withPongs count next place hops = withLine full 0 (pongsOf count next place hops
 
 -- line 2, which is closed, with a ping time, or with a table of this mark
 abbrev pub pingedClosed : Station
-pingedClosed =
-    withLine full 2
-    (record {
-      live = false;
-      pinged = true;
-      pingtime = 0;
-      pongcount = 0;
-      pongnext = 0;
-      pongs = emptyLine false .pongs;
-      table = emptyLine false .table;
-    })
+pingedClosed = withLine full 2 (pingedAt (emptyLine false) 0)
+
+-- a line with any held count and shut mark
+abbrev pub holds : ℕ → Line → Station
+holds l x = withLine full l (withPending x (record { count = 65535; shut = true }))
 
 abbrev pub table : (mark length infinity place size bits at : ℕ) → Table
 table mark length infinity place size bits at =
@@ -160,6 +155,9 @@ lineClauses =
     -- a closed line's next place may be any under 10, and what stands at its places
     ∷ good (withLine full 2 (pongsOf 0 9 8 8 (emptyLine false)))
     ∷ bad (withLine full 2 (pongsOf 0 10 8 8 (emptyLine false)))
+    -- held bytes and shut marks, of an open line and of a closed one
+    ∷ good (holds 1 (lineAt full 1))
+    ∷ good (holds 2 (emptyLine false))
     ∷ []
 
 -- tables: mark, length, Infinity, next place, run size, bits, next entry; the room is 4

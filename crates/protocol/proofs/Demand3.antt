@@ -54,12 +54,12 @@ Good limit L room c e us area o =
     Matches L room (feed L room (brought c) (unsent c (o .answer)) e) (o .state) (areaAfter c area (o .route))
     × Agrees limit L room e us c o
 
-feed-ask : (L room : ℕ) (b : Bool) (e : Expected) → feed L room asks b e ≡ e
+pub feed-ask : (L room : ℕ) (b : Bool) (e : Expected) → feed L room asks b e ≡ e
 unfolding feed
 feed-ask L room true e = refl
 feed-ask L room false e = refl
 
-kept-lent : (a : Area) (r : List ℕ) → keptArea a r (lent a r) ≡ r
+pub kept-lent : (a : Area) (r : List ℕ) → keptArea a r (lent a r) ≡ r
 kept-lent Same r = refl
 kept-lent (Other x) r = refl
 

@@ -36,7 +36,7 @@ silent-of o n s route e = rw e (quiet-silent n s route)
 -- a line that begins anew
 empty-bare : (live : Bool) → Bare live (emptyLine live)
 unfolding storedPongs keptPlaces
-empty-bare live = record { isLive = refl; mark = refl; pongs = refl; unpinged = refl }
+empty-bare live = record { isLive = refl; mark = refl; pongs = refl; unpinged = refl; unheld = refl; unshut = refl }
 
 pub bare-at : (live : Bool) (x : Line) → x ≡ emptyLine live → Bare live x
 bare-at live x e = rw e (empty-bare live)

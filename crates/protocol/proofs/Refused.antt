@@ -121,7 +121,7 @@ fresh-bare n l = go (ltb l lineCount) refl
         (getD-replicate lineCount l (emptyLine false) nowhere (ltb-true l lineCount e))
     go false e =
         rw (List·getD-eq-default freshLines nowhere {n = l} (ltb-false l lineCount e))
-        (record { isLive = refl; mark = refl; pongs = refl; unpinged = refl })
+        (record { isLive = refl; mark = refl; pongs = refl; unpinged = refl; unheld = refl; unshut = refl })
 
 pub refusal-frame : RefusalFrame
 unfolding fresh queriesIn keptPlaces

@@ -11,12 +11,14 @@ use Rattle.protocol.specs.State.{Station, remembered, lineAt}
 use Rattle.protocol.specs.Lines.{storedPongs}
 use Rattle.protocol.specs.Outcomes.{Outcome, nobody}
 
--- a line with no table, no pongs and no accepted ping, open or closed
+-- a line with no table, no pongs, no accepted ping and nothing held, not shut, open or closed
 pub record Bare (live : Bool) (x : Line) : Type 0 where
   pub isLive : x .live ≡ live
   pub mark : x .table .mark ≡ none
   pub pongs : storedPongs x ≡ []
   pub unpinged : x .pinged ≡ false
+  pub unheld : x .pending .count ≡ 0
+  pub unshut : x .pending .shut ≡ false
 
 -- every line but l is as it was, and so is the room
 pub record Beside (l : ℕ) (s s′ : Station) : Type 0 where

@@ -9,6 +9,7 @@ use Rattle.laws.specs.Ring.{keptPlaces, onward}
 use Rattle.tables.specs.declared.Table.{Table}
 use Rattle.tables.specs.Tables.{Held, noTable, heldIn}
 use Rattle.protocol.specs.declared.Pong.{Pong}
+use Rattle.protocol.specs.declared.Pending.{Pending}
 use Rattle.protocol.specs.declared.Line.{Line}
 
 abbrev pub lineCount : ℕ
@@ -24,6 +25,10 @@ isOther l k = not (eqb k l)
 abbrev pub noPong : Pong
 noPong = record { bytes = replicate 14 0; hops = 0; clock = 0 }
 
+-- of a message that is not whole, nothing is held, and the line is not shut
+abbrev pub noPending : Pending
+noPending = record { count = 0; shut = false }
+
 -- a line just opened or closed (RULES 5.1, 5.2): all zero but whether it is open
 abbrev pub emptyLine : Bool → Line
 emptyLine live = record {
@@ -34,6 +39,7 @@ emptyLine live = record {
   pongnext = 0;
   pongs = replicate 10 noPong;
   table = noTable;
+  pending = noPending;
 }
 
 -- what an index past the lines would read
@@ -46,6 +52,7 @@ nowhere = record {
   pongnext = 0;
   pongs = [];
   table = noTable;
+  pending = noPending;
 }
 
 -- line k of these
@@ -74,6 +81,7 @@ withTable x t =
       pongnext = x .pongnext;
       pongs = x .pongs;
       table = t;
+      pending = x .pending;
     }
 
 abbrev pub pingedAt : Line → ℕ → Line
@@ -86,6 +94,21 @@ pingedAt x clock =
       pongnext = x .pongnext;
       pongs = x .pongs;
       table = x .table;
+      pending = x .pending;
+    }
+
+-- a line with this much of a message held
+abbrev pub withPending : Line → Pending → Line
+withPending x p =
+    record {
+      live = x .live;
+      pinged = x .pinged;
+      pingtime = x .pingtime;
+      pongcount = x .pongcount;
+      pongnext = x .pongnext;
+      pongs = x .pongs;
+      table = x .table;
+      pending = p;
     }
 
 -- the largest Hops of a stored pong (RULES 4.7); it is another number than a query's usual life
@@ -107,6 +130,7 @@ withPong x p =
       pongnext = onward pongCapacity (x .pongnext);
       pongs = set (x .pongs) (x .pongnext % pongCapacity) p;
       table = x .table;
+      pending = x .pending;
     }
 
 -- the stored pongs of a line, the newest first

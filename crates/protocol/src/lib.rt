@@ -36,8 +36,16 @@ pub struct Pong {
     pub clock: u32,
 }
 
-// One line: whether it is open, the time of the last accepted ping, a ring of ten pongs, and its neighbour's table,
-// whose entries are in the route area.
+// What a line has brought of a message that is not whole: how many bytes, which stand in the held area that the caller
+// lends for that line, and whether the line is shut, which takes no more bytes until it is closed and opened.
+#[repr(C)]
+pub struct Pending {
+    pub count: u16,
+    pub shut: bool,
+}
+
+// One line: whether it is open, the time of the last accepted ping, a ring of ten pongs, its neighbour's table, whose
+// entries are in the route area, and the message that it has begun.
 #[repr(C)]
 pub struct Line {
     pub live: bool,
@@ -47,6 +55,7 @@ pub struct Line {
     pub pongnext: usize,
     pub pongs: [Pong; 10],
     pub table: Table,
+    pub pending: Pending,
 }
 
 // What this station says of itself in a pong, and whether it takes calls.

@@ -1,7 +1,7 @@
 -- The tally over lists of calls: a message is answered by the first of its refusals, and each of these has an answer
 -- number.
 -- Assumes nothing.
-use Prim.Native.Nat.{ℕ, suc}
+use Prim.Native.Nat.{ℕ, suc, _<_, min}
 use native.Mathlib.Omega.{arith}
 use mathlib.Core.Path.{_≡_, refl, ap, _∙_}
 use mathlib.Core.Bool.{Bool, true}
@@ -16,15 +16,15 @@ use Rattle.protocol.specs.Calls.{messageOutcome}
 use Rattle.protocol.specs.Runs.{Call, Open, Close, Message, Ask, World, outcomeOf, step, lent}
 use Rattle.protocol.proofs.Outcomes.{earlyIn}
 use Rattle.protocol.proofs.Blind.{afterEarly, numbers, types-all}
-use Rattle.tally.specs.Counts.{answerCount}
+use Rattle.tally.specs.Counts.{answerCount, full, bumps, occurrences}
 use Rattle.tally.specs.History.{zeros}
 use Rattle.tally.proofs.History.{counts-exactly, zeros-sized, sum-is-messages}
 use Rattle.tallyhistory.specs.Calls.{answersOf, messages, TallyOfCalls}
 
-abbrev isAnswer : ℕ → Bool
+abbrev pub isAnswer : ℕ → Bool
 isAnswer n = ltb n answerCount
 
-message-known : (s : Station) (l : ℕ) (m : List ℕ) (t : Terms) (route : List ℕ)
+pub message-known : (s : Station) (l : ℕ) (m : List ℕ) (t : Terms) (route : List ℕ)
     → isAnswer (messageOutcome s l m t route .answer) ≡ true
 message-known s l m t route =
     rw (numbers s l m t route)
@@ -51,12 +51,16 @@ how-many w (Close l ∷ cs) = how-many (step w (Close l)) cs
 how-many w (Message l m t a ∷ cs) = ap suc (how-many (step w (Message l m t a)) cs)
 how-many w (Ask n text t a ∷ cs) = how-many (step w (Ask n text t a)) cs
 
+-- the counts of any answers, from zero
+pub from-zero : (ns : List ℕ) (k : ℕ) → k < answerCount → getD (bumps zeros ns) k 0 ≡ min full (occurrences k ns)
+from-zero ns k h =
+    let e : getD zeros k 0 ≡ 0 = getD-replicate {A = ℕ} answerCount k 0 0 h in
+    counts-exactly ns zeros zeros-sized k h ∙ rw e (omega arith)
+
 pub tally-of-calls : (w : World) (cs : List Call) → TallyOfCalls w cs
 tally-of-calls w cs =
     record {
       known = all-known w cs;
-      each = λ k h.
-          let e : getD zeros k 0 ≡ 0 = getD-replicate {A = ℕ} answerCount k 0 0 h in
-          counts-exactly (answersOf w cs) zeros zeros-sized k h ∙ rw e (omega arith);
+      each = from-zero (answersOf w cs);
       together = λ f. sum-is-messages (answersOf w cs) (all-known w cs) f ∙ how-many w cs;
     }

@@ -1,2 +1,3 @@
 -- The tally over lists of calls.
 pub mod Calls
+pub mod Events

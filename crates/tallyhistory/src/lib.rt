@@ -1,2 +1,2 @@
-// The tally over lists of calls. There is no code here: specs/Tallied.antt says which calls are counted,
-// proofs/Tallied.antt what the tally then is.
+// The tally over lists of calls. There is no code here: specs/Calls.antt and specs/Events.antt say which calls are
+// counted, proofs/ what the tally then is.

@@ -1,0 +1,19 @@
+-- What holds of calls that bring bytes as a line brings them.
+pub mod Extents
+pub mod Cases
+pub mod Bare
+pub mod ByCase
+pub mod Calls
+pub mod Exactly
+pub mod CallsLeave
+pub mod Places
+pub mod Cutting
+pub mod Streams
+pub mod Went
+pub mod Frames
+pub mod NeverOne
+pub mod Driven
+pub mod Demand3
+pub mod Periods
+pub mod Demand2
+pub mod Sessions
