@@ -11,7 +11,9 @@ ghost use Rattle.protocol.specs.State.{stationOf};
 ghost use Rattle.protocol.specs.Order.{inOrder};
 ghost use Rattle.protocol.specs.Outcomes.{termsOf};
 ghost use Rattle.protocol.specs.Calls.{fresh, opening, closing};
+ghost use Rattle.receiving.specs.Feeding.{feedOutcome};
 ghost use Rattle.station.specs.Calls.{MessageMet, OwnMet, Changed};
+ghost use Rattle.station.specs.Feeding.{FeedMet};
 ghost use Rattle.tally.specs.Counts.{counted};
 use crate::Lines;
 use crate::Number;
@@ -31,6 +33,8 @@ use station::changes::begin;
 use station::changes::close_line;
 use station::changes::leaver;
 use station::changes::open_line;
+use station::feeding::feed;
+use station::feeding::header_of;
 use station::lines::lives;
 use station::messages::arrive;
 use station::order::in_order;
@@ -46,6 +50,16 @@ const ONES: u64 = 18446744073709551615;
 pub struct Arrival {
     pub line: Line,
     pub report: Report,
+}
+
+// The same of bytes as the line brings them, whether the message that was taken stands in the held area (else it stands
+// in the bytes that were brought), and whether the call only waits: then the report's answer is none, but WAITING.
+#[repr(C)]
+pub struct Fed {
+    pub line: Line,
+    pub report: Report,
+    pub within: bool,
+    pub waits: bool,
 }
 
 // Whether the ring beside these lines is in order, and what it knows of the number (low, high).
@@ -174,6 +188,50 @@ pub extern "C" fn lunozhar_message_lent(
     Arrival {
         line: after,
         report,
+    }
+}
+
+// Bytes as a line brings them, with the held area of that line.
+#[no_mangle]
+pub extern "C" fn lunozhar_feed_lent(
+    lo: &mut [u64; 512],
+    hi: &mut [u64; 512],
+    asker: &mut [u8; 512],
+    count: &mut usize,
+    next: &mut usize,
+    room: usize,
+    lines: Lines,
+    line: u32,
+    clock: u32,
+    own: Own,
+    bytes: &[u8],
+    held: &mut [u8],
+    out: &mut [u8],
+    route: &mut [u8],
+) -> Fed
+    ensures { λ r.
+        let before = stationOf room (lines .at)
+        (memoryOf (now (lo .entry)) (now (hi .entry)) (now (asker .entry)) (now (count .entry)) (now (next .entry))) in
+        let after = stationOf room (set (lines .at) (line % 8) (r .line))
+        (memoryOf (now (lo .exit)) (now (hi .exit)) (now (asker .exit)) (now (count .exit)) (now (next .exit))) in
+        let terms = termsOf clock own (length (now (out .entry))) in
+        let fed = feedOutcome before line (now (bytes .entry)) (now (held .entry)) terms (now (route .entry)) in
+        ⌜ FeedMet fed (r .report) (r .within) (r .waits) after (now (out .entry)) (now (out .exit)) (now (held .exit)) (now (route .exit)) ⌝ }
+{
+    let at = lines.at;
+    let h = header_of(at, line, held, bytes);
+    let s = survey_ring(lo, hi, asker, *count, *next, at, h.lo, h.hi);
+    let f = feed(s, room, at, line, clock, own, bytes, held, out, route);
+    let a = f.action;
+    let from = (line % 8) as u8;
+    remember(lo, hi, asker, count, next, a.remember, h.lo, h.hi, from);
+    let after = a.line;
+    let report = a.report;
+    Fed {
+        line: after,
+        report,
+        within: f.within,
+        waits: f.waits,
     }
 }
 

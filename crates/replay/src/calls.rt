@@ -3,6 +3,7 @@
 use lunozhar::Lines;
 use lunozhar::Number;
 use lunozhar::calls;
+use lunozhar::calls::Fed;
 use protocol::Line;
 use protocol::Own;
 use protocol::Report;
@@ -16,13 +17,23 @@ pub(crate) struct Ring {
     pub(crate) next: usize,
 }
 
-// The station, what it says of itself, and what the last call told.
+// Of the last call whether it brought bytes, by which line, and whether the message that was taken stands in the held
+// area.
+pub(crate) struct Bringing {
+    pub(crate) brings: bool,
+    pub(crate) line: u32,
+    pub(crate) within: bool,
+}
+
+// The station, what it says of itself, how much of a held area is lent, and what the last call told.
 pub(crate) struct Held {
     pub(crate) ring: Ring,
     pub(crate) room: usize,
     pub(crate) lines: Lines,
     pub(crate) own: Own,
+    pub(crate) lent: usize,
     pub(crate) report: Report,
+    pub(crate) bringing: Bringing,
 }
 
 fn ring_of(lo: [u64; 512], hi: [u64; 512], asker: [u8; 512], count: usize, next: usize) -> Ring {
@@ -46,6 +57,14 @@ fn quiet(answer: u8) -> Report {
         delivered: false,
         textat: 0,
         textlen: 0,
+    }
+}
+
+fn no_bytes() -> Bringing {
+    Bringing {
+        brings: false,
+        line: 0,
+        within: false,
     }
 }
 
@@ -74,7 +93,9 @@ pub(crate) fn started(calls: bool) -> Held {
         room: b.room,
         lines,
         own: own(calls),
+        lent: wire::LARGEST_MESSAGE,
         report: quiet(b.answer),
+        bringing: no_bytes(),
     }
 }
 
@@ -82,6 +103,7 @@ pub(crate) fn started(calls: bool) -> Held {
 fn after(mut w: Held, ring: Ring, report: Report) -> Held {
     w.ring = ring;
     w.report = report;
+    w.bringing = no_bytes();
     w
 }
 
@@ -163,6 +185,57 @@ pub(crate) fn message(
     stored(after(w, ring, report), line, x)
 }
 
+// The station with this ring, once a call with bytes of this line has told this.
+fn told_of_bytes(w: Held, ring: Ring, line: u32, f: Fed) -> Held {
+    let x = f.line;
+    let report = f.report;
+    let bringing = Bringing {
+        brings: true,
+        line,
+        within: f.within,
+    };
+    let mut y = stored(after(w, ring, report), line, x);
+    y.bringing = bringing;
+    y
+}
+
+// Bytes as they come, with the held area of their line.
+pub(crate) fn brought(
+    w: Held,
+    line: u32,
+    clock: u32,
+    bytes: &[u8],
+    held: &mut [u8],
+    out: &mut [u8],
+    route: &mut [u8],
+) -> Held {
+    let ring = w.ring;
+    let mut lo = ring.lo;
+    let mut hi = ring.hi;
+    let mut asker = ring.asker;
+    let mut count = ring.count;
+    let mut next = ring.next;
+    let lines = w.lines;
+    let own = w.own;
+    let f = calls::lunozhar_feed_lent(
+        &mut lo,
+        &mut hi,
+        &mut asker,
+        &mut count,
+        &mut next,
+        w.room,
+        lines,
+        line,
+        clock,
+        own,
+        bytes,
+        held,
+        out,
+        route,
+    );
+    told_of_bytes(w, ring_of(lo, hi, asker, count, next), line, f)
+}
+
 pub(crate) fn asked(w: Held, bytes: [u8; 16], text: &[u8], out: &mut [u8], route: &[u8]) -> Held {
     let ring = w.ring;
     let mut lo = ring.lo;
@@ -186,6 +259,13 @@ pub(crate) fn asked(w: Held, bytes: [u8; 16], text: &[u8], out: &mut [u8], route
         route,
     );
     after(w, ring_of(lo, hi, asker, count, next), report)
+}
+
+// The record of a line.
+pub(crate) fn record(w: Held, line: u32) -> Line {
+    let lines = w.lines;
+    let at = lines.at;
+    at[(line % 8) as usize]
 }
 
 // The mark of line 1's table.

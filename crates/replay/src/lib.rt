@@ -1,4 +1,5 @@
-// The events of a row, one after the other on a fresh station over a route area of 32 bytes. Nothing is printed here.
+// The events of a row, one after the other on a fresh station over a route area of 32 bytes, with a held area of 4,119
+// bytes for each of the eight lines. Nothing is printed here.
 mod calls;
 mod set;
 
@@ -7,19 +8,34 @@ use crate::calls::Held;
 use protocol::Report;
 use rows::words;
 
+// Whether the last call brought bytes; then how many are held of its line after all, whether that is shut, and whether
+// the message that was taken stands in the held area.
+pub struct Brought {
+    pub brings: bool,
+    pub held: u16,
+    pub shut: bool,
+    pub within: bool,
+}
+
 // What a row's calls told: the answers of the first 256, and how many these are; the whole report of the last call;
-// and the mark of line 1's table after all.
+// the mark of line 1's table after all; and what there is to tell of a line that brought bytes.
 pub struct Told {
     pub answers: [u8; 256],
     pub count: usize,
     pub report: Report,
     pub mark: u8,
+    pub brought: Brought,
+}
+
+// Whether this is what stands where the answer would be of a call that waits: the number itself, as a caller knows it.
+pub fn waits(answer: u8) -> bool {
+    answer == 255
 }
 
 // Which event a word names.
 fn kind_of(row: &[u8], k: usize) -> usize {
     words::index(
-        b"open close message ask terms kept line fill",
+        b"open close message ask feed terms kept line fill pending held",
         rows::word(row, k, 0),
     )
 }
@@ -29,11 +45,11 @@ fn width(kind: usize) -> usize
     ensures { λ r. ⌜ (1 ≤ r) × (r ≤ 14) ⌝ }
 {
     match kind {
-        0 | 1 | 7 => 2,
-        2 | 4 => 4,
+        0 | 1 | 8 | 10 => 2,
+        2 | 4 | 5 | 9 => 4,
         3 => 3,
-        5 => 6,
-        6 => 14,
+        6 => 6,
+        7 => 14,
         _ => 1,
     }
 }
@@ -45,8 +61,31 @@ fn number(bytes: &[u8]) -> [u8; 16] {
     number
 }
 
-// `open LINE`, `close LINE`, `message LINE CLOCK BYTES`, `ask NUMBER TEXT`, or one that sets the station by hand
-fn event(w: Held, kind: usize, row: &[u8], k: usize, out: &mut [u8], route: &mut [u8]) -> Held {
+// The held area of a line, counted modulo eight, as much of it as is lent.
+fn held_by(held: &mut [u8], line: u32, lent: usize) -> &mut [u8] {
+    let at = (line % 8) as usize * wire::LARGEST_MESSAGE;
+    let n = if lent < wire::LARGEST_MESSAGE {
+        lent
+    } else {
+        wire::LARGEST_MESSAGE
+    };
+    if at < held.len() {
+        return words::front(&mut held[at..], n);
+    }
+    words::front(held, n)
+}
+
+// `open LINE`, `close LINE`, `message LINE CLOCK BYTES`, `ask NUMBER TEXT`, `feed LINE CLOCK BYTES`, or one that sets
+// the station by hand
+fn event(
+    w: Held,
+    kind: usize,
+    row: &[u8],
+    k: usize,
+    held: &mut [u8],
+    out: &mut [u8],
+    route: &mut [u8],
+) -> Held {
     match kind {
         0 => calls::opened(w, rows::number(row, k, 1)),
         1 => calls::closed(w, rows::number(row, k, 1)),
@@ -59,6 +98,12 @@ fn event(w: Held, kind: usize, row: &[u8], k: usize, out: &mut [u8], route: &mut
             let number = number(rows::word(row, k, 1));
             calls::asked(w, number, rows::word(row, k, 2), out, route)
         }
+        4 => {
+            let line = rows::number(row, k, 1);
+            let clock = rows::number(row, k, 2);
+            let area = held_by(held, line, w.lent);
+            calls::brought(w, line, clock, rows::word(row, k, 3), area, out, route)
+        }
         _ => set::by_hand(w, kind, row, k),
     }
 }
@@ -70,14 +115,27 @@ fn noted(answers: &mut [u8; 256], count: usize, kind: usize, answer: u8) -> usiz
     if 255 < count {
         return 256;
     }
-    if 3 < kind {
+    if 4 < kind {
         return count;
     }
     answers[count] = answer;
     count + 1
 }
 
-fn run(mut w: Held, row: &[u8], out: &mut [u8], route: &mut [u8]) -> Told
+// What is told of the line that the last call brought bytes by.
+fn told_of_line(w: Held) -> Brought {
+    let b = w.bringing;
+    let x = calls::record(w, b.line);
+    let pending = x.pending;
+    Brought {
+        brings: b.brings,
+        held: pending.count,
+        shut: pending.shut,
+        within: b.within,
+    }
+}
+
+fn run(mut w: Held, row: &[u8], held: &mut [u8], out: &mut [u8], route: &mut [u8]) -> Told
     ensures { λ r. ⌜ r .count ≤ 256 ⌝ }
 {
     let mut answers = [0u8; 256];
@@ -85,7 +143,7 @@ fn run(mut w: Held, row: &[u8], out: &mut [u8], route: &mut [u8]) -> Told
     let mut k: usize = 0;
     while k < rows::count(row) {
         let kind = kind_of(row, k);
-        w = event(w, kind, row, k, out, route);
+        w = event(w, kind, row, k, held, out, route);
         count = noted(&mut answers, count, kind, w.report.answer);
         k += width(kind);
     }
@@ -95,25 +153,27 @@ fn run(mut w: Held, row: &[u8], out: &mut [u8], route: &mut [u8]) -> Told
         count,
         report,
         mark: calls::mark(w),
+        brought: told_of_line(w),
     }
 }
 
 // A number of `terms OUTPUT ROUTE CALLS`, if that comes first: how much of the two areas is lent, and whether the
 // station takes calls.
 fn term(row: &[u8], j: usize, usual: usize) -> usize {
-    if kind_of(row, 0) == 4 {
+    if kind_of(row, 0) == 5 {
         return rows::size(row, 0, j);
     }
     usual
 }
 
-// What the row's events tell, over these areas.
-pub fn replayed(row: &[u8], out: &mut [u8], route: &mut [u8]) -> Told
+// What the row's events tell, over these areas; the held ones stand one behind the other.
+pub fn replayed(row: &[u8], held: &mut [u8], out: &mut [u8], route: &mut [u8]) -> Told
     ensures { λ r. ⌜ r .count ≤ 256 ⌝ }
 {
     run(
         calls::started(term(row, 3, 1) != 0),
         row,
+        held,
         words::front(out, term(row, 1, wire::LARGEST_MESSAGE)),
         words::front(route, term(row, 2, 32)),
     )

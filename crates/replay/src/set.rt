@@ -3,6 +3,7 @@ use crate::calls;
 use crate::calls::Held;
 use crate::calls::Ring;
 use protocol::Line;
+use protocol::Pending;
 use protocol::Pong;
 use tables::Table;
 
@@ -74,6 +75,10 @@ fn table(row: &[u8], k: usize) -> Table {
 fn line_of(row: &[u8], k: usize) -> Line {
     let pongs = pongs(rows::size(row, k, 5), rows::byte(row, k, 6));
     let table = table(row, k);
+    let pending = Pending {
+        count: 0,
+        shut: false,
+    };
     Line {
         live: rows::byte(row, k, 1) != 0,
         pinged: rows::byte(row, k, 2) != 0,
@@ -82,19 +87,37 @@ fn line_of(row: &[u8], k: usize) -> Line {
         pongnext: rows::size(row, k, 4),
         pongs,
         table,
+        pending,
     }
+}
+
+// `pending LINE COUNT SHUT`: how many bytes are held of a line, and whether it is shut
+fn pended(w: Held, row: &[u8], k: usize) -> Held {
+    let line = rows::number(row, k, 1);
+    let mut x = calls::record(w, line);
+    let pending = Pending {
+        count: (rows::number(row, k, 2) % 65536) as u16,
+        shut: rows::number(row, k, 3) != 0,
+    };
+    x.pending = pending;
+    calls::stored(w, line, x)
 }
 
 pub(crate) fn by_hand(mut w: Held, kind: usize, row: &[u8], k: usize) -> Held {
     let ring = w.ring;
     match kind {
-        5 => {
+        6 => {
             w.ring = kept(ring, row, k);
             w
         }
-        6 => calls::stored(w, 2, line_of(row, k)),
-        7 => {
+        7 => calls::stored(w, 2, line_of(row, k)),
+        8 => {
             w.ring = filled(rows::byte(row, k, 1));
+            w
+        }
+        9 => pended(w, row, k),
+        10 => {
+            w.lent = rows::size(row, k, 1);
             w
         }
         _ => w,

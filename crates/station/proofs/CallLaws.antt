@@ -98,6 +98,7 @@ use Rattle.station.specs.declared.changes.Beginning.{Beginning}
 use Rattle.station.specs.Actions.{actionOf, viewOf, quietReport, quietAction, Does, Whole, Fit, acting}
 use Rattle.station.specs.Calls.{Met, OwnMet, Changed, bothInOrder, changedBy, openedBy, closedBy, firstRefusal}
 use Rattle.station.specs.Calls.{arrivalStep, Handed, MessageMet, ownAnswerBy, ownQuerySent, Sends, begunOver}
+use Rattle.station.specs.Feeding.{usedBy}
 use Rattle.station.proofs.ActionLaws.{sentIn, step-refused}
 
 -- ---- what a message does by its type
@@ -121,7 +122,7 @@ module _ (n : ℕ) (c : Change) (route : List ℕ) (r : Step) where
 
 module _ (room : ℕ) (lines : List Line) (l : ℕ) (k : Lookup) (m : List ℕ) (t : Terms) (route out : List ℕ) where
   -- a message whose first refusal is n is done, with the route area after it
-  abbrev Done : ℕ → Action → List ℕ → List ℕ → Type 0
+  abbrev pub Done : ℕ → Action → List ℕ → List ℕ → Type 0
   Done n a out′ route′ = Does (acting n room lines l k m t route) a out out′
       × (route′ ≡ acting n room lines l k m t route .route)
 
@@ -340,6 +341,15 @@ module _ (m : List ℕ) {h : Header} (eh : h ≡ headerIn m) (q : Memory) where
       → q′ ≡ rememberIf taken capacity q (numberIn m) who
   ring-after taken who e = e ∙ ap (λ (h : Header). rememberIf taken capacity q (numberFrom (h .lo) (h .hi)) who) eh
 
+-- areas that fit
+pub areas-fit : (room out route : ℕ) → unfitAreas room out route ≡ false → (largestMessage ≤ out) × (route / 8 ≡ room)
+areas-fit room out route e =
+    let a : otherRoom room route ≡ false = or-snd (ltb out largestMessage) (otherRoom room route) e in
+    let b : not (eqb (route / 8) room) ≡ false = or-snd (shortRoute route) (not (eqb (route / 8) room)) a in (
+      ltb-false out largestMessage (or-fst (ltb out largestMessage) (otherRoom room route) e),
+      eqb-true (route / 8) room (not-false (eqb (route / 8) room) b),
+    )
+
 -- a message with no first refusal came by one of the eight lines, is whole, and has areas that fit
 module _ (order : Bool) (room out route line : ℕ) (live : Bool) (m : List ℕ) (h : Header) (eh : h ≡ headerIn m) {n : ℕ}
     (en : n ≡ firstOf (earlyRules order room out route line live (length m) (h .size))) (z : n ≡ 0) where
@@ -352,16 +362,15 @@ module _ (order : Bool) (room out route line : ℕ) (live : Bool) (m : List ℕ)
   pub message-fits : Fit room h m out route
   message-fits =
       let es = ap (λ (h : Header). h .size) eh in
-      let a : otherRoom room route ≡ false = or-snd (ltb out largestMessage) (otherRoom room route) (none .1 .0) in
-      let b : not (eqb (route / 8) room) ≡ false = or-snd (shortRoute route) (not (eqb (route / 8) room)) a in
+      let areas = areas-fit room out route (none .1 .0) in
       record {
         message = record {
           header = eh;
           small = omega (arith, es, ltb-false 4096 (h .size) (none .1 .1 .1 .1 .0));
           whole = omega (arith, es, ltb-false (length m) (23 + h .size) (none .1 .1 .1 .1 .1 .0));
         };
-        output = ltb-false out largestMessage (or-fst (ltb out largestMessage) (otherRoom room route) (none .1 .0));
-        rooms = eqb-true (route / 8) room (not-false (eqb (route / 8) room) b);
+        output = areas .0;
+        rooms = areas .1;
       }
 
 -- ---- an arriving message
@@ -376,24 +385,6 @@ abbrev pub Arrives : Station → ℕ → List ℕ → Terms → List ℕ → Act
 Arrives before line m t route a out out′ route′ =
     MessageMet before line m t route (a .report) (stateAfter before (line % 8) (numberIn m) (changeOf a)) out out′
     route′
-
--- a report with the bytes used
-abbrev usedIn : Report → ℕ → Report
-usedIn q n =
-    record {
-      answer = q .answer;
-      used = n;
-      written = q .written;
-      to = q .to;
-      search = q .search;
-      delivered = q .delivered;
-      textat = q .textat;
-      textlen = q .textlen;
-    }
-
--- what is handed on of a message, with the bytes used
-abbrev usedBy : Action → ℕ → Action
-usedBy a n = record { report = usedIn (a .report) n; line = a .line; remember = a .remember }
 
 -- given what is read off the lines, the step is that of the definition
 module _ (order : Bool) (known : Lookup) (room : ℕ) (lines : List Line) (line : ℕ) (m : List ℕ) (t : Terms)

@@ -2,3 +2,5 @@
 pub mod ActionLaws
 pub mod PingLaws
 pub mod CallLaws
+pub mod FeedLaws
+pub mod FeedMet

@@ -1,3 +1,4 @@
 -- How the calls are put together.
 pub mod Actions
 pub mod Calls
+pub mod Feeding

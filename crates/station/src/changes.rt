@@ -10,6 +10,7 @@ ghost use Rattle.station.specs.Calls.{begunOver, openedBy, closedBy};
 use crate::lines::read_lines;
 use protocol::GONE;
 use protocol::Line;
+use protocol::Pending;
 use protocol::Pong;
 use tables::no_table;
 
@@ -28,7 +29,7 @@ pub struct Beginning {
     pub lines: [Line; 8],
 }
 
-// A line with no table, no pongs and no accepted ping.
+// A line with no table, no pongs, no accepted ping and nothing held.
 fn empty_line(live: bool) -> Line
     ensures { λ r. ⌜ r ≡ emptyLine live ⌝ }
 {
@@ -40,6 +41,10 @@ fn empty_line(live: bool) -> Line
     };
     let pongs = [pong; 10];
     let table = no_table();
+    let pending = Pending {
+        count: 0,
+        shut: false,
+    };
     Line {
         live,
         pinged: false,
@@ -48,6 +53,7 @@ fn empty_line(live: bool) -> Line
         pongnext: 0,
         pongs,
         table,
+        pending,
     }
 }
 

@@ -5,6 +5,7 @@ mod act;
 pub mod actions;
 pub mod asking;
 pub mod changes;
+pub mod feeding;
 mod hits;
 pub mod lines;
 pub mod messages;

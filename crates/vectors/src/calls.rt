@@ -1,5 +1,6 @@
 // `case LABEL EVENT ..`, `calls LABEL EVENT ..` and `order LABEL EVENT ..`: what the events of a row told.
 use crate::print;
+use replay::Brought;
 use rows::words;
 
 const CASE: usize = 10;
@@ -8,12 +9,33 @@ const CALLS: usize = 14;
 
 const ORDER: usize = 15;
 
+fn answer_word(answer: u8) {
+    if replay::waits(answer) {
+        io::write_all(1, b"waits");
+    } else {
+        io::print_decimal(1, answer as u64);
+    }
+}
+
+fn answer_list(answers: &[u8]) {
+    let mut i = 0;
+    while i < answers.len() {
+        if 0 < i {
+            print::mark(b',');
+        }
+        answer_word(answers[i]);
+        i += 1;
+    }
+}
+
 // Of `calls` the answers of all calls, else the last one's.
 fn answer_words(kind: usize, answers: &[u8], count: usize, answer: u8) {
     if kind == CALLS {
-        print::list(answers, count, b',');
+        print::start(count);
+        answer_list(words::part(answers, 0, count));
     } else {
-        print::number(answer as u64);
+        print::mark(b' ');
+        answer_word(answer);
     }
 }
 
@@ -43,13 +65,28 @@ fn area_words(kind: usize, mark: u8, route: &[u8], out: &[u8], written: usize) {
     print::list(out, written, 0);
 }
 
+// Of `calls` whose last call brought bytes: how many are held of its line, whether that is shut, and whether the
+// message that was taken stands in the held area.
+fn brought_words(kind: usize, b: Brought) {
+    if kind != CALLS {
+        return;
+    }
+    if b.brings {
+        print::number(b.held as u64);
+        print::flag(b.shut);
+        print::flag(b.within);
+    }
+}
+
 pub(crate) fn values(kind: usize, row: &[u8], out: &mut [u8]) {
     let mut route = [0u8; 64];
-    let told = replay::replayed(row, &mut *out, &mut route);
+    let mut held = [0u8; 32952];
+    let told = replay::replayed(row, &mut held, &mut *out, &mut route);
     let answers = told.answers;
     let r = told.report;
     let to = r.to;
     answer_words(kind, &answers, told.count, r.answer);
     sent_words(kind, r.used, to, r.search, r.delivered);
     area_words(kind, told.mark, &route, out, r.written);
+    brought_words(kind, told.brought);
 }

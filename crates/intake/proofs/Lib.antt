@@ -1,0 +1,2 @@
+-- The laws of headers read off bytes in parts.
+pub mod HeaderLaws

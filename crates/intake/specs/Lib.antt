@@ -1,0 +1,2 @@
+-- Held bytes and bytes that are brought now.
+pub mod Joining
