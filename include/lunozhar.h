@@ -8,8 +8,8 @@
  * not null, even where its length is 0, and points to as much as its length or type says; a bool is 0 or 1; what
  * one call is lent to write overlaps nothing else of it.
  *
- * A refusal (an answer other than LUNOZHAR_DONE) sends to no line and changes no struct and no area, but for two
- * cases that are said at lunozhar_fresh and lunozhar_message. */
+ * A refusal (an answer other than LUNOZHAR_DONE) sends to no line and changes no struct and no area, but for what is
+ * said at lunozhar_fresh, lunozhar_message and lunozhar_feed. */
 #ifndef LUNOZHAR_H
 #define LUNOZHAR_H
 
@@ -29,10 +29,13 @@ extern "C" {
 #define LUNOZHAR_MEMORY 512
 #define LUNOZHAR_PONGS 10
 #define LUNOZHAR_PAIRS 32
-#define LUNOZHAR_ANSWERS 19
+#define LUNOZHAR_ANSWERS 20
 
 /* The shortest output area of a message or an own query: a header of 23 bytes and a payload of 4,096. */
 #define LUNOZHAR_OUTPUT 4119
+
+/* The shortest held area of lunozhar_feed: the longest message. */
+#define LUNOZHAR_HELD 4119
 
 /* The shortest route area. A neighbour's table has room for route_len / 8 entries; the longest that a neighbour
  * can send has 65,536. */
@@ -41,7 +44,7 @@ extern "C" {
 /* The answers: done, or the first reason to refuse. */
 enum lunozhar_answer {
     LUNOZHAR_DONE = 0,
-    LUNOZHAR_NOT_IN_ORDER = 1,        /* the station's state is not in order */
+    LUNOZHAR_NOT_IN_ORDER = 1,        /* the station's state is not in order; the held bytes start no message */
     LUNOZHAR_BAD_AREA = 2,            /* an area is too short, or the route area gives another room than the state's */
     LUNOZHAR_BAD_LINE = 3,            /* the line is over 7, or not open; for opening: already open */
     LUNOZHAR_NOT_WHOLE = 4,           /* the message or handshake group does not end in the bytes that are there */
@@ -58,8 +61,13 @@ enum lunozhar_answer {
     LUNOZHAR_OUT_OF_TURN = 15,        /* a PATCH that is not the next of its run, or does not fit the table */
     LUNOZHAR_ENTRY_OUT_OF_RANGE = 16, /* a PATCH leads an entry outside 1 to Infinity */
     LUNOZHAR_BAD_HANDSHAKE = 17,      /* the handshake group is not understood */
-    LUNOZHAR_NO_GROUP_END = 18        /* no handshake group ends in the first 4,096 bytes */
+    LUNOZHAR_NO_GROUP_END = 18,       /* no handshake group ends in the first 4,096 bytes */
+    LUNOZHAR_SHUT = 19                /* the line brought a payload that was too long, and is to be closed */
 };
+
+/* What stands where the answer would be while a message is not whole (lunozhar_feed): no answer has this number, and
+ * the tally does not count it. */
+#define LUNOZHAR_WAITING 255
 
 /* The mark of a route table. Only a settled table withholds queries. */
 enum lunozhar_mark {
@@ -102,6 +110,12 @@ typedef struct lunozhar_pong {
     uint32_t clock;
 } lunozhar_pong;
 
+/* What a line has brought of a message that is not whole (lunozhar_feed). */
+typedef struct lunozhar_pending {
+    uint16_t count; /* how many bytes: they stand at the front of the line's held area */
+    bool shut;      /* whether nothing more is taken of the line until it is closed and opened */
+} lunozhar_pending;
+
 /* One line of a station. */
 typedef struct lunozhar_line {
     bool live;         /* whether it is open */
@@ -111,6 +125,7 @@ typedef struct lunozhar_line {
     size_t pongnext;
     lunozhar_pong pongs[LUNOZHAR_PONGS];
     lunozhar_table table;
+    lunozhar_pending pending;
 } lunozhar_line;
 
 /* The eight lines of a station, as they are handed to a call. */
@@ -146,8 +161,9 @@ typedef struct lunozhar_number {
 
 /* What a message or an own query came to. */
 typedef struct lunozhar_told {
-    uint8_t answer;           /* enum lunozhar_answer */
-    size_t used;              /* of a message: its header and payload for 0 and 6 to 16, else 0; of an own query 0 */
+    uint8_t answer;           /* enum lunozhar_answer; of lunozhar_feed also LUNOZHAR_WAITING */
+    size_t used;              /* of a message: its header and payload for 0 and 6 to 16, else 0; of an own query 0;
+                               * of lunozhar_feed: so many of the bytes of that call */
     size_t written;           /* bytes written to the output area, to be sent to each line whose flag is set */
     bool to[LUNOZHAR_LINES];
     bool search;              /* a query is for the local search: textlen bytes of the message from textat on */
@@ -156,12 +172,24 @@ typedef struct lunozhar_told {
     size_t textlen;
 } lunozhar_told;
 
-/* What the functions below hand back of a message, of a line opened or closed, and of a station made: the record
- * of the line after the call, or all that is new of the station. */
+/* What bytes of a line came to. */
+typedef struct lunozhar_fed {
+    lunozhar_told told;
+    bool within; /* the message that was taken stands at the front of the held area, else at the front of the bytes */
+    bool waits;  /* the message is not whole yet, and told.answer is LUNOZHAR_WAITING */
+} lunozhar_fed;
+
+/* What the functions below hand back of a message, of bytes, of a line opened or closed, and of a station made:
+ * the record of the line after the call, or all that is new of the station. */
 typedef struct lunozhar_arrival {
     lunozhar_line line;
     lunozhar_told told;
 } lunozhar_arrival;
+
+typedef struct lunozhar_feeding {
+    lunozhar_line line;
+    lunozhar_fed fed;
+} lunozhar_feeding;
 
 typedef struct lunozhar_line_change {
     uint8_t answer;
@@ -234,6 +262,10 @@ lunozhar_arrival lunozhar_message_lent(uint64_t *lo, uint64_t *hi, uint8_t *aske
                                        size_t room, lunozhar_lines lines, uint32_t line, uint32_t clock,
                                        lunozhar_own own, const uint8_t *message, size_t message_len, uint8_t *out,
                                        size_t out_len, uint8_t *route, size_t route_len);
+lunozhar_feeding lunozhar_feed_lent(uint64_t *lo, uint64_t *hi, uint8_t *asker, size_t *count, size_t *next,
+                                    size_t room, lunozhar_lines lines, uint32_t line, uint32_t clock, lunozhar_own own,
+                                    const uint8_t *bytes, size_t len, uint8_t *held, size_t held_len, uint8_t *out,
+                                    size_t out_len, uint8_t *route, size_t route_len);
 lunozhar_told lunozhar_ask_lent(uint64_t *lo, uint64_t *hi, uint8_t *asker, size_t *count, size_t *next, size_t room,
                                 lunozhar_lines lines, lunozhar_number number, const uint8_t *text, size_t text_len,
                                 uint8_t *out, size_t out_len, const uint8_t *route, size_t route_len);
@@ -248,9 +280,9 @@ static inline const lunozhar_lines *lunozhar_lines_of(const lunozhar_station *st
 }
 
 /* Makes the station: every line closed, nothing remembered, room for tables as a route area of route_len bytes
- * gives it. The area itself is lent to lunozhar_message and lunozhar_ask, always the same one; its bytes may be
- * anything. What the station held before does not count, but it holds something: memory that is new is set to zero
- * first, as a static station is.
+ * gives it. The area itself is lent to lunozhar_message, lunozhar_feed and lunozhar_ask, always the same one; its
+ * bytes may be anything. What the station held before does not count, but it holds something: memory that is new is
+ * set to zero first, as a static station is.
  * Answers 0, or 2 for route_len below LUNOZHAR_ROUTE: the station is made all the same, with room 0. */
 static inline uint8_t lunozhar_fresh(lunozhar_station *station, size_t route_len) {
     const lunozhar_beginning made =
@@ -260,7 +292,8 @@ static inline uint8_t lunozhar_fresh(lunozhar_station *station, size_t route_len
     return made.answer;
 }
 
-/* Opens a line, 0 to 7: no table, no pongs, no ping. Answers 0, 1, or 3 for a line over 7 or open already. */
+/* Opens a line, 0 to 7: no table, no pongs, no ping, no held bytes, not shut. Answers 0, 1, or 3 for a line over 7 or
+ * open already. */
 static inline uint8_t lunozhar_open(lunozhar_station *station, uint32_t line) {
     const lunozhar_line_change change =
         lunozhar_open_lent(station->lo, station->hi, station->asker, station->count, station->next, station->room,
@@ -269,8 +302,8 @@ static inline uint8_t lunozhar_open(lunozhar_station *station, uint32_t line) {
     return change.answer;
 }
 
-/* Closes a line: its table and pongs are dropped, and no hit for a query that came by it is passed on any more,
- * even if the line is opened again. Answers 0, 1, or 3 for a line over 7 or not open. */
+/* Closes a line: its table, its pongs and its held bytes are dropped, it is not shut, and no hit for a query that came
+ * by it is passed on any more, even if the line is opened again. Answers 0, 1, or 3 for a line over 7 or not open. */
 static inline uint8_t lunozhar_close(lunozhar_station *station, uint32_t line) {
     const lunozhar_line_change change =
         lunozhar_close_lent(station->lo, station->hi, station->asker, station->count, station->next, station->room,
@@ -284,7 +317,8 @@ static inline uint8_t lunozhar_close(lunozhar_station *station, uint32_t line) {
  * delivered. Writes the bytes to be sent to the front of the output area (out_len at least LUNOZHAR_OUTPUT), and
  * an accepted update's entries to the line's part of the route area (route_len at least LUNOZHAR_ROUTE, where
  * route_len / 8 is the station's room). A refusal writes to no area and changes no state, but that 14, 15 and 16
- * mark the line's table as broken. */
+ * mark the line's table as broken. Held bytes and shut marks are lunozhar_feed's alone: they are neither read nor
+ * changed here, of this line or another, and an answer 5 shuts nothing. */
 static inline lunozhar_told lunozhar_message(lunozhar_station *station, uint32_t line, uint32_t clock,
                                              lunozhar_own own, const uint8_t *message, size_t message_len,
                                              uint8_t *out, size_t out_len, uint8_t *route, size_t route_len) {
@@ -296,10 +330,50 @@ static inline lunozhar_told lunozhar_message(lunozhar_station *station, uint32_t
     return arrival.told;
 }
 
+/* Takes bytes as a line brings them, in scraps of any size: at most to the end of one message, and told.used says how
+ * many of them that were. What is left is to be handed over again: a program calls until all are used, or until a call
+ * uses none (1, 2, 3, 19). The message is dealt with as by lunozhar_message, at the clock of the call that brings its
+ * last byte, with that call's output and route area.
+ *
+ * What the line has brought of a message that is not whole stands in its held area (held_len at least LUNOZHAR_HELD).
+ * The area is the caller's: one for each line, lent with every call for that line, and written by nobody else between
+ * these calls. At first its bytes may be anything. (Where another one is lent, the call is answered as well, by the
+ * bytes that stand in that one.)
+ *
+ * What a call does, by what it comes to:
+ *   waits     the message is not whole, and told.answer is LUNOZHAR_WAITING: all bytes are used, and stand in the held
+ *             area behind those before them. Nothing else changes but the line's count of them, in the station. This
+ *             comes instead of 4, and is not to be counted.
+ *   0, 6..16  the message is whole, and done or refused: its bytes are used, and none are held any more. Where some of
+ *             it was held it now stands whole at the front of the held area, and `within` is set; else the held area
+ *             is as it was. The state is as after lunozhar_message.
+ *   5         its header is there, with a payload over 4,096 bytes: the bytes of the header are used, none are held,
+ *             the held area is as it was, and the line is shut.
+ *             A program closes it: it is sent to as before, and takes no more bytes.
+ *   19        the line is shut, from an answer 5 until it is closed and opened: nothing is used, nothing changes.
+ *   1, 2, 3   nothing is used, nothing changes, so that the same bytes may come again. 1 is also for held bytes that
+ *             start no message (whole ones, or a header with too long a payload), until the line is closed and opened
+ *             or the right area is lent; 2 also for a short held area.
+ * 1, 2 and 3 come before 19, and that before the 1 of held bytes. No bytes at all (len 0) change nothing.
+ *
+ * A message that was taken begins at held where `within` is set, else at bytes, and what told says of it counts from
+ * there: a query's text is told.textlen bytes from told.textat on; of a hit that is delivered, the payload begins at
+ * byte 23, and bytes 19 to 22 have its length, little-endian. It stays there until the next call for that line. */
+static inline lunozhar_fed lunozhar_feed(lunozhar_station *station, uint32_t line, uint32_t clock, lunozhar_own own,
+                                         const uint8_t *bytes, size_t len, uint8_t *held, size_t held_len,
+                                         uint8_t *out, size_t out_len, uint8_t *route, size_t route_len) {
+    const lunozhar_feeding feeding =
+        lunozhar_feed_lent(station->lo, station->hi, station->asker, &station->count, &station->next, station->room,
+                           *lunozhar_lines_of(station), line, clock, own, bytes, len, held, held_len, out, out_len,
+                           route, route_len);
+    station->lines[line % LUNOZHAR_LINES] = feeding.line;
+    return feeding.fed;
+}
+
 /* Asks a query of this station's own, with a number that no query had yet. The message goes to each open line
  * whose table does not withhold it, and is written to the front of the output area (lengths as for
  * lunozhar_message). The route area is only read. Answers 0, 1, 2, 5 for a text over 4,093 bytes, 6 for a zero
- * byte in it, or 9 for a number that is remembered. */
+ * byte in it, or 9 for a number that is remembered. Held bytes and shut marks are neither read nor changed. */
 static inline lunozhar_told lunozhar_ask(lunozhar_station *station, lunozhar_number number, const uint8_t *text,
                                          size_t text_len, uint8_t *out, size_t out_len, const uint8_t *route,
                                          size_t route_len) {
@@ -313,7 +387,7 @@ static inline bool lunozhar_in_order(const lunozhar_station *station) {
                                   station->room, *lunozhar_lines_of(station));
 }
 
-/* Counts one more message with this answer. A number over 18 counts nothing. */
+/* Counts one more message with this answer. A number over 19 counts nothing, LUNOZHAR_WAITING among them. */
 void lunozhar_count(lunozhar_tally *tally, uint8_t answer);
 
 /* Writes the messages that turn a neighbour's copy of the old table into the new one: a RESET where there was none
@@ -372,7 +446,11 @@ LUNOZHAR_AT(lunozhar_pong, bytes, 0);
 LUNOZHAR_AT(lunozhar_pong, hops, 14);
 LUNOZHAR_AT(lunozhar_pong, clock, 16);
 
-LUNOZHAR_SIZE(lunozhar_line, 240);
+LUNOZHAR_SIZE(lunozhar_pending, 4);
+LUNOZHAR_AT(lunozhar_pending, count, 0);
+LUNOZHAR_AT(lunozhar_pending, shut, 2);
+
+LUNOZHAR_SIZE(lunozhar_line, 248);
 LUNOZHAR_AT(lunozhar_line, live, 0);
 LUNOZHAR_AT(lunozhar_line, pinged, 1);
 LUNOZHAR_AT(lunozhar_line, pingtime, 4);
@@ -380,18 +458,19 @@ LUNOZHAR_AT(lunozhar_line, pongcount, 8);
 LUNOZHAR_AT(lunozhar_line, pongnext, 16);
 LUNOZHAR_AT(lunozhar_line, pongs, 24);
 LUNOZHAR_AT(lunozhar_line, table, 224);
+LUNOZHAR_AT(lunozhar_line, pending, 240);
 
-LUNOZHAR_SIZE(lunozhar_lines, 1920);
+LUNOZHAR_SIZE(lunozhar_lines, 1984);
 LUNOZHAR_AT(lunozhar_lines, at, 0);
 
-LUNOZHAR_SIZE(lunozhar_station, 10648);
+LUNOZHAR_SIZE(lunozhar_station, 10712);
 LUNOZHAR_AT(lunozhar_station, room, 0);
 LUNOZHAR_AT(lunozhar_station, lines, 8);
-LUNOZHAR_AT(lunozhar_station, lo, 1928);
-LUNOZHAR_AT(lunozhar_station, hi, 6024);
-LUNOZHAR_AT(lunozhar_station, asker, 10120);
-LUNOZHAR_AT(lunozhar_station, count, 10632);
-LUNOZHAR_AT(lunozhar_station, next, 10640);
+LUNOZHAR_AT(lunozhar_station, lo, 1992);
+LUNOZHAR_AT(lunozhar_station, hi, 6088);
+LUNOZHAR_AT(lunozhar_station, asker, 10184);
+LUNOZHAR_AT(lunozhar_station, count, 10696);
+LUNOZHAR_AT(lunozhar_station, next, 10704);
 
 LUNOZHAR_SIZE(lunozhar_own, 20);
 LUNOZHAR_AT(lunozhar_own, port, 0);
@@ -413,20 +492,29 @@ LUNOZHAR_AT(lunozhar_told, delivered, 33);
 LUNOZHAR_AT(lunozhar_told, textat, 40);
 LUNOZHAR_AT(lunozhar_told, textlen, 48);
 
-LUNOZHAR_SIZE(lunozhar_arrival, 296);
-LUNOZHAR_AT(lunozhar_arrival, line, 0);
-LUNOZHAR_AT(lunozhar_arrival, told, 240);
+LUNOZHAR_SIZE(lunozhar_fed, 64);
+LUNOZHAR_AT(lunozhar_fed, told, 0);
+LUNOZHAR_AT(lunozhar_fed, within, 56);
+LUNOZHAR_AT(lunozhar_fed, waits, 57);
 
-LUNOZHAR_SIZE(lunozhar_line_change, 248);
+LUNOZHAR_SIZE(lunozhar_arrival, 304);
+LUNOZHAR_AT(lunozhar_arrival, line, 0);
+LUNOZHAR_AT(lunozhar_arrival, told, 248);
+
+LUNOZHAR_SIZE(lunozhar_feeding, 312);
+LUNOZHAR_AT(lunozhar_feeding, line, 0);
+LUNOZHAR_AT(lunozhar_feeding, fed, 248);
+
+LUNOZHAR_SIZE(lunozhar_line_change, 256);
 LUNOZHAR_AT(lunozhar_line_change, answer, 0);
 LUNOZHAR_AT(lunozhar_line_change, line, 8);
 
-LUNOZHAR_SIZE(lunozhar_beginning, 1936);
+LUNOZHAR_SIZE(lunozhar_beginning, 2000);
 LUNOZHAR_AT(lunozhar_beginning, answer, 0);
 LUNOZHAR_AT(lunozhar_beginning, room, 8);
 LUNOZHAR_AT(lunozhar_beginning, lines, 16);
 
-LUNOZHAR_SIZE(lunozhar_tally, 76);
+LUNOZHAR_SIZE(lunozhar_tally, 80);
 LUNOZHAR_AT(lunozhar_tally, counts, 0);
 
 LUNOZHAR_SIZE(lunozhar_written, 16);

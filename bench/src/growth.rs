@@ -2,8 +2,8 @@
 
 use crate::inputs::{self, calls, Random};
 use crate::rows;
-use crate::sessions::{Session, World, CLOCK, INFINITY, MEMORY};
-use crate::sides::ROOM;
+use crate::sessions::{Session, Way, World, CLOCK, INFINITY, MEMORY};
+use crate::sides::{Outcome, ROOM};
 
 /// Calls in a list of like messages.
 const LIST: usize = 32;
@@ -14,7 +14,8 @@ fn queries(name: String, keywords: Vec<Vec<u8>>) -> Session {
     let mut world = World::new(11, ROOM, keywords);
     let setup = world.warm();
     let list = (0..LIST).map(|_| inputs::query(world.numbers.number(), 5, 1, &text)).collect();
-    Session { name, setup, calls: calls(0, CLOCK, list), expected: |outcome| outcome.to.count_ones() >= 5, units: LIST }
+    let passed = |outcome: &Outcome| outcome.to.count_ones() >= 5;
+    Session { name, setup, calls: calls(0, CLOCK, list), way: Way::Message, expected: passed, units: LIST }
 }
 
 /// A query of one keyword that gets longer.
@@ -42,7 +43,8 @@ pub fn remembered() -> Vec<Session> {
         let setup = world.remembered(kept);
         let list = (0..LIST).map(|_| inputs::hit(world.random.number(), 5, 1, 100)).collect();
         let name = format!("hit of no query (10), {kept} remembered");
-        Session { name, setup, calls: calls(0, CLOCK, list), expected: |outcome| outcome.answer == 10, units: LIST }
+        let unknown = |outcome: &Outcome| outcome.answer == 10;
+        Session { name, setup, calls: calls(0, CLOCK, list), way: Way::Message, expected: unknown, units: LIST }
     };
     [0, MEMORY / 8, MEMORY / 4, MEMORY / 2, MEMORY].map(unknown).into()
 }

@@ -1,7 +1,7 @@
 //! The proved core, called through its boundary. All calls of the library are in this module.
 
 use crate::sides::{Areas, Call, Greeted, Outcome, Side, Writing, ADDRESS, PORT};
-use lunozhar::raw::{self, Number, Own, Station, Told};
+use lunozhar::raw::{self, Fed, Number, Own, Station, Told};
 use std::mem::MaybeUninit;
 
 /// The proved core, its state on the heap.
@@ -12,6 +12,7 @@ const OWN: Own = Own { port: PORT, address: ADDRESS, files: 0, kilobytes: 0, cal
 
 impl Side for Proved {
     type Told = Told;
+    type Fed = Fed;
 
     fn fresh(route: &[u8]) -> Proved {
         let mut station = Box::new(MaybeUninit::<Station>::zeroed());
@@ -50,7 +51,39 @@ impl Side for Proved {
     fn outcome(told: &Told) -> Outcome {
         let Told { answer, used, written, to, search, delivered, textat, textlen } = *told;
         let to = to.iter().rev().fold(0, |mask, &sent| mask << 1 | u8::from(sent));
-        Outcome { answer, used, written, to, search, delivered, text: (textat, textlen) }
+        Outcome { answer, used, written, to, search, delivered, text: (textat, textlen), within: false, waits: false }
+    }
+
+    #[inline]
+    fn feed(&mut self, call: &Call, from: usize, areas: &mut Areas) -> Fed {
+        let (bytes, held) = (&call.bytes[from..], &mut areas.held[call.line as usize]);
+        let (out, route) = (&mut areas.out, &mut areas.route);
+        // SAFETY: four areas apart from each other, each with its length.
+        unsafe {
+            raw::lunozhar_feed(
+                &mut *self.0,
+                call.line,
+                call.clock,
+                OWN,
+                bytes.as_ptr(),
+                bytes.len(),
+                held.as_mut_ptr(),
+                held.len(),
+                out.as_mut_ptr(),
+                out.len(),
+                route.as_mut_ptr(),
+                route.len(),
+            )
+        }
+    }
+
+    #[inline]
+    fn used(fed: &Fed) -> usize {
+        fed.told.used
+    }
+
+    fn fed_outcome(fed: &Fed) -> Outcome {
+        Outcome { within: fed.within, waits: fed.waits, ..Self::outcome(&fed.told) }
     }
 
     #[inline]

@@ -3,7 +3,7 @@
 use crate::inputs::{self, calls, Random};
 use crate::measure::{repeated, Effort, Row};
 use crate::proved::Proved;
-use crate::sessions::{Session, World, CLOCK, INFINITY, MEMORY};
+use crate::sessions::{Session, Way, World, CLOCK, INFINITY, MEMORY};
 use crate::sides::{Areas, Call, Outcome, Reference, Side, ROOM};
 use std::hint::black_box;
 
@@ -57,7 +57,8 @@ pub fn mixed() -> Session {
         };
         list.push(Call { line, clock: CLOCK + 60 * index as u32, bytes });
     }
-    Session { name: "message, mixed list".into(), setup, units: list.len(), calls: list, expected: |_| true }
+    let (name, units) = ("message, mixed list".into(), list.len());
+    Session { name, setup, units, calls: list, way: Way::Message, expected: |_| true }
 }
 
 /// A list of messages of line 0 to a warm station.
@@ -65,7 +66,7 @@ fn warm(name: &str, expected: fn(&Outcome) -> bool, make: impl Fn(&mut World, us
     let mut world = world(2, ROOM);
     let setup = world.warm();
     let list = (0..LIST).map(|index| make(&mut world, index)).collect();
-    Session { name: name.into(), setup, calls: calls(0, CLOCK, list), expected, units: LIST }
+    Session { name: name.into(), setup, calls: calls(0, CLOCK, list), way: Way::Message, expected, units: LIST }
 }
 
 fn passing() -> Session {
@@ -91,7 +92,8 @@ fn pings() -> Session {
     let setup = world.warm();
     let ping = |index: u32| Call { line: index % 8, clock: CLOCK + 1_000 * (index / 8), bytes: inputs::ping([index as u8; 16], 7, 2) };
     let eleven = |outcome: &Outcome| outcome.answer == 0 && outcome.written == 11 * 37;
-    Session { name: "ping, 80 pongs stored".into(), setup, calls: (0..112).map(ping).collect(), expected: eleven, units: 112 }
+    let calls = (0..112).map(ping).collect();
+    Session { name: "ping, 80 pongs stored".into(), setup, calls, way: Way::Message, expected: eleven, units: 112 }
 }
 
 fn resets() -> Session {
@@ -106,19 +108,60 @@ pub fn run(name: &str, entries: usize, infinity: u8) -> Session {
     setup.extend(calls(0, CLOCK, inputs::updates(tables.number, None, &tables.old, infinity)));
     let mut list = inputs::updates(tables.number, Some(&tables.old), &tables.new, infinity);
     list.extend(inputs::updates(tables.number, Some(&tables.new), &tables.old, infinity));
-    Session { name: name.into(), setup, calls: calls(0, CLOCK, list), expected: |outcome| outcome.answer == 0, units: 2 }
+    let taken = |outcome: &Outcome| outcome.answer == 0;
+    Session { name: name.into(), setup, calls: calls(0, CLOCK, list), way: Way::Message, expected: taken, units: 2 }
 }
 
-/// Rows of message calls.
+/// The same messages, each by the call that takes bytes, with nothing held.
+fn whole(name: &str, session: Session) -> Session {
+    Session { name: name.into(), way: Way::Feed, ..session }
+}
+
+/// Queries, each in two scraps, the second from the midst of its header on.
+fn two_scraps() -> Session {
+    let session = passing();
+    let cut = |call: Call| {
+        let (first, second) = call.bytes.split_at(20);
+        [first.to_vec(), second.to_vec()].map(|bytes| Call { bytes, ..call })
+    };
+    let expected = |outcome: &Outcome| outcome.waits || (outcome.within && outcome.to.count_ones() == 5);
+    let calls = session.calls.into_iter().flat_map(cut).collect();
+    let name = "feed of a query in two scraps, passed to five".into();
+    Session { name, calls, way: Way::Feed, expected, ..session }
+}
+
+/// A stream of queries, hits, pongs and pings of line 0, cut into scraps of this size. A unit is a byte.
+fn stream(size: usize) -> Session {
+    let mut world = world(8, ROOM);
+    let setup = world.warm();
+    let World { mut random, mut numbers, words, kept, .. } = world;
+    let mut message = |index: usize| match index % 8 {
+        0..=3 => inputs::query(numbers.number(), 5, 1, &text(&mut random, &words)),
+        4 | 5 => inputs::hit(kept[MEMORY / 2 + index], 5, 1, HIT),
+        6 => inputs::pong(random.number(), 3, 1, [index as u8; 14]),
+        _ => inputs::ping(random.number(), 1, 0),
+    };
+    let bytes = (0..LIST).map(&mut message).collect::<Vec<_>>().concat();
+    let list = bytes.chunks(size).map(<[u8]>::to_vec).collect();
+    let name = format!("stream in scraps of {size} byte{}, each byte", if size == 1 { "" } else { "s" });
+    let expected = |outcome: &Outcome| outcome.waits || outcome.answer == 0;
+    Session { name, setup, calls: calls(0, CLOCK, list), way: Way::Feed, expected, units: bytes.len() }
+}
+
+/// Rows of message calls, and of calls with bytes as they come.
 pub fn sessions() -> Vec<Session> {
     let four = run("PATCH run, 65,536 entries, 4 bits", ROOM, INFINITY);
     let eight = run("PATCH run, 65,536 entries, 8 bits", ROOM, 100);
-    vec![mixed(), passing(), repeat(), passed_back(), pings(), resets(), four, eight]
+    let messages = [mixed(), passing(), repeat(), passed_back(), pings(), resets(), four, eight];
+    let mixed_whole = whole("feed of whole messages, mixed list", mixed());
+    let passing_whole = whole("feed of a whole query, passed to five", passing());
+    let feeds = [mixed_whole, passing_whole, two_scraps(), stream(1), stream(16), stream(64)];
+    messages.into_iter().chain(feeds).collect()
 }
 
 fn in_order(name: &str, effort: Effort, areas: &mut Areas) -> Row {
-    let mut world = world(5, ROOM);
-    let session = Session { name: name.into(), setup: world.warm(), calls: vec![], expected: |_| true, units: 1 };
+    let (setup, calls, way) = (world(5, ROOM).warm(), Vec::new(), Way::Message);
+    let session = Session { name: name.into(), setup, calls, way, expected: |_| true, units: 1 };
     let (proved, reference) = (session.started::<Proved>(areas), session.started::<Reference>(areas));
     assert!(proved.in_order() && reference.in_order());
     repeated(name, effort, &mut (), |_| black_box(&proved).in_order(), |_| black_box(&reference).in_order())

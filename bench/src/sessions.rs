@@ -1,4 +1,5 @@
-//! Rows of message calls: a station is set up, then a list of messages is timed. Before each round the state is what it was after the set-up.
+//! Rows of message calls, and of calls with bytes as they come: a station is set up, then a list of messages or scraps
+//! is timed. Before each round the state is what it was after the set-up.
 
 use crate::inputs::{self, calls, Random};
 use crate::measure::{by_turns, row, Effort, Row};
@@ -15,30 +16,71 @@ pub const INFINITY: u8 = 7;
 /// The clock when the set-up is done.
 pub const CLOCK: u32 = 100_000;
 
-/// What is timed: a set-up, a list of messages, what each is to come to, and how many units of work the list is.
+/// How a list is handed over: each message by the message call, or each scrap by the call that takes bytes, until it
+/// is used up.
+#[derive(Clone, Copy)]
+pub enum Way {
+    Message,
+    Feed,
+}
+
+/// What is timed: a set-up, a list of messages or scraps, what each call is to come to, and how many units of work the
+/// list is.
 pub struct Session {
     pub name: String,
     pub setup: Vec<Call>,
     pub calls: Vec<Call>,
+    pub way: Way,
     pub expected: fn(&Outcome) -> bool,
     pub units: usize,
+}
+
+/// Hands over a scrap until it is used up, and what each call came to.
+#[inline]
+fn feed_all<S: Side>(side: &mut S, call: &Call, areas: &mut Areas, mut each: impl FnMut(S::Fed, &Areas)) {
+    let mut from = 0;
+    while from < call.bytes.len() {
+        let fed = side.feed(call, from, areas);
+        from += S::used(&fed);
+        each(fed, areas);
+    }
 }
 
 /// The outcomes of the list, with the bytes that each call wrote.
 fn outcomes<S: Side>(side: &S, session: &Session, areas: &mut Areas) -> Vec<(Outcome, Vec<u8>)> {
     let mut side = side.clone();
-    let mut outcome = |call| {
-        let outcome = S::outcome(&side.message(call, areas));
-        (outcome, areas.out[..outcome.written].to_vec())
-    };
-    session.calls.iter().map(&mut outcome).collect()
+    let mut met = Vec::new();
+    areas.held.iter_mut().for_each(|held| held.fill(0));
+    for call in &session.calls {
+        let mut note = |outcome: Outcome, areas: &Areas| {
+            assert!(outcome.used > 0, "{}: every call uses bytes", session.name);
+            met.push((outcome, areas.out[..outcome.written].to_vec()));
+        };
+        match session.way {
+            Way::Message => {
+                let told = side.message(call, areas);
+                note(S::outcome(&told), areas);
+            }
+            Way::Feed => feed_all(&mut side, call, areas, |fed, areas| note(S::fed_outcome(&fed), areas)),
+        }
+    }
+    met
 }
 
 fn round<S: Side>(side: &mut S, from: &S, session: &Session, areas: &mut Areas) -> Duration {
     side.clone_from(from);
     let begin = Instant::now();
-    for call in &session.calls {
-        black_box(side.message(black_box(call), areas));
+    match session.way {
+        Way::Message => {
+            for call in &session.calls {
+                black_box(side.message(black_box(call), areas));
+            }
+        }
+        Way::Feed => {
+            for call in &session.calls {
+                feed_all(side, black_box(call), areas, |fed, _| drop(black_box(fed)));
+            }
+        }
     }
     begin.elapsed()
 }
@@ -64,11 +106,11 @@ impl Session {
         let reference: Reference = self.started(areas);
         assert!(route == areas.route, "{}: the tables set up are equal", self.name);
         let one = outcomes(&proved, self, areas);
-        let route = areas.route.clone();
+        let (route, held) = (areas.route.clone(), areas.held.clone());
         let two = outcomes(&reference, self, areas);
         assert_eq!(one, two, "{}: the outcomes are equal", self.name);
         assert!(one.iter().all(|(outcome, _)| (self.expected)(outcome)), "{}: the outcomes are what the row says", self.name);
-        assert!(route == areas.route, "{}: the tables are equal", self.name);
+        assert!(route == areas.route && held == areas.held, "{}: the tables and the held areas are equal", self.name);
         let (mut first, mut second) = (proved.clone(), reference.clone());
         let times =
             by_turns(effort, areas, |areas| round(&mut first, &proved, self, areas), |areas| round(&mut second, &reference, self, areas));

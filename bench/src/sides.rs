@@ -2,7 +2,7 @@
 
 use lunozhar_reference::handshake::{self, Kind};
 use lunozhar_reference::hash;
-use lunozhar_reference::station::{Handled, OwnPong, State, OUTPUT};
+use lunozhar_reference::station::{Fed, Handled, OwnPong, State, HELD, OUTPUT};
 use lunozhar_reference::writer::{write_table, Entries};
 
 /// Bytes of the route area for each of the eight lines.
@@ -12,7 +12,7 @@ const LINES: usize = 8;
 pub const PORT: u16 = 6346;
 pub const ADDRESS: [u8; 4] = [127, 0, 0, 1];
 
-/// An arriving message.
+/// An arriving message, or bytes as they come.
 #[derive(Clone)]
 pub struct Call {
     pub line: u32,
@@ -24,15 +24,17 @@ pub struct Call {
 pub struct Areas {
     pub out: Vec<u8>,
     pub route: Vec<u8>,
+    /// The held area of each line.
+    pub held: Vec<Vec<u8>>,
 }
 
 impl Areas {
     pub fn new() -> Areas {
-        Areas { out: vec![0; OUTPUT], route: vec![0; LINES * ROOM] }
+        Areas { out: vec![0; OUTPUT], route: vec![0; LINES * ROOM], held: vec![vec![0; HELD]; LINES] }
     }
 }
 
-/// What a message came to.
+/// What a message or bytes came to. The last two are of bytes as they come.
 #[derive(Clone, Copy, Debug, PartialEq, Eq)]
 pub struct Outcome {
     pub answer: u8,
@@ -43,6 +45,8 @@ pub struct Outcome {
     pub search: bool,
     pub delivered: bool,
     pub text: (usize, usize),
+    pub within: bool,
+    pub waits: bool,
 }
 
 /// A group's answer, length, kind, version and code.
@@ -67,13 +71,18 @@ pub struct Writing {
 
 /// One of the two implementations, with a station.
 pub trait Side: Clone {
-    /// What its message call hands back.
+    /// What its message call hands back, and its call with bytes.
     type Told;
+    type Fed;
 
     fn fresh(route: &[u8]) -> Self;
     fn open(&mut self, line: u32) -> u8;
     fn message(&mut self, call: &Call, areas: &mut Areas) -> Self::Told;
     fn outcome(told: &Self::Told) -> Outcome;
+    /// Bytes of the call from this place on.
+    fn feed(&mut self, call: &Call, from: usize, areas: &mut Areas) -> Self::Fed;
+    fn used(fed: &Self::Fed) -> usize;
+    fn fed_outcome(fed: &Self::Fed) -> Outcome;
     fn in_order(&self) -> bool;
     fn hash(keyword: &[u8]) -> u32;
     /// The answer and how many bytes were written.
@@ -91,6 +100,7 @@ const OWN: OwnPong = OwnPong { port: PORT, address: ADDRESS, files: 0, kilobytes
 
 impl Side for Reference {
     type Told = Handled;
+    type Fed = Fed;
 
     fn fresh(route: &[u8]) -> Reference {
         Reference(Box::new(State::fresh(route).1))
@@ -107,7 +117,23 @@ impl Side for Reference {
 
     fn outcome(told: &Handled) -> Outcome {
         let Handled { answer, used, written, to, search, delivered, text_start, text_length } = *told;
-        Outcome { answer, used, written, to, search, delivered, text: (text_start, text_length) }
+        let text = (text_start, text_length);
+        Outcome { answer, used, written, to, search, delivered, text, within: false, waits: false }
+    }
+
+    #[inline]
+    fn feed(&mut self, call: &Call, from: usize, areas: &mut Areas) -> Fed {
+        let (line, held) = (call.line as usize, &mut areas.held[call.line as usize]);
+        self.0.feed(line, call.clock, &OWN, &call.bytes[from..], held, &mut areas.out, &mut areas.route)
+    }
+
+    #[inline]
+    fn used(fed: &Fed) -> usize {
+        fed.handled.used
+    }
+
+    fn fed_outcome(fed: &Fed) -> Outcome {
+        Outcome { within: fed.within, waits: fed.waits, ..Self::outcome(&fed.handled) }
     }
 
     #[inline]

@@ -3,26 +3,40 @@
 use crate::call::Call;
 use crate::case::Start;
 use crate::second::Reference;
-use crate::side::{Outcome, Side};
+use crate::side::{Lent, Outcome, Side};
 use lunozhar::raw::{Station, Tally};
 
 pub struct Broken<const FAULT: usize>(Reference);
 
-/// How each fault is named: an answer, a line sent to, a byte past what is written, a place of the state that is not kept, a route byte, a
-/// writer's byte, the tally, and a panic.
-pub const FAULTS: [&str; 8] =
-    ["answer", "to", "output byte 4118", "state: line 2 pong 0 clock", "route byte 3", "output byte 30", "tally: count 9", "result"];
+/// How each fault is named: an answer, a line sent to, a byte past what is written, a place of the state that is not
+/// kept, a route byte, a writer's byte, the tally, and a panic; of bytes as they come those used, where the message
+/// stands, what is held and a shut mark.
+pub const FAULTS: [&str; 12] = [
+    "answer",
+    "to",
+    "output byte 4118",
+    "state: line 2 pong 0 clock",
+    "route byte 3",
+    "output byte 30",
+    "tally: count 9",
+    "result",
+    "used",
+    "within",
+    "held byte 25",
+    "state: line 1 pending shut",
+];
 
 /// A writer whose tables do not stand when they are read.
-pub const BAD_WRITER: usize = 8;
+pub const BAD_WRITER: usize = 12;
 
 impl<const FAULT: usize> Side for Broken<FAULT> {
     fn begin(start: &Start) -> Self {
         Broken(Reference::begin(start))
     }
 
-    fn run(&mut self, call: &Call, out: &mut [u8], route: &mut [u8]) -> Outcome {
-        let mut outcome = self.0.run(call, out, route);
+    fn run(&mut self, call: &Call, lent: Lent<'_>) -> Outcome {
+        let Lent { out, route, held } = lent;
+        let mut outcome = self.0.run(call, Lent { out: &mut *out, route: &mut *route, held: &mut *held });
         match (FAULT, &mut outcome) {
             (0, Outcome::Told(told)) if told.answer == 9 => told.answer = 10,
             (1, Outcome::Told(told)) if told.to[5] && told.written > 60 => told.to[5] = false,
@@ -30,6 +44,9 @@ impl<const FAULT: usize> Side for Broken<FAULT> {
             (4, Outcome::Told(told)) if told.answer == 14 && route.len() > 3 => route[3] = 77,
             (5, Outcome::Written(written)) if written.written > 100 => out[30] ^= 1,
             (7, Outcome::Group(group)) if group.answer == 17 => return Outcome::Panicked("on purpose".to_string()),
+            (8, Outcome::Fed(fed)) if fed.told.answer == 5 => fed.told.used = 23,
+            (9, Outcome::Fed(fed)) if fed.told.search => fed.within = false,
+            (10, Outcome::Fed(fed)) if fed.waits && fed.told.used > 20 => held[25] ^= 1,
             (BAD_WRITER, Outcome::Written(written)) if written.written > 0 => out[written.written - 1] ^= 1,
             _ => {}
         }
@@ -40,6 +57,9 @@ impl<const FAULT: usize> Side for Broken<FAULT> {
         let mut station = self.0.station();
         if FAULT == 3 && station.lines[4].live {
             station.lines[2].pongs[0].clock |= 1;
+        }
+        if FAULT == 11 && station.count > 0 {
+            station.lines[1].pending.shut = false;
         }
         station
     }

@@ -69,6 +69,8 @@ calls! {
     Open "open" { line: u32 }
     Close "close" { line: u32 }
     Message "message" { line: u32, clock: u32, own: Own, bytes: Vec<u8>, out: Area, route: Option<Area> }
+    /// Bytes as they come, with the line's held area of the case, or another in its place.
+    Feed "feed" { line: u32, clock: u32, own: Own, bytes: Vec<u8>, held: Option<Area>, out: Area, route: Option<Area> }
     Ask "ask" { number: [u8; 16], text: Vec<u8>, out: Area, route: Option<Area> }
     InOrder "in-order" {}
     Count "count" { answer: u8 }
@@ -94,6 +96,9 @@ impl Call {
     pub fn kind(&self) -> &'static str {
         let bytes = match self {
             Call::Message { bytes, .. } => bytes,
+            Call::Feed { bytes, .. } if bytes.is_empty() => return "feed: no bytes",
+            Call::Feed { bytes, .. } if bytes.len() < HEADER => return "feed: under 23 bytes",
+            Call::Feed { .. } => return "feed: 23 bytes or more",
             other => return other.name(),
         };
         match (bytes.get(16), bytes.get(HEADER)) {
@@ -112,7 +117,8 @@ impl Call {
     /// The area that is lent for output.
     pub fn output(&self) -> Option<&Area> {
         match self {
-            Call::Message { out, .. } | Call::Ask { out, .. } | Call::WriteTable { out, .. } | Call::WriteBusy { out, .. } => Some(out),
+            Call::Message { out, .. } | Call::Feed { out, .. } | Call::Ask { out, .. } => Some(out),
+            Call::WriteTable { out, .. } | Call::WriteBusy { out, .. } => Some(out),
             Call::WriteGreeting { out } | Call::WriteOk { out } => Some(out),
             Call::ReadField { value, .. } => Some(value),
             _ => None,
@@ -122,7 +128,31 @@ impl Call {
     /// The route area that is lent in place of the case's own.
     pub fn other_route(&self) -> Option<&Area> {
         match self {
-            Call::Message { route, .. } | Call::Ask { route, .. } => route.as_ref(),
+            Call::Message { route, .. } | Call::Feed { route, .. } | Call::Ask { route, .. } => route.as_ref(),
+            _ => None,
+        }
+    }
+
+    /// The held area that is lent in place of the line's own.
+    pub fn other_held(&self) -> Option<&Area> {
+        match self {
+            Call::Feed { held, .. } => held.as_ref(),
+            _ => None,
+        }
+    }
+
+    /// The line whose held area is lent, counted modulo eight.
+    pub fn held_line(&self) -> usize {
+        match self {
+            Call::Feed { line, .. } => *line as usize % 8,
+            _ => 0,
+        }
+    }
+
+    /// The clock, of a call that brings one.
+    pub fn clock(&mut self) -> Option<&mut u32> {
+        match self {
+            Call::Message { clock, .. } | Call::Feed { clock, .. } => Some(clock),
             _ => None,
         }
     }
@@ -147,22 +177,35 @@ impl Call {
     /// Drops what is behind a message, then bytes of its payload, and sets its length to what is left; takes the shortest output area that is
     /// long enough.
     fn shorten_message(&mut self, still: &mut dyn FnMut(&Call) -> bool) {
-        let (line, clock, own, bytes, route) = match self {
-            Call::Message { line, clock, own, bytes, route, .. } if bytes.len() >= HEADER => (*line, *clock, *own, bytes.clone(), *route),
-            _ => return,
+        let given = match self {
+            Call::Message { bytes, .. } | Call::Feed { bytes, .. } => reframed(bytes),
+            _ => None,
         };
-        let out = Area { length: 4119, seed: 0, top: 0 };
+        let (head, mut payload) = match given {
+            Some(parts) => parts,
+            None => return,
+        };
+        let base = self.clone();
         let framed = |payload: &Vec<u8>| {
-            let bytes = [&bytes[..19], &(payload.len() as u32).to_le_bytes(), payload].concat();
-            Call::Message { line, clock, own, bytes, out, route }
+            let mut call = base.clone();
+            if let Call::Message { bytes, out, .. } | Call::Feed { bytes, out, .. } = &mut call {
+                *bytes = [&head[..19], &(payload.len() as u32).to_le_bytes(), payload].concat();
+                *out = Area { length: 4119, seed: 0, top: 0 };
+            }
+            call
         };
-        let length = u32::from_le_bytes([bytes[19], bytes[20], bytes[21], bytes[22]]) as usize;
-        let mut payload: Vec<u8> = bytes[HEADER..].iter().copied().take(length).collect();
         if still(&framed(&payload)) {
             drop_runs(&mut payload, &mut |payload| still(&framed(payload)));
             *self = framed(&payload);
         }
     }
+}
+
+/// The header at the front of some bytes, and its payload as far as it is there.
+pub fn reframed(bytes: &[u8]) -> Option<(Vec<u8>, Vec<u8>)> {
+    let head = bytes.get(..HEADER)?;
+    let length = u32::from_le_bytes([head[19], head[20], head[21], head[22]]) as usize;
+    Some((head.to_vec(), bytes[HEADER..].iter().copied().take(length).collect()))
 }
 
 #[cfg(test)]

@@ -3,16 +3,51 @@
 use crate::call::Call;
 use crate::convert::{number_of, station_from_raw};
 use crate::field::{attempt, drop_runs, part, plain_runs, Area, Field};
-use lunozhar::raw::{Line, Pong, Station, Table, Tally};
+use lunozhar::raw::{Line, Pending, Pong, Station, Table, Tally, ANSWERS, HELD, LINES};
+use std::array;
 use std::fmt::Write;
 
 const ZERO_PONG: Pong = Pong { bytes: [0; 14], hops: 0, clock: 0 };
 const ZERO_TABLE: Table = Table { mark: 0, length: 0, infinity: 0, place: 0, size: 0, bits: 0, at: 0 };
-const ZERO_LINE: Line =
-    Line { live: false, pinged: false, pingtime: 0, pongcount: 0, pongnext: 0, pongs: [ZERO_PONG; 10], table: ZERO_TABLE };
+const ZERO_PENDING: Pending = Pending { count: 0, shut: false };
+const ZERO_LINE: Line = Line {
+    live: false,
+    pinged: false,
+    pingtime: 0,
+    pongcount: 0,
+    pongnext: 0,
+    pongs: [ZERO_PONG; 10],
+    table: ZERO_TABLE,
+    pending: ZERO_PENDING,
+};
 
 /// A state that is zero everywhere.
 pub const ZERO: Station = Station { room: 0, lines: [ZERO_LINE; 8], lo: [0; 512], hi: [0; 512], asker: [0; 512], count: 0, next: 0 };
+
+/// The held area of a line: an area, and bytes that stand at its front.
+#[derive(Clone, Debug, PartialEq, Eq)]
+pub struct Held {
+    pub area: Area,
+    pub front: Vec<u8>,
+}
+
+/// A held area as long as it has to be, zero everywhere.
+const ZERO_HELD: Held = Held { area: Area { length: HELD, seed: 0, top: 0 }, front: Vec::new() };
+
+impl Held {
+    pub fn bytes(&self) -> Vec<u8> {
+        let mut bytes = self.area.bytes();
+        bytes.iter_mut().zip(&self.front).for_each(|(byte, front)| *byte = *front);
+        bytes
+    }
+
+    fn simplify(&mut self, still: &mut dyn FnMut(&Held) -> bool) {
+        attempt(self, ZERO_HELD, still);
+        let plain = Held { front: self.front.clone(), ..ZERO_HELD };
+        attempt(self, plain, still);
+        part(self, |held| &mut held.front, |front, still| front.simplify(still), still);
+    }
+}
 
 /// What a list of calls starts from.
 #[derive(Clone, Debug, PartialEq, Eq)]
@@ -20,13 +55,15 @@ pub struct Start {
     pub station: Box<Station>,
     pub tally: Tally,
     pub route: Area,
+    pub held: [Held; LINES],
 }
 
 impl Start {
     /// A state that is zero everywhere but its room, over this route area.
     pub fn zero(route: Area) -> Start {
         let room = if route.length < 32 { 0 } else { route.length / 8 };
-        Start { station: Box::new(Station { room, ..ZERO }), tally: Tally { counts: [0; 19] }, route }
+        let held = array::from_fn(|_| ZERO_HELD);
+        Start { station: Box::new(Station { room, ..ZERO }), tally: Tally { counts: [0; ANSWERS] }, route, held }
     }
 }
 
@@ -52,6 +89,12 @@ impl Start {
                 let run = format!("place={place} size={size} bits={bits} at={entry}");
                 let _ = writeln!(text, "table {at} mark={mark} length={length} infinity={infinity} {run}");
             }
+            if line.pending != ZERO_PENDING {
+                let _ = writeln!(text, "pending {at} count={} shut={}", line.pending.count, line.pending.shut);
+            }
+        }
+        for (at, held) in self.held.iter().enumerate().filter(|(_, held)| **held != ZERO_HELD) {
+            let _ = writeln!(text, "held {at} area={} front={}", held.area.text(), held.front.text());
         }
         for place in 0..asker.len() {
             if (lo[place], hi[place], asker[place]) != (0, 0, 0) {
@@ -101,6 +144,13 @@ impl Start {
                 (table.place, table.size, table.bits) = (Field::read(place)?, Field::read(size)?, Field::read(bits)?);
                 table.at = Field::read(entry)?;
             }
+            ["pending", at, count, shut] => {
+                let pending = &mut station.lines.get_mut(usize::read(at)?)?.pending;
+                *pending = Pending { count: Field::read(count)?, shut: Field::read(shut)? };
+            }
+            ["held", at, area, front] => {
+                *self.held.get_mut(usize::read(at)?)? = Held { area: Field::read(area)?, front: Field::read(front)? };
+            }
             ["query", place, number, asker] => {
                 let place = usize::read(place).filter(|&place| place < station.asker.len())?;
                 let number = u128::from_le_bytes(Field::read(number)?);
@@ -126,6 +176,9 @@ impl Start {
             }
         }
         part(self, |start| &mut start.route, |route, still| route.simplify(still), still);
+        for line in 0..self.held.len() {
+            part(self, |start| &mut start.held[line], Held::simplify, still);
+        }
         part(self, |start| &mut start.tally.counts, |counts, still| plain_array(counts, &0, still), still);
         part(self, |start| &mut start.station.lines, |lines, still| plain_array(lines, &ZERO_LINE, still), still);
         for at in 0..self.station.lines.len() {
@@ -162,6 +215,8 @@ fn simplify_line(line: &mut Line, still: &mut dyn FnMut(&Line) -> bool) {
     part(line, |line| &mut line.pongnext, |next, still| next.simplify(still), still);
     part(line, |line| &mut line.pinged, |pinged, still| pinged.simplify(still), still);
     part(line, |line| &mut line.pingtime, |time, still| time.simplify(still), still);
+    part(line, |line| &mut line.pending.shut, |shut, still| shut.simplify(still), still);
+    part(line, |line| &mut line.pending.count, |count, still| count.simplify(still), still);
     let plain = Line { table: ZERO_TABLE, ..*line };
     attempt(line, plain, still);
     let plain = Line { table: Table { place: 0, size: 0, bits: 0, at: 0, ..line.table }, ..*line };
@@ -229,22 +284,22 @@ impl Case {
             line.pingtime = line.pingtime.wrapping_sub(by);
             line.pongs.iter_mut().for_each(|pong| pong.clock = pong.clock.wrapping_sub(by));
         }
-        for call in &mut case.calls {
-            if let Call::Message { clock, .. } = call {
-                *clock = clock.wrapping_sub(by);
-            }
+        for clock in case.calls.iter_mut().filter_map(Call::clock) {
+            *clock = clock.wrapping_sub(by);
         }
         case
     }
 
-    /// Takes simpler cases, one after the other, each if `still` holds of it: fewer calls, a simpler start, simpler calls.
+    /// Takes simpler cases, one after the other, each if `still` holds of it: fewer calls, simpler messages, a simpler
+    /// start, simpler calls.
     pub fn simplify(&mut self, still: &mut dyn FnMut(&Case) -> bool) {
         part(self, |case| &mut case.calls, drop_runs, still);
-        let first = self.calls.iter().find_map(|call| if let Call::Message { clock, .. } = call { Some(*clock) } else { None });
+        let first = self.calls.iter_mut().find_map(|call| call.clock().copied());
         if let Some(first) = first {
             let early = self.turned_back(first);
             attempt(self, early, still);
         }
+        self.simplify_scraps(still);
         part(self, |case| &mut case.start, |start, still| start.simplify(still), still);
         for at in 0..self.calls.len() {
             part(self, |case| &mut case.calls[at], |call, still| call.simplify(still), still);

@@ -64,6 +64,7 @@ pub fn stations(first: &Station, second: &Station) -> Option<Difference> {
         if let Some(difference) = tables(line, &one.table, &two.table) {
             return Some(difference);
         }
+        first_field!(format!("state: line {line} pending "), one.pending, two.pending; count shut);
     }
     (0..first.asker.len()).find_map(|place| {
         let query = |of: &Station| (of.lo[place], of.hi[place], of.asker[place]);
@@ -89,13 +90,15 @@ mod tests {
     fn every_part_of_a_station_is_compared() {
         let station = Maker::of_case(1, 1).start().station;
         assert_eq!(stations(&station, &station.clone()), None);
-        let changes: [Change; 9] = [
+        let changes: [Change; 11] = [
             ("state: room", |station| station.room ^= 1),
             ("state: count", |station| station.count ^= 1),
             ("state: line 3 pinged", |station| station.lines[3].pinged ^= true),
             ("state: line 7 pong 9 bytes", |station| station.lines[7].pongs[9].bytes[13] ^= 1),
             ("state: line 0 pong 0 clock", |station| station.lines[0].pongs[0].clock ^= 1),
             ("state: line 2 table at", |station| station.lines[2].table.at ^= 1),
+            ("state: line 6 pending count", |station| station.lines[6].pending.count ^= 1),
+            ("state: line 1 pending shut", |station| station.lines[1].pending.shut ^= true),
             ("state: remembered query 511 (low, high, asker)", |station| station.hi[511] ^= 1),
             ("state: remembered query 0 (low, high, asker)", |station| station.lo[0] ^= 1),
             ("state: remembered query 5 (low, high, asker)", |station| station.asker[5] ^= 1),

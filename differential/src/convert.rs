@@ -4,7 +4,7 @@
 
 use lunozhar::raw;
 use lunozhar_reference::handshake::{Field, Group, Kind, Pair, Pairs};
-use lunozhar_reference::station::{Handled, Line, OwnPong, Pong, State, LINES, MEMORY, PONGS};
+use lunozhar_reference::station::{Fed, Handled, Line, OwnPong, Pong, State, LINES, MEMORY, PONGS};
 use lunozhar_reference::table::Table;
 use lunozhar_reference::writer::Written;
 use std::array;
@@ -28,6 +28,7 @@ fn line_to_raw(line: &Line) -> raw::Line {
         pongnext: usize::from(line.pong_next),
         pongs: line.pongs.map(|Pong { data, hops, clock }| raw::Pong { bytes: data, hops, clock }),
         table: table_to_raw(&line.table),
+        pending: raw::Pending { count: line.held, shut: line.shut },
     }
 }
 
@@ -41,6 +42,8 @@ fn line_from_raw(line: &raw::Line) -> Option<Line> {
         pong_next: line.pongnext.try_into().ok()?,
         pongs,
         table: table_from_raw(&line.table),
+        held: line.pending.count,
+        shut: line.pending.shut,
     })
 }
 
@@ -93,6 +96,10 @@ pub fn told(handled: &Handled) -> raw::Told {
         textat: handled.text_start,
         textlen: handled.text_length,
     }
+}
+
+pub fn fed(fed: &Fed) -> raw::Fed {
+    raw::Fed { told: told(&fed.handled), within: fed.within, waits: fed.waits }
 }
 
 pub fn written(written: Written) -> raw::Written {

@@ -60,7 +60,7 @@ macro_rules! numbers {
     )*};
 }
 
-numbers!(u8 u32 u64 usize);
+numbers!(u8 u16 u32 u64 usize);
 
 impl Field for bool {
     fn text(&self) -> String {
@@ -213,7 +213,7 @@ impl Field for Area {
     }
 }
 
-/// Another area, or `own` for the case's own route area.
+/// Another area, or `own` for the case's own route or held area.
 impl Field for Option<Area> {
     fn text(&self) -> String {
         self.map_or("own".to_string(), |area| area.text())

@@ -14,6 +14,7 @@ mod make;
 mod proved;
 mod random;
 mod run;
+mod scraps;
 mod second;
 mod shrink;
 mod side;
@@ -66,7 +67,8 @@ fn print_counts(counts: &Counts) {
     let print = |kind: &str, count: &Count| {
         let met = count.answers.iter().enumerate().filter(|(_, times)| **times > 0);
         let answers: String = met.map(|(answer, times)| format!(" {answer}:{times}")).collect();
-        println!("{:>10} {kind:<24}{answers}", count.calls);
+        let waits = if count.waits > 0 { format!(" waits:{}", count.waits) } else { String::new() };
+        println!("{:>10} {kind:<24}{answers}{waits}", count.calls);
     };
     println!("     calls kind                     answer:times ..");
     counts.kinds.iter().for_each(|(kind, count)| print(kind, count));

@@ -2,7 +2,7 @@
 
 use crate::call::Call;
 use crate::case::Start;
-use crate::side::{Outcome, Side};
+use crate::side::{Lent, Outcome, Side};
 use lunozhar::raw::{self, Number, Pair, Pairs, Station, Tally};
 
 pub struct Proved {
@@ -15,11 +15,14 @@ impl Side for Proved {
         Proved { station: start.station.clone(), tally: start.tally }
     }
 
-    fn run(&mut self, call: &Call, out: &mut [u8], route: &mut [u8]) -> Outcome {
+    fn run(&mut self, call: &Call, lent: Lent<'_>) -> Outcome {
         match call {
-            Call::Fresh { .. } | Call::Open { .. } | Call::Close { .. } | Call::InOrder {} | Call::Count { .. } => self.change(call, route),
-            Call::Message { .. } | Call::Ask { .. } => self.handle(call, out, route),
-            _ => pure(call, out),
+            Call::Fresh { .. } | Call::Open { .. } | Call::Close { .. } | Call::InOrder {} | Call::Count { .. } => {
+                self.change(call, lent.route)
+            }
+            Call::Message { .. } | Call::Ask { .. } => self.handle(call, lent.out, lent.route),
+            Call::Feed { .. } => self.feed(call, lent),
+            _ => pure(call, lent.out),
         }
     }
 
@@ -68,6 +71,35 @@ impl Proved {
                 }
                 _ => return Outcome::Nothing,
             }
+        })
+    }
+}
+
+impl Proved {
+    /// Bytes as they come.
+    fn feed(&mut self, call: &Call, Lent { out, route, held }: Lent<'_>) -> Outcome {
+        let (line, clock, own, bytes) = match call {
+            Call::Feed { line, clock, own, bytes, .. } => (*line, *clock, *own, bytes),
+            _ => return Outcome::Nothing,
+        };
+        let station: *mut Station = &mut *self.station;
+        let (out_at, route_at, held_at) = (out.as_mut_ptr(), route.as_mut_ptr(), held.as_mut_ptr());
+        // SAFETY: each pointer goes with the length of its own slice, and the areas do not overlap.
+        Outcome::Fed(unsafe {
+            raw::lunozhar_feed(
+                station,
+                line,
+                clock,
+                own,
+                bytes.as_ptr(),
+                bytes.len(),
+                held_at,
+                held.len(),
+                out_at,
+                out.len(),
+                route_at,
+                route.len(),
+            )
         })
     }
 }

@@ -4,8 +4,8 @@ use crate::call::Call;
 use crate::case::{Case, Start};
 use crate::compare::{self, Difference};
 use crate::field::Area;
-use crate::side::{Outcome, Side};
-use lunozhar::raw::{Own, Station};
+use crate::side::{Lent, Outcome, Side};
+use lunozhar::raw::{Own, Station, ANSWERS, LINES, WAITING};
 use std::collections::BTreeMap;
 
 const NO_AREA: Area = Area { length: 0, seed: 0, top: 0 };
@@ -14,18 +14,21 @@ const NUMBER: [u8; 16] = [0x5A; 16];
 /// Enough for a RESET, 255 PATCHes and 65,536 bytes of data.
 const WRITER_OUT: Area = Area { length: 29 + 255 * 28 + 65_536, seed: 1, top: 0 };
 
-/// How many calls were made, and how often each number was answered.
+/// How many calls were made, how often each number was answered, and how many calls only waited.
 #[derive(Clone, Debug, Default, PartialEq, Eq)]
 pub struct Count {
     pub calls: u64,
-    pub answers: [u64; 19],
+    pub answers: [u64; ANSWERS],
+    pub waits: u64,
 }
 
 impl Count {
     fn count(&mut self, outcome: &Outcome) {
         self.calls += 1;
-        if let Some(times) = outcome.answer().and_then(|answer| self.answers.get_mut(usize::from(answer))) {
-            *times += 1;
+        match outcome.answer() {
+            Some(WAITING) => self.waits += 1,
+            Some(answer) => self.answers.get_mut(usize::from(answer)).into_iter().for_each(|times| *times += 1),
+            None => {}
         }
     }
 }
@@ -44,32 +47,54 @@ impl Counts {
     }
 }
 
+/// The areas that only one call is lent: for output, and those in place of the case's own.
+#[derive(Default)]
+struct Passing {
+    out: Vec<u8>,
+    route: Vec<u8>,
+    held: Vec<u8>,
+}
+
+impl Passing {
+    fn fill(&mut self, call: &Call) {
+        call.output().unwrap_or(&NO_AREA).fill(&mut self.out);
+        call.other_route().unwrap_or(&NO_AREA).fill(&mut self.route);
+        call.other_held().unwrap_or(&NO_AREA).fill(&mut self.held);
+    }
+
+    fn copy(&mut self, other: &Passing) {
+        self.out.clone_from(&other.out);
+        self.route.clone_from(&other.route);
+        self.held.clone_from(&other.held);
+    }
+}
+
 /// One implementation with the areas that are lent to it.
 struct Half<S> {
     side: S,
     route: Vec<u8>,
-    other: Vec<u8>,
-    out: Vec<u8>,
+    held: [Vec<u8>; LINES],
+    passing: Passing,
     outcome: Outcome,
     station: Box<Station>,
 }
 
 impl<S: Side> Half<S> {
     fn begin(start: &Start) -> Half<S> {
-        let route = start.route.bytes();
-        Half { side: S::begin(start), route, other: Vec::new(), out: Vec::new(), outcome: Outcome::Nothing, station: start.station.clone() }
+        let (route, held) = (start.route.bytes(), std::array::from_fn(|line| start.held[line].bytes()));
+        let (passing, station) = (Passing::default(), start.station.clone());
+        Half { side: S::begin(start), route, held, passing, outcome: Outcome::Nothing, station }
     }
 
-    fn run(&mut self, call: &Call, out: &[u8], other: &[u8]) {
-        self.out.clear();
-        self.out.extend_from_slice(out);
-        self.other.clear();
-        self.other.extend_from_slice(other);
+    fn run(&mut self, call: &Call, passing: &Passing) {
+        self.passing.copy(passing);
         if let Call::Fresh { route } = call {
             route.fill(&mut self.route);
         }
-        let route = if call.other_route().is_some() { &mut self.other } else { &mut self.route };
-        self.outcome = self.side.run(call, &mut self.out, route);
+        let Passing { out, route, held } = &mut self.passing;
+        let route = if call.other_route().is_some() { route } else { &mut self.route };
+        let held = if call.other_held().is_some() { held } else { &mut self.held[call.held_line()] };
+        self.outcome = self.side.run(call, Lent { out, route, held });
         *self.station = self.side.station();
     }
 }
@@ -78,13 +103,12 @@ impl<S: Side> Half<S> {
 pub struct Runner<A, B> {
     first: Half<A>,
     second: Half<B>,
-    out: Vec<u8>,
-    other: Vec<u8>,
+    passing: Passing,
 }
 
 impl<A: Side, B: Side> Runner<A, B> {
     pub fn begin(start: &Start) -> Runner<A, B> {
-        Runner { first: Half::begin(start), second: Half::begin(start), out: Vec::new(), other: Vec::new() }
+        Runner { first: Half::begin(start), second: Half::begin(start), passing: Passing::default() }
     }
 
     pub fn station(&self) -> &Station {
@@ -101,21 +125,23 @@ impl<A: Side, B: Side> Runner<A, B> {
             counts.count(call, &Outcome::Nothing);
             return round_trip::<A, B>(call, counts);
         }
-        call.output().unwrap_or(&NO_AREA).fill(&mut self.out);
-        call.other_route().unwrap_or(&NO_AREA).fill(&mut self.other);
-        self.first.run(call, &self.out, &self.other);
-        self.second.run(call, &self.out, &self.other);
+        self.passing.fill(call);
+        self.first.run(call, &self.passing);
+        self.second.run(call, &self.passing);
         counts.count(call, &self.first.outcome);
-        self.compare().map_or(Ok(()), Err)
+        self.compare(call.held_line()).map_or(Ok(()), Err)
     }
 
-    fn compare(&self) -> Option<Difference> {
+    /// Compares everything but the held areas of other lines, which no call is lent.
+    fn compare(&self, line: usize) -> Option<Difference> {
         let (first, second) = (&self.first, &self.second);
         compare::outcomes(&first.outcome, &second.outcome)
-            .or_else(|| compare::areas("output", &first.out, &second.out))
+            .or_else(|| compare::areas("output", &first.passing.out, &second.passing.out))
+            .or_else(|| compare::areas("held", &first.held[line], &second.held[line]))
+            .or_else(|| compare::areas("other held", &first.passing.held, &second.passing.held))
             .or_else(|| compare::stations(&first.station, &second.station))
             .or_else(|| compare::areas("route", &first.route, &second.route))
-            .or_else(|| compare::areas("other route", &first.other, &second.other))
+            .or_else(|| compare::areas("other route", &first.passing.route, &second.passing.route))
             .or_else(|| compare::tallies(&first.side.tally(), &second.side.tally()))
     }
 
@@ -170,7 +196,7 @@ fn round_trip<A: Side, B: Side>(trip: &Call, counts: &mut Counts) -> Result<(), 
             Outcome::Written(written) if written.answer == 0 => written.written,
             _ => return Ok(()),
         };
-        let bytes = runner.first.out[..written].to_vec();
+        let bytes = runner.first.passing.out[..written].to_vec();
         runner.read(line, &bytes, counts)?;
         if line > 7 || runner.station().room < new.len() {
             return Ok(());

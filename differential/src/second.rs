@@ -3,7 +3,7 @@
 use crate::call::Call;
 use crate::case::Start;
 use crate::convert;
-use crate::side::{Outcome, Side};
+use crate::side::{Lent, Outcome, Side};
 use lunozhar::raw::{Station, Tally};
 use lunozhar_reference::handshake::{self, Pair};
 use lunozhar_reference::station::State;
@@ -22,8 +22,8 @@ impl Side for Reference {
         Reference { state: Box::new(state), tally: tally::Tally { counts: start.tally.counts } }
     }
 
-    fn run(&mut self, call: &Call, out: &mut [u8], route: &mut [u8]) -> Outcome {
-        let done = panic::catch_unwind(AssertUnwindSafe(|| self.done(call, out, route)));
+    fn run(&mut self, call: &Call, lent: Lent<'_>) -> Outcome {
+        let done = panic::catch_unwind(AssertUnwindSafe(|| self.done(call, lent)));
         done.unwrap_or_else(|cause| {
             let text = cause.downcast_ref::<String>().cloned();
             Outcome::Panicked(text.or_else(|| cause.downcast_ref::<&str>().map(|text| text.to_string())).unwrap_or_default())
@@ -40,7 +40,7 @@ impl Side for Reference {
 }
 
 impl Reference {
-    fn done(&mut self, call: &Call, out: &mut [u8], route: &mut [u8]) -> Outcome {
+    fn done(&mut self, call: &Call, Lent { out, route, held }: Lent<'_>) -> Outcome {
         match call {
             Call::Fresh { .. } => {
                 let (answer, state) = State::fresh(route);
@@ -52,6 +52,10 @@ impl Reference {
             Call::Message { line, clock, own, bytes, .. } => {
                 let own = convert::own_from_raw(own);
                 Outcome::Told(convert::told(&self.state.message(*line as usize, *clock, &own, bytes, out, route)))
+            }
+            Call::Feed { line, clock, own, bytes, .. } => {
+                let own = convert::own_from_raw(own);
+                Outcome::Fed(convert::fed(&self.state.feed(*line as usize, *clock, &own, bytes, held, out, route)))
             }
             Call::Ask { number, text, .. } => Outcome::Told(convert::told(&self.state.own_query(number, text, out, route))),
             Call::InOrder {} => Outcome::Flag(self.state.in_order()),

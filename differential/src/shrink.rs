@@ -72,5 +72,9 @@ mod tests {
         found_and_small::<5>();
         found_and_small::<6>();
         found_and_small::<7>();
+        found_and_small::<8>();
+        found_and_small::<9>();
+        found_and_small::<10>();
+        found_and_small::<11>();
     }
 }

@@ -2,13 +2,21 @@
 
 use crate::call::Call;
 use crate::case::Start;
-use lunozhar::raw::{Asked, Group, Hosts, Station, Tally, Told, Written};
+use lunozhar::raw::{Asked, Fed, Group, Hosts, Station, Tally, Told, Written};
+
+/// The areas that are lent to a call: for output, the route area, and of a call that brings bytes the held area of its
+/// line.
+pub struct Lent<'a> {
+    pub out: &'a mut [u8],
+    pub route: &'a mut [u8],
+    pub held: &'a mut [u8],
+}
 
 /// An implementation with a state and a tally of its own.
 pub trait Side {
     fn begin(start: &Start) -> Self;
-    /// Does a call with this output area and this route area.
-    fn run(&mut self, call: &Call, out: &mut [u8], route: &mut [u8]) -> Outcome;
+    /// Does a call with these areas.
+    fn run(&mut self, call: &Call, lent: Lent<'_>) -> Outcome;
     fn station(&self) -> Station;
     fn tally(&self) -> Tally;
 }
@@ -21,6 +29,7 @@ pub enum Outcome {
     Flag(bool),
     Number(u32),
     Told(Told),
+    Fed(Fed),
     Written(Written),
     Group(Group),
     Asked(Asked),
@@ -34,7 +43,7 @@ impl Outcome {
     pub fn answer(&self) -> Option<u8> {
         match self {
             Outcome::Answer(answer) => Some(*answer),
-            Outcome::Told(told) => Some(told.answer),
+            Outcome::Told(told) | Outcome::Fed(Fed { told, .. }) => Some(told.answer),
             Outcome::Written(written) => Some(written.answer),
             Outcome::Group(group) => Some(group.answer),
             Outcome::Asked(asked) => Some(asked.answer),
@@ -50,6 +59,11 @@ impl Outcome {
         }
         match self {
             Outcome::Told(told) => named!(told; answer used written to search delivered textat textlen),
+            Outcome::Fed(fed) => {
+                let mut fields = named!(fed.told; answer used written to search delivered textat textlen);
+                fields.extend(named!(fed; within waits));
+                fields
+            }
             Outcome::Written(written) => named!(written; answer written),
             Outcome::Group(group) => named!(group; answer used kind major minor code),
             Outcome::Asked(asked) => named!(asked; answer used written),

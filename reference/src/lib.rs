@@ -1,9 +1,10 @@
 //! An independent second implementation of the station core.
 //!
-//! It is written from the project's statement of the core (document 01) and its sources: document 002 for messages, 001 for route tables
-//! and their hash, 004 for the stored pongs. It is there to be compared with the proved crates of `crates/`: both print the table of
-//! `docs/VECTORS.md` and the text of a session file, and both are called with the same random lists of calls (`differential/`); all must be
-//! equal. It also is the bar that the proved crates are timed against, so it allocates nothing while a message is handled.
+//! It is written from the project's statement of the core (document 01) and its sources: document 002 for messages,
+//! 001 for route tables and their hash, 004 for the stored pongs. It is there to be compared with the proved crates of
+//! `crates/`: both print the table of `docs/VECTORS.md` and the text of a session file, and both are called with the
+//! same random lists of calls (`differential/`); all must be equal. It also is the bar that the proved crates are
+//! timed against, so it allocates nothing while a whole message is handled.
 //!
 //! It shares neither code nor definitions nor tests with those crates, so that a fault in one of the two shows. Where there is more than one way
 //! it goes another than they do:
@@ -14,6 +15,9 @@
 //! - Askers: those that are known are counted. There each is held against every closed line.
 //! - PATCH: added at once, with a note of the least and the greatest sum, and undone if one is outside. There every number is tried, in blocks at
 //!   4 bits, before any is added.
+//! - Bytes as they come: those that are held and those that are brought now are joined in a vector, the message at its
+//!   front is read, and what is to stay is put back into the held area whole. There nothing is joined: the header is
+//!   read from where its bytes stand, and what is brought is copied behind what is held.
 //! - Hash: four bytes of a keyword at a time. There it goes byte by byte. A handshake field: one pass over the group. There it takes three: for its end, over its lines, and up to the
 //!   last byte of the value.
 //!
@@ -33,7 +37,7 @@
 //! - [`tally`]: counts of the answers given.
 //! - [`session`]: the text of a session file.
 //!
-//! Answers are document 01's numbers, 0 to 18.
+//! Answers are document 01's numbers, 0 to 18, and 19 for a line that is shut (document 02, R-1).
 
 #![forbid(unsafe_code)]
 

@@ -5,7 +5,7 @@
 //! write overlaps nothing else. Slices and references are so, empty ones too, and `&mut` borrows of one call are apart. It keeps no pointer.
 #![allow(unsafe_code)]
 
-use crate::raw::{self, Asked, Group, Hosts, Lines, Number, Own, Pairs, Station, Tally, Told, Written, LINES};
+use crate::raw::{self, Asked, Fed, Group, Hosts, Lines, Number, Own, Pairs, Station, Tally, Told, Written, LINES};
 
 /// Makes a station over a route area of so many bytes.
 ///
@@ -93,6 +93,54 @@ pub unsafe fn lunozhar_message(
     arrival.told
 }
 
+/// Takes bytes as a line brings them, with the held area of that line.
+///
+/// # Safety
+///
+/// The first pointer points to a whole station, each other to as many bytes as the length behind it says; station,
+/// held area, output and route area overlap neither each other nor the bytes.
+#[inline]
+#[allow(clippy::too_many_arguments)]
+pub unsafe fn lunozhar_feed(
+    station: *mut Station,
+    line: u32,
+    clock: u32,
+    own: Own,
+    bytes: *const u8,
+    len: usize,
+    held: *mut u8,
+    held_len: usize,
+    out: *mut u8,
+    out_len: usize,
+    route: *mut u8,
+    route_len: usize,
+) -> Fed {
+    let Station { room, lines, lo, hi, asker, count, next } = &mut *station;
+    let (lo, hi, asker, at) = (lo.as_mut_ptr(), hi.as_mut_ptr(), asker.as_mut_ptr(), *lines);
+    let feeding = raw::lunozhar_feed_lent(
+        lo,
+        hi,
+        asker,
+        count,
+        next,
+        *room,
+        Lines { at },
+        line,
+        clock,
+        own,
+        bytes,
+        len,
+        held,
+        held_len,
+        out,
+        out_len,
+        route,
+        route_len,
+    );
+    lines[line as usize % LINES] = feeding.line;
+    feeding.fed
+}
+
 /// Asks a query of the station's own.
 ///
 /// # Safety
@@ -153,6 +201,36 @@ pub(crate) fn message(station: &mut Station, line: u32, clock: u32, own: Own, me
             own,
             message.as_ptr(),
             message.len(),
+            out.as_mut_ptr(),
+            out_len,
+            route.as_mut_ptr(),
+            route_len,
+        )
+    }
+}
+
+/// The areas that a call which brings bytes is lent to write.
+pub(crate) struct Areas<'a> {
+    pub held: &'a mut [u8],
+    pub out: &'a mut [u8],
+    pub route: &'a mut [u8],
+}
+
+pub(crate) fn feed(station: &mut Station, line: u32, clock: u32, own: Own, bytes: &[u8], areas: Areas<'_>) -> Fed {
+    let Areas { held, out, route } = areas;
+    let (held_len, out_len, route_len) = (held.len(), out.len(), route.len());
+    // SAFETY: each pointer goes with the length of its slice; station and areas are borrowed apart, and apart from the
+    // bytes.
+    unsafe {
+        raw::lunozhar_feed(
+            station,
+            line,
+            clock,
+            own,
+            bytes.as_ptr(),
+            bytes.len(),
+            held.as_mut_ptr(),
+            held_len,
             out.as_mut_ptr(),
             out_len,
             route.as_mut_ptr(),

@@ -29,8 +29,10 @@
 //! # Ok::<(), Box<dyn std::error::Error>>(())
 //! ```
 //!
-//! [`Station`] has the calls. [`handshake`] reads and writes the groups of lines that open a connection; [`table`] writes the updates of a route
-//! table for a neighbour; [`keyword`] has a keyword's hash and place. A refusal is a [`Refusal`], with its number. [`raw`] is what C sees.
+//! [`Station`] has the calls; what a line brings in scraps goes to [`Station::feed`] or [`Station::feed_all`].
+//! [`handshake`] reads and writes the groups of lines that open a connection; [`table`] writes the updates of a route
+//! table for a neighbour; [`keyword`] has a keyword's hash and place. A refusal is a [`Refusal`], with its number.
+//! [`raw`] is what C sees.
 //!
 //! The core is linked from `target/staticlib/liblunozhar.a` of the repository, which `rt staticlib lunozhar` proves and writes for x86-64; the
 //! variable `LUNOZHAR_LIB` names another folder that holds it.
@@ -46,5 +48,5 @@ pub mod table;
 mod tally;
 
 pub use refusal::{Refusal, Refused};
-pub use station::{Local, Outcome, Own, Sent, Station};
+pub use station::{Fed, Local, Outcome, Own, Sent, Station};
 pub use tally::Tally;

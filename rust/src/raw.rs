@@ -14,7 +14,9 @@
 //! assert_eq!(place, 3179);
 //! ```
 
-pub use crate::boundary::{lunozhar_ask, lunozhar_close, lunozhar_fresh, lunozhar_in_order, lunozhar_message, lunozhar_open};
+pub use crate::boundary::{
+    lunozhar_ask, lunozhar_close, lunozhar_feed, lunozhar_fresh, lunozhar_in_order, lunozhar_message, lunozhar_open,
+};
 use core::mem::{offset_of, size_of};
 
 #[cfg(test)]
@@ -28,12 +30,17 @@ pub const MEMORY: usize = 512;
 pub const PONGS: usize = 10;
 /// Hosts of an X-Try field that are read, and that can be written.
 pub const PAIRS: usize = 32;
-/// Answer numbers: 0 for done, and 18 refusals.
-pub const ANSWERS: usize = 19;
+/// Answer numbers: 0 for done, and 19 refusals.
+pub const ANSWERS: usize = 20;
 /// The shortest output area of a message or an own query.
 pub const OUTPUT: usize = 4_119;
+/// The shortest held area of a line.
+pub const HELD: usize = 4_119;
 /// The shortest route area.
 pub const ROUTE: usize = 32;
+
+/// What stands where the answer would be while a message is not whole. It is no answer number.
+pub const WAITING: u8 = 255;
 
 /// The mark of a table: no RESET since the line opened.
 pub const MARK_NONE: u8 = 0;
@@ -90,6 +97,16 @@ pub struct Pong {
     pub clock: u32,
 }
 
+/// What a line has brought of a message that is not whole.
+#[repr(C)]
+#[derive(Clone, Copy, Debug, Default, PartialEq, Eq)]
+pub struct Pending {
+    /// How many bytes: they stand at the front of the line's held area.
+    pub count: u16,
+    /// Whether nothing more is taken of the line until it is closed and opened.
+    pub shut: bool,
+}
+
 /// One line of a station.
 #[repr(C)]
 #[derive(Clone, Copy, Debug, Default, PartialEq, Eq)]
@@ -108,6 +125,8 @@ pub struct Line {
     pub pongs: [Pong; PONGS],
     /// Its neighbour's table.
     pub table: Table,
+    /// The message that it has begun.
+    pub pending: Pending,
 }
 
 /// The eight lines of a station, as they are handed to a call.
@@ -174,9 +193,9 @@ pub struct Number {
 #[repr(C)]
 #[derive(Clone, Copy, Debug, PartialEq, Eq)]
 pub struct Told {
-    /// 0, or the number of a [`crate::Refusal`].
+    /// 0, or the number of a [`crate::Refusal`]; of [`lunozhar_feed`] also [`WAITING`].
     pub answer: u8,
-    /// Bytes used of the message.
+    /// Bytes used of the message; of [`lunozhar_feed`]: of the bytes of that call.
     pub used: usize,
     /// Bytes written to the output area.
     pub written: usize,
@@ -192,6 +211,18 @@ pub struct Told {
     pub textlen: usize,
 }
 
+/// What bytes of a line came to.
+#[repr(C)]
+#[derive(Clone, Copy, Debug, PartialEq, Eq)]
+pub struct Fed {
+    /// What the message came to that was taken.
+    pub told: Told,
+    /// Whether it stands at the front of the held area, else at the front of the bytes.
+    pub within: bool,
+    /// Whether it is not whole yet.
+    pub waits: bool,
+}
+
 /// What [`lunozhar_message_lent`] hands back.
 #[repr(C)]
 #[derive(Clone, Copy, Debug, PartialEq, Eq)]
@@ -200,6 +231,16 @@ pub struct Arrival {
     pub line: Line,
     /// What the message came to.
     pub told: Told,
+}
+
+/// What [`lunozhar_feed_lent`] hands back.
+#[repr(C)]
+#[derive(Clone, Copy, Debug, PartialEq, Eq)]
+pub struct Feeding {
+    /// The record of the line after the call.
+    pub line: Line,
+    /// What the bytes came to.
+    pub fed: Fed,
 }
 
 /// What [`lunozhar_open_lent`] and [`lunozhar_close_lent`] hand back.
@@ -355,6 +396,27 @@ extern "C" {
         route: *mut u8,
         route_len: usize,
     ) -> Arrival;
+    /// [`lunozhar_feed`] on the parts of a station.
+    pub fn lunozhar_feed_lent(
+        lo: *mut u64,
+        hi: *mut u64,
+        asker: *mut u8,
+        count: *mut usize,
+        next: *mut usize,
+        room: usize,
+        lines: Lines,
+        line: u32,
+        clock: u32,
+        own: Own,
+        bytes: *const u8,
+        len: usize,
+        held: *mut u8,
+        held_len: usize,
+        out: *mut u8,
+        out_len: usize,
+        route: *mut u8,
+        route_len: usize,
+    ) -> Feeding;
     /// [`lunozhar_ask`] on the parts of a station.
     pub fn lunozhar_ask_lent(
         lo: *mut u64,
@@ -433,16 +495,19 @@ macro_rules! layout {
 layout! {
     Table 16 { mark 0, length 4, infinity 8, place 9, size 10, bits 11, at 12 }
     Pong 20 { bytes 0, hops 14, clock 16 }
-    Line 240 { live 0, pinged 1, pingtime 4, pongcount 8, pongnext 16, pongs 24, table 224 }
-    Lines 1920 { at 0 }
-    Station 10648 { room 0, lines 8, lo 1928, hi 6024, asker 10120, count 10632, next 10640 }
+    Pending 4 { count 0, shut 2 }
+    Line 248 { live 0, pinged 1, pingtime 4, pongcount 8, pongnext 16, pongs 24, table 224, pending 240 }
+    Lines 1984 { at 0 }
+    Station 10712 { room 0, lines 8, lo 1992, hi 6088, asker 10184, count 10696, next 10704 }
     Own 20 { port 0, address 2, files 8, kilobytes 12, calls 16 }
     Number 16 { bytes 0 }
     Told 56 { answer 0, used 8, written 16, to 24, search 32, delivered 33, textat 40, textlen 48 }
-    Arrival 296 { line 0, told 240 }
-    LineChange 248 { answer 0, line 8 }
-    Beginning 1936 { answer 0, room 8, lines 16 }
-    Tally 76 { counts 0 }
+    Fed 64 { told 0, within 56, waits 57 }
+    Arrival 304 { line 0, told 248 }
+    Feeding 312 { line 0, fed 248 }
+    LineChange 256 { answer 0, line 8 }
+    Beginning 2000 { answer 0, room 8, lines 16 }
+    Tally 80 { counts 0 }
     Written 16 { answer 0, written 8 }
     Group 32 { answer 0, used 8, kind 16, major 20, minor 24, code 28 }
     Asked 24 { answer 0, used 8, written 16 }

@@ -3,16 +3,18 @@
 use std::error::Error;
 use std::fmt;
 
-/// Why a call was refused: one variant for each of the core's answer numbers 1 to 18.
+/// Why a call was refused: one variant for each of the core's answer numbers 1 to 19.
 ///
 /// A refusal sends nothing and changes nothing, but that a route update refused by [`BadUpdate`](Refusal::BadUpdate),
-/// [`OutOfTurn`](Refusal::OutOfTurn) or [`EntryOutOfRange`](Refusal::EntryOutOfRange) marks its line's table as broken until the next RESET.
-/// A broken table withholds no query.
+/// [`OutOfTurn`](Refusal::OutOfTurn) or [`EntryOutOfRange`](Refusal::EntryOutOfRange) marks its line's table as broken
+/// until the next RESET. A broken table withholds no query. Bytes that [`Station::feed`](crate::Station::feed) was
+/// brought of a message that is refused are dropped, and by [`TooLong`](Refusal::TooLong) it shuts the line.
 #[derive(Clone, Copy, Debug, PartialEq, Eq, Hash, PartialOrd, Ord)]
 #[non_exhaustive]
 #[repr(u8)]
 pub enum Refusal {
-    /// 1: the station's state is not in order.
+    /// 1: the station's state is not in order; of bytes that a line brings: what is held of the line starts no
+    /// message.
     NotInOrder = 1,
     /// 2: an area is too short, or the route area gives another room than the state's.
     BadArea = 2,
@@ -48,6 +50,8 @@ pub enum Refusal {
     BadHandshake = 17,
     /// 18: no handshake group ends in the first 4,096 bytes.
     NoGroupEnd = 18,
+    /// 19: the line brought a payload that was too long, and is to be closed.
+    Shut = 19,
 }
 
 impl Refusal {
@@ -55,9 +59,9 @@ impl Refusal {
     ///
     /// ```
     /// use lunozhar::Refusal;
-    /// assert!(Refusal::ALL.iter().map(|refusal| refusal.number()).eq(1..=18));
+    /// assert!(Refusal::ALL.iter().map(|refusal| refusal.number()).eq(1..=19));
     /// ```
-    pub const ALL: [Refusal; 18] = [
+    pub const ALL: [Refusal; 19] = [
         Refusal::NotInOrder,
         Refusal::BadArea,
         Refusal::BadLine,
@@ -76,9 +80,10 @@ impl Refusal {
         Refusal::EntryOutOfRange,
         Refusal::BadHandshake,
         Refusal::NoGroupEnd,
+        Refusal::Shut,
     ];
 
-    /// The answer number, 1 to 18.
+    /// The answer number, 1 to 19.
     ///
     /// ```
     /// assert_eq!(lunozhar::Refusal::AskerClosed.number(), 11);
@@ -105,7 +110,7 @@ impl Refusal {
     /// ```
     pub fn meaning(self) -> &'static str {
         match self {
-            Refusal::NotInOrder => "the station's state is not in order",
+            Refusal::NotInOrder => "the station's state or a line's held area is not in order",
             Refusal::BadArea => "an area is too short, or the route area gives another room",
             Refusal::BadLine => "no such line, or it is not open, or open already",
             Refusal::NotWhole => "the message or handshake group is not whole",
@@ -123,6 +128,7 @@ impl Refusal {
             Refusal::EntryOutOfRange => "a patch leads an entry outside 1 to Infinity",
             Refusal::BadHandshake => "handshake not understood",
             Refusal::NoGroupEnd => "no handshake group ends in 4,096 bytes",
+            Refusal::Shut => "the line is shut until it is closed and opened",
         }
     }
 }
@@ -147,8 +153,9 @@ impl Error for Refusal {}
 pub struct Refused {
     /// Why.
     pub refusal: Refusal,
-    /// How many bytes the message or handshake group took, which is what to skip before the next one. It is 0 where the bytes don't tell that
-    /// (numbers 1 to 5, 17 and 18).
+    /// How many bytes the message or handshake group took, which is what to skip before the next one. It is 0 where
+    /// the bytes don't tell that (numbers 1 to 5, 17 and 18) and for a line that is shut (19). Of
+    /// [`Station::feed`](crate::Station::feed) it counts the bytes of that call, and for 5 has those of the header.
     pub used: usize,
 }
 
@@ -170,7 +177,7 @@ impl From<Refused> for Refusal {
 pub(crate) fn checked(answer: u8) -> Result<(), Refusal> {
     match answer {
         0 => Ok(()),
-        number => Err(Refusal::from_number(number).expect("the core's answers are 0 to 18")),
+        number => Err(Refusal::from_number(number).expect("the core's answers are 0 to 19")),
     }
 }
 

@@ -1,5 +1,9 @@
 //! The station: its lines, the messages that arrive by them, and its own queries.
 
+mod feeding;
+
+pub use feeding::Fed;
+
 use crate::raw::{self, Told};
 use crate::refusal::{checked, checked_using};
 use crate::{boundary, Refusal, Refused, Tally};
@@ -87,24 +91,42 @@ pub enum Local<'m> {
 /// What a message came to.
 #[derive(Clone, Copy, Debug, PartialEq, Eq)]
 pub struct Outcome<'s, 'm> {
-    /// How many bytes the message has: the next one begins behind them.
+    /// How many of the bytes of this call the message has: the next one begins behind them.
     pub used: usize,
     /// What to send, and by which lines. It borrows the station, whose next message writes over it.
     pub sent: Sent<'s>,
-    /// What is for this station itself, as a part of the bytes that came.
+    /// What is for this station itself, as a part of the bytes that came, or, of a message that [`feed`](Station::feed)
+    /// put together, of the station.
     pub local: Local<'m>,
+}
+
+/// What a message has for this station itself: a part of its bytes.
+fn local<'m>(told: &Told, message: &'m [u8]) -> Local<'m> {
+    if told.search {
+        Local::Query(&message[told.textat..][..told.textlen])
+    } else if told.delivered {
+        Local::Hit(&message[HEADER..])
+    } else {
+        Local::Nothing
+    }
 }
 
 /// A station with eight lines, 0 to 7, to its neighbours. It remembers the last 512 queries, and keeps ten pongs and a route table of each line.
 ///
-/// It owns what the core works on: its state of about 11 KB, the route area with the entries of the tables, and an output area of 4 KB.
+/// It owns what the core works on: its state of about 11 KB, the route area with the entries of the tables, an output
+/// area of 4 KB, and for each line a held area of 4 KB, in which the bytes of a message wait for its last.
 #[derive(Clone)]
 pub struct Station {
     state: Box<raw::Station>,
     route: Box<[u8]>,
     output: Box<[u8]>,
+    /// The held areas of the lines, one behind the other.
+    held: Box<[u8]>,
     tally: Tally,
 }
+
+/// The bytes of all held areas.
+const HELD_AREAS: usize = raw::LINES * raw::HELD;
 
 impl Station {
     /// A station with every line closed, and a route area of so many bytes: an eighth of them is the most entries that a neighbour's table may have.
@@ -128,41 +150,51 @@ impl Station {
     pub fn new(route_len: usize) -> Result<Station, Refusal> {
         let mut state = Box::<raw::Station>::default();
         checked(boundary::fresh(&mut state, route_len))?;
-        Ok(Station::over(state, vec![0; route_len]))
+        Ok(Station::over(state, vec![0; route_len], vec![0; HELD_AREAS]))
     }
 
-    fn over(state: Box<raw::Station>, route: Vec<u8>) -> Station {
-        let output = vec![0; raw::OUTPUT].into_boxed_slice();
-        Station { state, route: route.into_boxed_slice(), output, tally: Tally::default() }
+    fn over(state: Box<raw::Station>, route: Vec<u8>, held: Vec<u8>) -> Station {
+        let (route, held) = (route.into_boxed_slice(), held.into_boxed_slice());
+        Station { state, route, output: vec![0; raw::OUTPUT].into_boxed_slice(), held, tally: Tally::default() }
     }
 
-    /// A station from the state and the route area that [`state`](Station::state) and [`route`](Station::route) gave. Its tally is zero.
+    /// A station from what [`state`](Station::state), [`route`](Station::route) and [`held`](Station::held) gave. Its
+    /// tally is zero. The held areas go with the state, which has how many bytes of each are held, so that a line goes
+    /// on in the midst of a message.
     ///
     /// # Errors
     ///
-    /// [`Refusal::NotInOrder`], or [`Refusal::BadArea`] where the area is below 32 bytes or an eighth of it is not the state's room.
+    /// [`Refusal::NotInOrder`], also where what is held of an open line starts no message; or [`Refusal::BadArea`]
+    /// where the route area is below 32 bytes or an eighth of it is not the state's room, or the held areas are not
+    /// eight of 4,119 bytes.
     ///
     /// ```
     /// use lunozhar::{Refusal, Station};
     ///
     /// let mut station = Station::new(1024)?;
     /// station.open(3)?;
-    /// let (state, route) = (station.state().clone(), station.route().to_vec());
-    /// let mut again = Station::from_parts(state, route)?;
+    /// let (state, route, held) = (station.state().clone(), station.route().to_vec(), station.held().to_vec());
+    /// let mut again = Station::from_parts(state, route, held)?;
     /// assert_eq!(again.open(3), Err(Refusal::BadLine));
     ///
     /// let state = lunozhar::raw::Station { next: 512, ..station.state().clone() };
-    /// assert_eq!(Station::from_parts(state, vec![0; 1024]).unwrap_err(), Refusal::NotInOrder);
+    /// let refused = Station::from_parts(state, vec![0; 1024], station.held().to_vec()).unwrap_err();
+    /// assert_eq!(refused, Refusal::NotInOrder);
     /// # Ok::<(), Refusal>(())
     /// ```
-    pub fn from_parts(state: raw::Station, route: Vec<u8>) -> Result<Station, Refusal> {
+    pub fn from_parts(state: raw::Station, route: Vec<u8>, held: Vec<u8>) -> Result<Station, Refusal> {
         if !boundary::in_order(&state) {
             return Err(Refusal::NotInOrder);
         }
-        if route.len() < raw::ROUTE || route.len() / raw::LINES != state.room {
+        if route.len() < raw::ROUTE || route.len() / raw::LINES != state.room || held.len() != HELD_AREAS {
             return Err(Refusal::BadArea);
         }
-        Ok(Station::over(Box::new(state), route))
+        let mut station = Station::over(Box::new(state), route, held);
+        if (0..raw::LINES).all(|line| station.starts(line)) {
+            Ok(station)
+        } else {
+            Err(Refusal::NotInOrder)
+        }
     }
 
     /// Opens a line: a neighbour has come.
@@ -184,8 +216,9 @@ impl Station {
         checked(boundary::open(&mut self.state, line))
     }
 
-    /// Closes a line: its neighbour has gone. Its table and pongs are dropped, and hits for queries that came by it are refused from now on with
-    /// [`Refusal::AskerClosed`], whoever the line is opened for next.
+    /// Closes a line: its neighbour has gone. Its table, its pongs and what it brought of an unfinished message are
+    /// dropped, and hits for queries that came by it are refused from now on with [`Refusal::AskerClosed`], whoever
+    /// the line is opened for next.
     ///
     /// # Errors
     ///
@@ -207,6 +240,10 @@ impl Station {
     /// Takes the message at the front of the bytes, which came by a line; bytes behind the message are not looked at. The clock counts milliseconds
     /// from anywhere, and may go round.
     ///
+    /// This is for a program that has whole messages. For what a line brings in scraps there is
+    /// [`feed`](Station::feed), whose held bytes and shut lines don't count here: they are neither looked at nor
+    /// changed.
+    ///
     /// # Errors
     ///
     /// A [`Refused`] with any of the numbers 3 to 16. [`Refusal::NotWhole`] asks for more bytes; after [`Refusal::TooLong`] the line is of no more
@@ -215,28 +252,6 @@ impl Station {
     /// ```
     /// use lunozhar::{Local, Own, Refusal, Station};
     ///
-    /// /// Takes every whole message of what a line has brought, and leaves the rest for later. False: the line is to be closed.
-    /// fn take(station: &mut Station, line: u32, clock: u32, own: &Own, buffer: &mut Vec<u8>) -> bool {
-    ///     let mut at = 0;
-    ///     let good = loop {
-    ///         match station.message(line, clock, own, &buffer[at..]) {
-    ///             Ok(outcome) => {
-    ///                 for line in outcome.sent.lines() { /* send outcome.sent.bytes by that line */ }
-    ///                 match outcome.local {
-    ///                     Local::Query(text) => { /* search, and send hits by this line */ }
-    ///                     Local::Hit(payload) => { /* show the results */ }
-    ///                     Local::Nothing => {}
-    ///                 }
-    ///                 at += outcome.used;
-    ///             }
-    ///             Err(refused) if refused.used > 0 => at += refused.used,
-    ///             Err(refused) => break refused.refusal == Refusal::NotWhole,
-    ///         }
-    ///     };
-    ///     buffer.drain(..at);
-    ///     good
-    /// }
-    ///
     /// let mut asker = Station::new(1024)?;
     /// asker.open(0)?;
     /// let query = asker.ask([7; 16], b"lake")?.bytes;
@@ -244,24 +259,18 @@ impl Station {
     /// let mut station = Station::new(1024)?;
     /// station.open(0)?;
     /// let own = Own::new("192.0.2.1:6346".parse().unwrap());
-    /// let mut buffer = [query, query, &query[..20]].concat();
-    /// assert!(take(&mut station, 0, 1_000, &own, &mut buffer));
-    /// assert_eq!(buffer, query[..20]);
-    /// assert_eq!(station.tally().refused(Refusal::Repeated), 1);
+    /// let bytes = [query, query].concat();
+    /// let outcome = station.message(0, 1_000, &own, &bytes)?;
+    /// assert_eq!((outcome.used, outcome.local), (query.len(), Local::Query(b"lake")));
+    /// let refused = station.message(0, 1_000, &own, &bytes[query.len()..]).unwrap_err();
+    /// assert_eq!((refused.refusal, refused.used), (Refusal::Repeated, query.len()));
     /// # Ok::<(), Refusal>(())
     /// ```
     pub fn message<'m>(&mut self, line: u32, clock: u32, own: &Own, bytes: &'m [u8]) -> Result<Outcome<'_, 'm>, Refused> {
         let told = boundary::message(&mut self.state, line, clock, own.raw(), bytes, &mut self.output, &mut self.route);
         self.tally.count(told.answer);
         checked_using(told.answer, told.used)?;
-        let local = if told.search {
-            Local::Query(&bytes[told.textat..][..told.textlen])
-        } else if told.delivered {
-            Local::Hit(&bytes[HEADER..told.used])
-        } else {
-            Local::Nothing
-        };
-        Ok(Outcome { used: told.used, sent: Sent::new(&self.output, &told), local })
+        Ok(Outcome { used: told.used, sent: Sent::new(&self.output, &told), local: local(&told, &bytes[..told.used]) })
     }
 
     /// Asks a query of this station's own, under a number that no query had yet, such as 16 random bytes. The message is for each open line whose
@@ -289,8 +298,9 @@ impl Station {
         Ok(Sent::new(&self.output, &told))
     }
 
-    /// How many messages had each answer. Each call of [`message`](Station::message) counts as one, also where it was refused for want of bytes;
-    /// openings, closings and own queries are not counted.
+    /// How many messages had each answer. Each call of [`message`](Station::message) counts as one, also where it was
+    /// refused for want of bytes, and each of [`feed`](Station::feed) but one that only waits; openings, closings and
+    /// own queries are not counted.
     ///
     /// ```
     /// use lunozhar::{Own, Refusal, Station};
@@ -336,6 +346,23 @@ impl Station {
     /// ```
     pub fn route(&self) -> &[u8] {
         &self.route
+    }
+
+    /// The held areas of the eight lines, 4,119 bytes each: what line `l` has brought of a message that is not whole
+    /// begins at byte `l * 4_119`, and `state().lines[l].pending.count` says how many bytes that are.
+    ///
+    /// ```
+    /// use lunozhar::{raw, Own, Station};
+    ///
+    /// let mut station = Station::new(1024)?;
+    /// station.open(1)?;
+    /// station.feed(1, 0, &Own::new("192.0.2.1:6346".parse().unwrap()), b"seven b")?;
+    /// assert_eq!(station.state().lines[1].pending.count, 7);
+    /// assert_eq!(station.held()[raw::HELD..][..7], *b"seven b");
+    /// # Ok::<(), lunozhar::Refusal>(())
+    /// ```
+    pub fn held(&self) -> &[u8] {
+        &self.held
     }
 }
 

@@ -10,6 +10,7 @@ fn main() {
         lunozhar_open as *const (),
         lunozhar_close as *const (),
         lunozhar_message as *const (),
+        lunozhar_feed as *const (),
         lunozhar_ask as *const (),
         lunozhar_in_order as *const (),
         lunozhar_count as *const (),

@@ -14,6 +14,7 @@ fn main() {
         State::open as *const (),
         State::close as *const (),
         State::message as *const (),
+        State::feed as *const (),
         State::own_query as *const (),
         State::in_order as *const (),
         Tally::count as *const (),

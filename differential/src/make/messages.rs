@@ -29,12 +29,30 @@ impl Maker {
     pub(super) fn message(&mut self, station: &Station, route: &[u8]) -> Call {
         let line = self.line(station, true);
         let at = line as usize % 8;
-        let framed = match self.random.below(26) {
+        let bytes = self.message_bytes(station, at, route);
+        let kind = bytes.get(16..19).filter(|_| bytes.len() >= HEADER);
+        let ping = kind.map_or(false, |kind| kind[0] == PING);
+        let clock = if ping && !self.random.one_in(3) { self.ping_clock(station, at) } else { self.tick() };
+        let probe = kind.map_or(false, |kind| kind[0] == PING && kind[1] == 1 && kind[2] <= 1);
+        let (own, out, route) = (self.own(), self.output(), self.lent_route(route));
+        let mut made = Call::Message { line, clock, own, bytes, out, route };
+        if probe && self.random.one_in(2) {
+            self.next = Some(after_probe(&made));
+        }
+        if self.random.one_in(80) {
+            self.refuse_twice(&mut made);
+        }
+        made
+    }
+
+    /// A message of a line, one in eight cut, lengthened or with another length.
+    pub(super) fn message_bytes(&mut self, station: &Station, at: usize, route: &[u8]) -> Vec<u8> {
+        let framed = match self.random.below(29) {
             0..=4 => self.query(station),
-            5..=11 => self.hit(station),
-            12..=16 => self.ping(),
-            17 | 18 => self.pong(),
-            19..=24 => self.update(station, at, route),
+            5..=12 => self.hit(station),
+            13..=19 => self.ping(),
+            20 | 21 => self.pong(),
+            22..=27 => self.update(station, at, route),
             _ => self.other(),
         };
         let mut bytes = framed.number.to_vec();
@@ -44,22 +62,14 @@ impl Maker {
         if self.random.one_in(8) {
             self.spoil(&mut bytes);
         }
-        let clock = if framed.kind == PING && !self.random.one_in(3) { self.ping_clock(station, at) } else { self.tick() };
-        let mut made = Call::Message { line, clock, own: self.own(), bytes, out: self.output(), route: self.lent_route(route) };
-        if framed.kind == PING && framed.ttl == 1 && framed.hops <= 1 && self.random.one_in(2) {
-            self.next = Some(after_probe(&made));
-        }
-        if self.random.one_in(80) {
-            self.refuse_twice(&mut made);
-        }
-        made
+        bytes
     }
 
     /// A clock around the time when the next ping of a line is taken, or when a stored pong gets too old; also half of the round later.
-    fn ping_clock(&mut self, station: &Station, line: usize) -> u32 {
+    pub(super) fn ping_clock(&mut self, station: &Station, line: usize) -> u32 {
         let round = if self.random.one_in(4) { HALF } else { 0 };
         if station.lines[line].pinged && self.random.one_in(2) {
-            let step = self.random.pick(&[0, 1, 998, 999, 1_000, 1_001, u32::MAX]);
+            let step = self.random.pick(&[0, 1, 998, 999, 999, 1_000, 1_001, u32::MAX]);
             return station.lines[line].pingtime.wrapping_add(round).wrapping_add(step);
         }
         let pong = station.lines[self.random.below(8)].pongs[self.random.below(10)];
@@ -167,7 +177,8 @@ impl Maker {
     fn hit(&mut self, station: &Station) -> Framed {
         let number = self.number(station, 12);
         let length = self.random.pick(&[27, 27, 27, 28, 40, 300, 26, 0, PAYLOAD]);
-        let (ttl, hops) = (self.random.pick(&[0, 1, 2, 2, 3, 7, 255]), self.random.pick(&[0, 1, 7, 254, 255, 255]));
+        let ttl = self.random.pick(&[0, 1, 2, 2, 3, 7, 7, 255]);
+        let hops = self.random.pick(&[0, 1, 7, 254, 255, 255, 255]);
         Framed { number, kind: HIT, ttl, hops, payload: self.random.bytes(length) }
     }
 

@@ -1,5 +1,6 @@
 //! Random cases. A call is made for the state it meets, so that it goes far: the next PATCH of a run, a hit for a query that is remembered.
 
+mod feeds;
 mod groups;
 mod messages;
 mod start;
@@ -24,6 +25,8 @@ pub struct Maker {
     damaged: bool,
     /// A call that is to follow at once.
     next: Option<Call>,
+    /// For each line the message that it is in the midst of, with what it brings behind it.
+    streams: [Vec<u8>; 8],
 }
 
 impl Maker {
@@ -33,7 +36,7 @@ impl Maker {
         let before = 1 + random.below(20_000) as u32;
         let clock = random.number() as u32;
         let clock = random.pick(&[0, 1_000_000, 0u32.wrapping_sub(before), HALF - before, clock]);
-        Maker { clock, damaged: random.one_in(2), next: None, random }
+        Maker { clock, damaged: random.one_in(2), next: None, streams: Default::default(), random }
     }
 
     /// How many calls the case has.
@@ -44,7 +47,8 @@ impl Maker {
 
     /// A state; one in two is put out of order, or nearly so.
     pub fn start(&mut self) -> Start {
-        let mut start = start::start(&mut self.random, self.clock);
+        let (mut start, begun) = start::start(&mut self.random, self.clock);
+        self.streams = begun;
         if self.damaged {
             start::damage(&mut self.random, &mut start.station);
             if self.random.one_in(4) {
@@ -68,7 +72,10 @@ impl Maker {
         if station.lines.iter().all(|line| !line.live) && self.random.one_in(3) {
             return Call::Open { line: self.line(station, false) };
         }
-        match self.random.below(200) {
+        if let Some(call) = self.reopening(station) {
+            return call;
+        }
+        match self.random.below(240) {
             0 | 1 => Call::Fresh { route: start::fresh_route(&mut self.random) },
             2..=12 => Call::Open { line: self.line(station, false) },
             13..=17 => Call::Close { line: self.line(station, true) },
@@ -80,6 +87,7 @@ impl Maker {
             45..=67 => groups::call(&mut self.random),
             68..=71 => Call::Hash { keyword: self.keyword() },
             72..=75 => Call::Place { keyword: self.keyword(), bits: self.bits() },
+            76..=130 => self.feed(station, route),
             _ => self.message(station, route),
         }
     }
@@ -94,7 +102,7 @@ impl Maker {
 
     fn some_answer(&mut self) -> u8 {
         let any = self.random.byte();
-        self.random.pick(&[0, 1, 9, 17, 18, 19, any])
+        self.random.pick(&[0, 1, 9, 17, 18, 19, 20, 255, any])
     }
 
     /// A line, mostly one that is open or not as asked for.
@@ -162,6 +170,7 @@ mod tests {
     use crate::case::Case;
     use crate::run::{Counts, Runner};
     use crate::second::Reference;
+    use lunozhar::raw::HELD;
 
     /// Runs cases and hands each call to `each`, with the state it meets and the call before it.
     fn counted(cases: u64, mut each: impl FnMut(&Station, Option<&Call>, &Call)) -> Counts {
@@ -220,6 +229,53 @@ mod tests {
             _ => {}
         }
         met
+    }
+
+    /// The same of bytes as they come.
+    fn rare_scraps(station: &Station, call: &Call) -> Vec<&'static str> {
+        let (line, bytes, held) = match call {
+            Call::Feed { line, bytes, held, .. } => (*line, bytes, held),
+            _ => return Vec::new(),
+        };
+        let record = station.lines[line as usize % 8];
+        let (count, shut) = (record.pending.count, record.pending.shut);
+        let short = held.map_or(false, |area| area.length < HELD);
+        let begun = station.lines.iter().filter(|line| line.pending.count > 0).count();
+        let things = [
+            (line > 7 && shut, "line over 7, whose number modulo 8 is shut"),
+            (shut && short, "a shut line with a short held area"),
+            (shut && !record.live, "a closed line that is shut"),
+            (shut && count > 4_118, "a shut line with too large a count"),
+            (record.live && !shut && count > 4_118, "too large a count"),
+            (count == 0 && short && bytes.len() >= 23, "a short held area that nothing is held in"),
+            (count > 0 && bytes.is_empty(), "no bytes in the midst of a message"),
+            (bytes.len() == 1, "one byte"),
+            ((20..23).contains(&count), "a cut in the length of the payload"),
+            ((1..16).contains(&count), "a cut in the number"),
+            (count == 23, "a cut behind the header"),
+            (count > 4_000 && count < 4_119 && record.live, "nearly a longest message"),
+            (begun > 3, "four lines in the midst of messages"),
+        ];
+        things.into_iter().filter_map(|(is, what)| is.then_some(what)).collect()
+    }
+
+    /// Scraps meet every answer of a message but 4, and what is odd about them is met as well.
+    #[test]
+    fn scraps_meet_everything() {
+        let mut times = std::collections::BTreeMap::new();
+        let counts = counted(2_000, |station, _, call| {
+            rare_scraps(station, call).into_iter().for_each(|what| *times.entry(what).or_insert(0) += 1);
+        });
+        assert_eq!(times.len(), 13, "{times:?}");
+        assert!(times.values().all(|&times| times >= 3), "{times:?}");
+        let kinds = counts.kinds.iter().filter(|(kind, _)| kind.starts_with("feed"));
+        let scraps: Vec<_> = kinds.map(|(_, count)| count).collect();
+        let met = |answer: usize| scraps.iter().map(|count| count.answers[answer]).sum::<u64>();
+        for answer in (0..17).filter(|&answer| answer != 4).chain([19]) {
+            assert!(met(answer) > 20, "answer {answer}: {}", met(answer));
+        }
+        assert_eq!((met(4), met(17), met(18)), (0, 0, 0));
+        assert!(scraps.iter().map(|count| count.waits).sum::<u64>() > 500);
     }
 
     /// A generator that never meets what faults would be seen by is a poor one too.

@@ -1,11 +1,13 @@
 //! Random states, in order and not, and their route areas.
 
 use super::HALF;
-use crate::case::{Start, ZERO};
+use crate::call::HEADER;
+use crate::case::{Held, Start, ZERO};
 use crate::convert::number_of;
 use crate::field::Area;
 use crate::random::Random;
-use lunozhar::raw::{Line, Pong, Station, Table, Tally};
+use lunozhar::raw::{Line, Pending, Pong, Station, Table, Tally, ANSWERS, HELD};
+use std::array;
 
 /// The lengths that a table may have.
 const LENGTHS: [u32; 15] = [4, 8, 16, 32, 64, 128, 256, 512, 1024, 2048, 4096, 8192, 16384, 32768, 65536];
@@ -35,17 +37,56 @@ pub fn lengths(room: usize) -> &'static [u32] {
     &LENGTHS[..fit]
 }
 
-/// A start, in order.
-pub fn start(random: &mut Random, clock: u32) -> Start {
+/// A start, in order, and for each line the message of which its held area has the beginning, if it has one.
+pub fn start(random: &mut Random, clock: u32) -> (Start, [Vec<u8>; 8]) {
     let route = route(random);
-    let mut start = Start { station: Box::new(ZERO), tally: tally(random), route };
+    let held = array::from_fn(|_| Held { area: held_area(random), front: Vec::new() });
+    let mut start = Start { station: Box::new(ZERO), tally: tally(random), route, held };
     let station = &mut *start.station;
     station.room = room(random, route.length);
     for line in &mut station.lines {
         *line = some_line(random, station.room, clock);
     }
     memory(random, station);
-    start
+    let begun = array::from_fn(|line| {
+        let message = begun_message(random);
+        let pending = &mut start.station.lines[line].pending;
+        *pending = some_pending(random, message.len());
+        start.held[line].front = message[..message.len().min(pending.count.into())].to_vec();
+        message
+    });
+    (start, begun)
+}
+
+/// A held area that is long enough.
+fn held_area(random: &mut Random) -> Area {
+    Area { length: random.pick(&[HELD, HELD, HELD, HELD + 1, 5_000]), seed: random.number(), top: 0 }
+}
+
+/// A message that a line may have begun, seldom one with too long a payload.
+fn begun_message(random: &mut Random) -> Vec<u8> {
+    let payload = random.pick(&[0, 3, 14, 27, 27, 40, 300, 4_096]);
+    let mut bytes = random.bytes(HEADER + payload);
+    let kind = random.pick(&[0x00, 0x01, 0x30, 0x80, 0x81, 0x02]);
+    bytes[16..19].copy_from_slice(&[kind, 1 + random.below(7) as u8, random.below(3) as u8]);
+    let length = if random.one_in(12) { random.pick(&[4_097, u32::MAX]) } else { payload as u32 };
+    bytes[19..HEADER].copy_from_slice(&length.to_le_bytes());
+    bytes
+}
+
+/// What is held of a message of so many bytes: mostly nothing or a beginning of it, also any count.
+fn some_pending(random: &mut Random, message: usize) -> Pending {
+    let beginning = 1 + random.below(message - 1);
+    let any = random.number() as u16;
+    let count = match random.below(16) {
+        0..=7 => 0,
+        8..=11 => beginning as u16,
+        12 => message as u16 - 1,
+        13 => message as u16,
+        14 => random.pick(&[22, 23, 4_118, 4_119, 4_120, 65_535]),
+        _ => any,
+    };
+    Pending { count, shut: random.one_in(10) }
 }
 
 fn room(random: &mut Random, length: usize) -> usize {
@@ -58,7 +99,7 @@ fn room(random: &mut Random, length: usize) -> usize {
 }
 
 fn tally(random: &mut Random) -> Tally {
-    let mut counts = [0; 19];
+    let mut counts = [0; ANSWERS];
     if random.one_in(2) {
         counts.iter_mut().for_each(|count| *count = random.pick(&[0, 1, 77, u32::MAX - 1, u32::MAX]));
     }
@@ -80,7 +121,9 @@ fn some_line(random: &mut Random, room: usize, clock: u32) -> Line {
         pong.clock = clock.wrapping_sub(random.pick(&[0, 1, 1_000, 13_000, 14_999, 15_000, 15_001, HALF + 14_999, u32::MAX]));
     }
     let pingtime = clock.wrapping_sub(random.pick(&[0, 1, 500, 999, 1_000, 1_001, 20_000, HALF, HALF + 999, u32::MAX]));
-    Line { live, pinged: live && random.one_in(2), pingtime, pongcount, pongnext, pongs, table: some_table(random, room, live) }
+    let pinged = live && random.one_in(2);
+    let (table, pending) = (some_table(random, room, live), ZERO.lines[0].pending);
+    Line { live, pinged, pingtime, pongcount, pongnext, pongs, table, pending }
 }
 
 fn some_table(random: &mut Random, room: usize, live: bool) -> Table {

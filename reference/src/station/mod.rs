@@ -1,7 +1,8 @@
-//! The station: its state, opening and closing a line, an arriving message, an own query.
+//! The station: its state, opening and closing a line, an arriving message, bytes as they arrive, an own query.
 //!
 //! A line is the connection to one neighbour. Every call tests first that the state is in order, in one pass over what the state keeps.
 
+mod feeding;
 mod memory;
 #[cfg(test)]
 mod tests;
@@ -10,6 +11,7 @@ use crate::hash;
 use crate::header::{self, Header, HIT, PING, PONG, QUERY, UPDATE};
 use crate::keywords::keywords;
 use crate::table::{self, Table};
+pub use feeding::{Fed, HELD, SHUT, WAITING};
 use memory::Index;
 use std::ops::Range;
 
@@ -63,6 +65,10 @@ pub struct Line {
     pub pong_next: u8,
     pub pongs: [Pong; PONGS],
     pub table: Table,
+    /// How many bytes of a message that is not whole stand in the line's held area.
+    pub held: u16,
+    /// Whether the line brings nothing more until it is closed and opened.
+    pub shut: bool,
 }
 
 /// The whole state. The remembered queries are a ring as well: the `count` places just before `next`, going round.
@@ -109,6 +115,11 @@ pub struct Handled {
 /// Nothing sent, nothing handed up.
 const QUIET: Handled = Handled { answer: 0, used: 0, written: 0, to: 0, search: false, text_start: 0, text_length: 0, delivered: false };
 
+/// The same, refused.
+fn refused(answer: u8) -> Handled {
+    Handled { answer, ..QUIET }
+}
+
 impl Line {
     /// A closed line.
     pub const CLOSED: Line = Line {
@@ -119,6 +130,8 @@ impl Line {
         pong_next: 0,
         pongs: [Pong { data: [0; PONG_BYTES], hops: 0, clock: 0 }; PONGS],
         table: Table::EMPTY,
+        held: 0,
+        shut: false,
     };
     /// A line just opened.
     pub const OPENED: Line = Line { open: true, ..Line::CLOSED };
@@ -163,6 +176,18 @@ fn table_in_order(table: &Table, room: usize) -> bool {
         }
         _ => false,
     }
+}
+
+/// The header and the payload of the message at the front of some bytes: 4 where they end before it does, 5 where its
+/// payload is too long.
+#[inline]
+fn framed(bytes: &[u8]) -> Result<(Header, &[u8]), u8> {
+    let header = header::read(bytes).ok_or(4)?;
+    if header.payload > header::PAYLOAD as u32 {
+        return Err(5);
+    }
+    let payload = bytes[header::BYTES..].get(..header.payload as usize).ok_or(4)?;
+    Ok((header, payload))
 }
 
 /// Where a query's text ends: at the first zero byte after the two of the speed.
@@ -245,7 +270,6 @@ impl State {
 
     /// Handles a message that arrived on a line.
     pub fn message(&mut self, line: usize, clock: u32, own: &OwnPong, bytes: &[u8], out: &mut [u8], route: &mut [u8]) -> Handled {
-        let refused = |answer| Handled { answer, ..QUIET };
         let mut index = Index::new();
         if !self.in_order_filed(&mut index) {
             return refused(1);
@@ -256,24 +280,33 @@ impl State {
         if line >= LINES || !self.lines[line].open {
             return refused(3);
         }
-        let header = match header::read(bytes) {
-            Some(header) => header,
-            None => return refused(4),
-        };
-        if header.payload > header::PAYLOAD as u32 {
-            return refused(5);
+        match framed(bytes) {
+            Ok((header, payload)) => self.handled(&index, line, clock, own, &header, payload, out, route),
+            Err(answer) => refused(answer),
         }
-        let used = header::BYTES + header.payload as usize;
-        let payload = match bytes.get(header::BYTES..used) {
-            Some(payload) => payload,
-            None => return refused(4),
-        };
+    }
+
+    /// What a whole message on an open line does, by its type. The kept places are filed.
+    #[inline]
+    #[allow(clippy::too_many_arguments)]
+    fn handled(
+        &mut self,
+        index: &Index,
+        line: usize,
+        clock: u32,
+        own: &OwnPong,
+        header: &Header,
+        payload: &[u8],
+        out: &mut [u8],
+        route: &mut [u8],
+    ) -> Handled {
+        let used = header::BYTES + payload.len();
         let done = match header.kind {
-            PING => self.ping(line, clock, own, &header, out),
-            PONG => self.pong(line, clock, &header, payload),
-            QUERY => self.query(&index, line, &header, payload, out, route),
-            HIT => self.hit(&index, &header, payload, out),
-            UPDATE => self.update(line, &header, payload, route),
+            PING => self.ping(line, clock, own, header, out),
+            PONG => self.pong(line, clock, header, payload),
+            QUERY => self.query(index, line, header, payload, out, route),
+            HIT => self.hit(index, header, payload, out),
+            UPDATE => self.update(line, header, payload, route),
             _ => Err(7),
         };
         match done {
@@ -284,7 +317,6 @@ impl State {
 
     /// Sends a query of the station's own.
     pub fn own_query(&mut self, number: &[u8; 16], text: &[u8], out: &mut [u8], route: &[u8]) -> Handled {
-        let refused = |answer| Handled { answer, ..QUIET };
         let mut index = Index::new();
         if !self.in_order_filed(&mut index) {
             return refused(1);

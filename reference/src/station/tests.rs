@@ -1,3 +1,5 @@
+mod feeding;
+
 use super::*;
 use crate::table::{BROKEN, NONE, RUNNING, SETTLED, WAITING};
 

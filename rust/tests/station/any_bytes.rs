@@ -1,7 +1,7 @@
 //! Any bytes, any clock and any line get an answer, and leave the station in order.
 
 use crate::{own, station, HIT, PING, PONG, QUERY, UPDATE};
-use lunozhar::{handshake, Station};
+use lunozhar::{handshake, Fed, Station};
 
 /// Seeded random numbers, by xorshift.
 struct Random(u64);
@@ -33,13 +33,29 @@ impl Random {
     }
 }
 
-/// One call: mostly a message, sometimes an opening, a closing or an own query.
+/// Bytes of a line: a message and a part of the next, or the rest of one, or anything.
+fn scrap(random: &mut Random) -> Vec<u8> {
+    let mut bytes = [random.message(), random.message()].concat();
+    bytes.drain(..random.below(bytes.len() as u64 / 2 + 1) as usize);
+    bytes.truncate(random.below(60) as usize);
+    bytes
+}
+
+/// One call: mostly a message or bytes, sometimes an opening, a closing or an own query.
 fn call(station: &mut Station, random: &mut Random, clock: u32) {
     let line = random.below(9) as u32;
     match random.below(30) {
         0 => drop(station.open(line)),
         1 => drop(station.close(line)),
         2 => drop(station.ask([random.below(40) as u8; 16], &random.bytes(9)).is_ok()),
+        3..=12 => {
+            let bytes = scrap(random);
+            match station.feed(line, clock, &own(), &bytes) {
+                Ok(Fed::Message(outcome)) => assert!((1..=bytes.len()).contains(&outcome.used)),
+                Ok(Fed::Waiting) => assert!(station.state().lines[line as usize].pending.count < 4_119),
+                Err(refused) => assert!(refused.used <= bytes.len()),
+            }
+        }
         _ => {
             let bytes = random.message();
             match station.message(line, clock, &own(), &bytes) {

@@ -1,7 +1,9 @@
 //! The crate as a program uses it.
 
 mod any_bytes;
+mod feeding;
 mod handshakes;
+mod held_areas;
 mod late_hit;
 mod messages;
 mod readme;

@@ -49,11 +49,21 @@ fn refused_otherwise() -> Vec<Refused> {
     let state = raw::Station { count: 513, ..raw::Station::default() };
     let unused = |refusal| Refused { refusal, used: 0 };
     vec![
-        unused(Station::from_parts(state, vec![0; 32]).unwrap_err()),
+        unused(Station::from_parts(state, vec![0; 32], vec![0; raw::LINES * raw::HELD]).unwrap_err()),
         unused(Station::new(31).unwrap_err()),
         handshake::read_group(b"GNUTELLA CONNECT/0.5\r\n\r\n").unwrap_err(),
         handshake::read_group(&[b'x'; 4_096]).unwrap_err(),
+        shut_station().feed(1, 0, &own(), &query(1, "eb")).unwrap_err(),
     ]
+}
+
+/// A station whose line 1 brought a header with too long a payload.
+fn shut_station() -> Station {
+    let mut station = station(&[0, 1]);
+    let header = [&message(1, QUERY, 3, 1, b"")[..19], &4_097u32.to_le_bytes()].concat();
+    let too_long = Refused { refusal: Refusal::TooLong, used: 23 };
+    assert_eq!(station.feed(1, 0, &own(), &header), Err(too_long));
+    station
 }
 
 /// How many bytes a refusal uses: all of the message or group, or none.
@@ -109,7 +119,11 @@ fn own_queries_are_refused() {
 fn parts_of_another_room_are_refused() {
     let state = station(&[0]).state().clone();
     for (length, refusal) in [(8 * 1024 - 1, Some(Refusal::BadArea)), (8 * 1024 + 7, None), (8 * 1024 + 8, Some(Refusal::BadArea))] {
-        assert_eq!(Station::from_parts(state.clone(), vec![0; length]).err(), refusal);
+        assert_eq!(Station::from_parts(state.clone(), vec![0; length], vec![0; 8 * raw::HELD]).err(), refusal);
+    }
+    for length in [0, 8 * raw::HELD - 1, 8 * raw::HELD + 1] {
+        let made = Station::from_parts(state.clone(), vec![0; 8 * 1024], vec![0; length]);
+        assert_eq!(made.err(), Some(Refusal::BadArea));
     }
 }
 

@@ -3,7 +3,7 @@
 use crate::words::Line;
 use crate::{hex, joined};
 use lunozhar_reference::session::{self, file};
-use lunozhar_reference::station::{Handled, Line as Record, OwnPong, State, LINES, OUTPUT};
+use lunozhar_reference::station::{Handled, Line as Record, OwnPong, State, HELD, LINES, OUTPUT, WAITING};
 use lunozhar_reference::table::Table;
 
 /// An event of a line.
@@ -11,6 +11,12 @@ enum Event {
     Open(u32),
     Close(u32),
     Message {
+        line: u32,
+        clock: u32,
+        bytes: Vec<u8>,
+    },
+    /// Bytes as they come.
+    Feed {
         line: u32,
         clock: u32,
         bytes: Vec<u8>,
@@ -24,6 +30,8 @@ enum Event {
         route: usize,
         calls: bool,
     },
+    /// How many bytes of each held area are lent from now on.
+    Held(usize),
     /// Something of the state set by hand.
     Set(Set),
 }
@@ -37,6 +45,12 @@ enum Set {
         next: u16,
     },
     Line(Box<Record>),
+    /// How many bytes a line holds, and whether it is shut.
+    Pending {
+        line: u32,
+        count: u16,
+        shut: bool,
+    },
     /// A full memory, whose oldest number is 0 and whose newest is 511.
     Fill {
         asker: u8,
@@ -55,11 +69,14 @@ fn event_at(line: &Line, n: usize) -> (Event, usize) {
         "open" => (Event::Open(number(1)), 2),
         "close" => (Event::Close(number(1)), 2),
         "message" => (Event::Message { line: number(1), clock: number(2), bytes: line.bytes(n + 3) }, 4),
+        "feed" => (Event::Feed { line: number(1), clock: number(2), bytes: line.bytes(n + 3) }, 4),
         "ask" => {
             let number = line.bytes(n + 1).try_into().expect("a message's number");
             (Event::Ask { number, text: line.bytes(n + 2) }, 3)
         }
         "terms" => (Event::Terms { output: size(1), route: size(2), calls: flag(3) }, 4),
+        "held" => (Event::Held(size(1).min(HELD)), 2),
+        "pending" => (Event::Set(Set::Pending { line: number(1), count: number(2) as u16, shut: flag(3) }), 4),
         "kept" => {
             let (count, next) = (small(number(4)), small(number(5)));
             (Event::Set(Set::Kept { place: size(1), number: number(2), asker: byte(3), count, next }), 6)
@@ -94,15 +111,31 @@ struct World {
     /// Route area of 64 bytes, of which so many are lent.
     route: [u8; 64],
     lent: usize,
+    /// The held areas of the lines, of each of which so many bytes are lent.
+    held: Vec<Vec<u8>>,
+    held_lent: usize,
     answers: Vec<u8>,
     last: Handled,
+    /// If the last event brought bytes: the line, and whether the message stands in its held area.
+    fed: Option<(usize, bool)>,
 }
 
 impl World {
     fn new() -> World {
         let own = OwnPong { port: 6346, address: [127, 0, 0, 1], files: 0, kilobytes: 0, takes_calls: true };
         let (_, state) = State::fresh(&[0; 32]);
-        World { state, own, output: vec![0; OUTPUT], route: [0; 64], lent: 32, answers: Vec::new(), last: Handled::default() }
+        World {
+            state,
+            own,
+            output: vec![0; OUTPUT],
+            route: [0; 64],
+            lent: 32,
+            held: vec![vec![0; HELD]; LINES],
+            held_lent: HELD,
+            answers: Vec::new(),
+            last: Handled::default(),
+            fed: None,
+        }
     }
 
     fn after(line: &Line) -> World {
@@ -115,6 +148,9 @@ impl World {
 
     fn bring(&mut self, event: Event) {
         let answered = |answer| Handled { answer, ..Handled::default() };
+        if !matches!(event, Event::Terms { .. } | Event::Held(_) | Event::Set(_)) {
+            self.fed = None;
+        }
         self.last = match event {
             Event::Open(line) => answered(self.state.open(line as usize)),
             Event::Close(line) => answered(self.state.close(line as usize)),
@@ -122,6 +158,7 @@ impl World {
                 let route = &mut self.route[..self.lent];
                 self.state.message(line as usize, clock, &self.own, &bytes, &mut self.output, route)
             }
+            Event::Feed { line, clock, bytes } => self.feed(line as usize, clock, &bytes),
             Event::Ask { number, text } => self.state.own_query(&number, &text, &mut self.output, &self.route[..self.lent]),
             Event::Terms { output, route, calls } => {
                 self.output.resize(output, 0);
@@ -129,9 +166,21 @@ impl World {
                 self.own.takes_calls = calls;
                 return;
             }
+            Event::Held(length) => {
+                self.held_lent = length;
+                return;
+            }
             Event::Set(set) => return self.set(set),
         };
         self.answers.push(self.last.answer);
+    }
+
+    fn feed(&mut self, line: usize, clock: u32, bytes: &[u8]) -> Handled {
+        let held = &mut self.held[line % LINES][..self.held_lent];
+        let route = &mut self.route[..self.lent];
+        let fed = self.state.feed(line, clock, &self.own, bytes, held, &mut self.output, route);
+        self.fed = Some((line % LINES, fed.within));
+        fed.handled
     }
 
     fn set(&mut self, set: Set) {
@@ -143,6 +192,10 @@ impl World {
                 (state.count, state.next) = (count, next);
             }
             Set::Line(record) => state.lines[2] = *record,
+            Set::Pending { line, count, shut } => {
+                let line = &mut state.lines[line as usize % LINES];
+                (line.held, line.shut) = (count, shut);
+            }
             Set::Fill { asker } => {
                 for (number, kept) in state.numbers.iter_mut().enumerate() {
                     *kept = (number as u128).to_le_bytes();
@@ -160,11 +213,32 @@ impl World {
     fn written(&self) -> String {
         hex(&self.output[..self.last.written])
     }
+
+    /// What more is printed if the last event brought bytes.
+    fn pending(&self) -> String {
+        match self.fed {
+            Some((line, within)) => {
+                let Record { held, shut, .. } = self.state.lines[line];
+                format!(" {held} {} {}", u8::from(shut), u8::from(within))
+            }
+            None => String::new(),
+        }
+    }
+}
+
+/// An answer as it is printed.
+fn answer(number: u8) -> String {
+    if number == WAITING {
+        "waits".to_string()
+    } else {
+        number.to_string()
+    }
 }
 
 pub fn case(line: &Line) -> String {
     let world = World::after(line);
-    let Handled { answer, used, search, .. } = world.last;
+    let Handled { used, search, .. } = world.last;
+    let answer = answer(world.last.answer);
     let (mark, entries) = (world.state.lines[1].table.mark, joined(&world.route[4..8]));
     let search = u8::from(search);
     format!("case {} {answer} {used} {} {search} {mark} {entries} {}\n", line.shown(1), world.to(), world.written())
@@ -173,12 +247,14 @@ pub fn case(line: &Line) -> String {
 pub fn calls(line: &Line) -> String {
     let world = World::after(line);
     let Handled { used, search, delivered, .. } = world.last;
-    let (answers, search, delivered) = (joined(&world.answers), u8::from(search), u8::from(delivered));
-    format!("calls {} {answers} {used} {} {search} {delivered} {}\n", line.shown(1), world.to(), world.written())
+    let answers = joined(world.answers.iter().map(|&number| answer(number)));
+    let (search, delivered) = (u8::from(search), u8::from(delivered));
+    let (label, to, written, pending) = (line.shown(1), world.to(), world.written(), world.pending());
+    format!("calls {label} {answers} {used} {to} {search} {delivered} {written}{pending}\n")
 }
 
 pub fn order(line: &Line) -> String {
-    format!("order {} {}\n", line.shown(1), World::after(line).last.answer)
+    format!("order {} {}\n", line.shown(1), answer(World::after(line).last.answer))
 }
 
 /// The text of a session file, a row for each of its lines.
