@@ -20,7 +20,7 @@ use wire::LARGEST_MESSAGE;
 use wire::LARGEST_PAYLOAD;
 
 // Do the areas that a message or an own query is lent not fit: one is too short, or the route area has another room?
-fn unfit_areas(room: usize, out: usize, route: usize) -> bool
+pub fn unfit_areas(room: usize, out: usize, route: usize) -> bool
     ensures { λ r. ⌜ r ≡ unfitAreas room out route ⌝ }
 {
     (out < LARGEST_MESSAGE) | ((route < 32) | (route / 8 != room))

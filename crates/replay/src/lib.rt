@@ -4,6 +4,8 @@ mod calls;
 mod set;
 
 ghost use Prim.Native.Nat.{_≤_};
+ghost use mathlib.Core.Path.{_≡_};
+ghost use lib.Dec.{eqb};
 use crate::calls::Held;
 use protocol::Report;
 use rows::words;
@@ -28,7 +30,9 @@ pub struct Told {
 }
 
 // Whether this is what stands where the answer would be of a call that waits: the number itself, as a caller knows it.
-pub fn waits(answer: u8) -> bool {
+pub fn waits(answer: u8) -> bool
+    ensures { λ r. ⌜ r ≡ eqb answer 255 ⌝ }
+{
     answer == 255
 }
 

@@ -8,6 +8,7 @@ ghost use Rattle.protocol.specs.Calls.{extentRules};
 ghost use Rattle.receiving.specs.Feeding.{feedRules};
 use protocol::LINES;
 use protocol::Line;
+use refusals::unfit_areas;
 use wire::HEADER_SIZE;
 use wire::LARGEST_MESSAGE;
 use wire::LARGEST_PAYLOAD;
@@ -64,8 +65,7 @@ pub fn before_bytes(
 ) -> u8
     ensures { λ r. ⌜ r ≡ firstOf (feedRules order room out route held line x start) ⌝ }
 {
-    let areas = (out < LARGEST_MESSAGE) | ((route < 32) | (route / 8 != room));
-    let unfit = areas | (held < LARGEST_MESSAGE);
+    let unfit = unfit_areas(room, out, route) | (held < LARGEST_MESSAGE);
     let closed = !(line < LINES) | !x.live;
     let pending = x.pending;
     feed_number(order, unfit, closed, pending.shut, start)

@@ -2,8 +2,8 @@
 -- Assumes nothing.
 use borrow.Author.Tests.{lt-ltb, le-ltb}
 use borrow.Author.Needs.{needs}
-use Rattle.intake.proofs.refusals.extent.Statement.{statement}
-use Rattle.intake.proofs.refusals.extent.Tie as tie
+use Rattle.intake.proofs.early.extent.Statement.{statement}
+use Rattle.intake.proofs.early.extent.Tie as tie
 
 returns : tie.Need-returns
 returns c = rw (lt-ltb _ _ (c .if1 .taken))
