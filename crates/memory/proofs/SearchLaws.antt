@@ -1,20 +1,16 @@
 -- A look-up, turn by turn, and in the two parts of a ring: the places below `next`, and the rest at the end of the
 -- slices.
-use mathlib.Core.Path.{_≡_, refl, sym, ap, _∙_}
+use mathlib.Core.Path.{_≡_, refl, sym, _∙_}
 use mathlib.Core.Bool.{Bool, true, false}
 use mathlib.Core.List.{List, [], _∷_, _++_, map, map-append}
 use Prim.Native.Nat.{ℕ, suc, _+_, _-_, _≤_, _<_, min}
 use native.Mathlib.Omega.{arith}
-use lib.Dec.{eqb}
-use lib.ListN.{length, getD, length-map}
-use borrow.Author.Tests.{eqb-true}
-use Rattle.laws.specs.Ring.{back, placesBefore, ringFits, keptPlaces, ringPlace}
-use Rattle.laws.proofs.Truth.{both-left, both-right}
-use Rattle.laws.proofs.Rings.{map-getD, kept-at}
+use lib.ListN.{length, length-map}
+use Rattle.laws.specs.Ring.{back, placesBefore, ringFits}
 use Rattle.laws.proofs.RingScan.{back-pos, places-split, places-length}
-use Rattle.protocol.specs.Memory.{Memory, Number, Query, queryAt, queriesIn, numberFrom, sameNumber}
+use Rattle.protocol.specs.Memory.{Memory, Number, Query, queryAt, queriesIn, sameNumber}
 use Rattle.protocol.specs.Memory.{Found, Absent, At, later, pickFound, find, isFound}
-use Rattle.memory.specs.Queries.{behind, FoundThere}
+use Rattle.memory.specs.Queries.{behind}
 use Rattle.memory.proofs.OrderLaws.{fits-next, kept-all}
 
 behind-none : (f : Found) → behind 0 f ≡ f
@@ -99,38 +95,3 @@ module _ (n : ℕ) (q : Memory) (x : Number) (first : ℕ)
 
   pub find-rest : isFound (behind 0 newer) ≡ false → older ≡ find (queriesIn n q) x
   find-rest e = sym (parts ∙ second-found newer older (rw behind-none at e))
-
--- what is found is the query at its index of the list, and so at its place of the ring
-abbrev none : Query
-none = record { number = numberFrom 0 0; asker = 0 }
-
-abbrev Stands : List Query → Number → ℕ → ℕ → Type 0
-Stands qs x a i = (i < length qs) × (getD qs i none ≡ record { number = x; asker = a })
-
-found-index : (qs : List Query) (x : Number) (a i : ℕ) → find qs x ≡ At i a → Stands qs x a i
-unfolding find
-found-index [] x a i e = let z : _≡_ {A = ℕ} 0 1 = cc in absurd (omega arith)
-found-index (q ∷ qs) x a i e = by (sameNumber (q .number) x) refl (find qs x) (found-index qs x a) e
-  where
-    by : (t : Bool) → sameNumber (q .number) x ≡ t → (f : Found) → ((n : ℕ) → f ≡ At n a → Stands qs x a n)
-        → pickFound t (At 0 (q .asker)) (later f) ≡ At i a → Stands (q ∷ qs) x a i
-    by true s f g e =
-        let z : i ≡ 0 = cc in
-        let w : q .asker ≡ a = cc in
-        let lo = eqb-true (q .number .lo) (x .lo) (both-left _ (eqb (q .number .hi) (x .hi)) s) in
-        let hi = eqb-true (q .number .hi) (x .hi) (both-right (eqb (q .number .lo) (x .lo)) _ s) in
-        rw z (omega arith, λ j. record { number = record { lo = lo j; hi = hi j }; asker = w j })
-    by false s Absent g e = let z : _≡_ {A = ℕ} 0 1 = cc in absurd (omega arith)
-    by false s (At n b) g e =
-        let z : i ≡ suc n = cc in
-        let r = g n (cc) in
-        rw z (omega (arith, r .0), r .1)
-
-pub found-there : FoundThere
-unfolding queriesIn
-found-there n q x i a e =
-    let r = found-index (queriesIn n q) x a i e in
-    let h : i < length (keptPlaces n (q .next) (q .count)) = rw length-map at (r .0) in
-    ap (queryAt q) (sym (kept-at n (q .next) (q .count) i h))
-    ∙ sym (map-getD (queryAt q) (keptPlaces n (q .next) (q .count)) i 0 none h)
-    ∙ r .1

@@ -16,12 +16,14 @@ use Rattle.tables.specs.Tables.{Held}
 use Rattle.tables.specs.Updates.{updateAnswer, updated}
 use Rattle.protocol.specs.declared.Line.{Line}
 use Rattle.protocol.specs.declared.Lookup.{Lookup}
-use Rattle.protocol.specs.Memory.{capacity, numberIn, remember}
+use Rattle.protocol.specs.declared.Age.{Age}
+use Rattle.protocol.specs.Memory.{capacity, numberIn, remember, noAge, ageBehind}
 use Rattle.protocol.specs.State.{Station, lineAt, withLine, withMemory, heldAt, lookedUp}
 use Rattle.protocol.specs.Lines.{withPong}
-use Rattle.protocol.specs.Outcomes.{Terms, Outcome, Step, quiet, leaving, pickResult, refusedOr, stored, unused}
-use Rattle.protocol.specs.Queries.{hasText, queryRules, queryTaken, queryStep}
-use Rattle.protocol.specs.Hits.{hitRules, hitTaken, hitStep}
+use Rattle.protocol.specs.Outcomes.{Terms, Outcome, Step, quiet, handsUp, leaving, pickResult, refusedOr, stored}
+use Rattle.protocol.specs.Outcomes.{unused}
+use Rattle.protocol.specs.Queries.{hasText, queryBefore, queryRules, queryTaken, queryStep}
+use Rattle.protocol.specs.Hits.{hitBefore, hitRules, hitTaken, hitStep}
 use Rattle.protocol.specs.Pings.{isProbe, pingRules, timeKept, pingTaken, pingStep}
 use Rattle.protocol.specs.Pings.{pongRules, arrivedPong, pongStep}
 use Rattle.protocol.specs.Calls.{early, updateStep, byType, arrived, arriving}
@@ -41,6 +43,13 @@ queryIn limit s m = queryRules limit (headerIn m) (hasText (payloadOf m)) (looke
 abbrev pub hitIn : Station → List ℕ → List (Bool × ℕ)
 hitIn s m = hitRules (headerIn m) (lookedUp s (numberIn m))
 
+-- the age that a query and a hit hand up
+abbrev pub queryAge : ℕ → Station → List ℕ → Age
+queryAge limit s m = ageBehind (queryBefore limit (headerIn m) (hasText (payloadOf m))) (lookedUp s (numberIn m))
+
+abbrev pub hitAge : Station → List ℕ → Age
+hitAge s m = ageBehind (hitBefore (headerIn m)) (lookedUp s (numberIn m))
+
 -- the outcome of one that is taken: a ping or a pong sets its line's record, a query is remembered, a hit leaves all
 abbrev pub pingDone : Station → ℕ → Terms → List ℕ → List ℕ → Outcome
 pingDone s l t m route =
@@ -51,11 +60,12 @@ pongDone s l clock m route = quiet 0 (withLine s l (withPong (lineAt s l) (arriv
 
 abbrev pub queryDone : ℕ → Station → ℕ → List ℕ → List ℕ → Outcome
 queryDone limit s l m route =
-    leaving (withMemory s (remember capacity (s .memory) (numberIn m) l))
-    (queryTaken limit (s .room) (s .lines) l m route)
+    handsUp (queryAge limit s m)
+    (leaving (withMemory s (remember capacity (s .memory) (numberIn m) l))
+    (queryTaken limit (s .room) (s .lines) l m route))
 
 abbrev pub hitDone : Station → ℕ → List ℕ → List ℕ → Outcome
-hitDone s l m route = leaving s (hitTaken (lineAt s l) (lookedUp s (numberIn m)) m route)
+hitDone s l m route = handsUp (hitAge s m) (leaving s (hitTaken (lineAt s l) (lookedUp s (numberIn m)) m route))
 
 -- an update, taken or refused: its answer, and what it leaves of the line's table
 abbrev pub updateNumber : Station → ℕ → List ℕ → List ℕ → ℕ
@@ -87,43 +97,71 @@ module _ (P : Outcome → Type 0) (s : Station) (l : ℕ) (m route : List ℕ) w
   again : (f : Station → Outcome) → P (f s) → P (f (withLine s l line))
   again f h = subst (λ (x : Station). P (f x)) (sym (stored-again s l)) h
 
-  module _ (refused : (n : ℕ) → TypeRefuses m n → P (quiet n s route)) where
-    -- one type, by its rules
-    of-rules : (k : ℕ) (cs : List (Bool × ℕ)) (r : Step) → eqb (kindOf m) k ≡ true → eqb k routeUpdate ≡ false
-        → all (λ c. not (unused (c .1))) cs ≡ true → all (λ c. leb 1 (c .1)) cs ≡ true → (NoRefusal cs → OfStep r)
-        → OfStep (refusedOr (firstOf cs) (record { line = line; taken = false }) route r)
-    of-rules k cs r e ne u p f =
-        of-stored P s l (numberIn m) (firstOf cs) route r (λ z. f (no-refusal cs p z))
-        (λ n. refused (firstOf cs)
-        (record { some = n; used = none-unused cs u; type = other-type m k routeUpdate e ne }))
+  -- one type, by its rules, whatever is shown of its outcome
+  of-checks : (Q : Outcome → Type 0) → ((n : ℕ) → TypeRefuses m n → Q (quiet n s route))
+      → (k : ℕ) (cs : List (Bool × ℕ)) (r : Step) → eqb (kindOf m) k ≡ true → eqb k routeUpdate ≡ false
+      → all (λ c. not (unused (c .1))) cs ≡ true → all (λ c. leb 1 (c .1)) cs ≡ true
+      → (NoRefusal cs → Q (stored s l (numberIn m) r))
+      → Q (stored s l (numberIn m) (refusedOr (firstOf cs) (record { line = line; taken = false }) route r))
+  of-checks Q refused k cs r e ne u p f =
+      of-stored Q s l (numberIn m) (firstOf cs) route r (λ z. f (no-refusal cs p z))
+      (λ n. refused (firstOf cs)
+      (record { some = n; used = none-unused cs u; type = other-type m k routeUpdate e ne }))
 
+  -- a refused one may hand an age up
+  module _ (refused : (n : ℕ) (a : Age) → TypeRefuses m n → P (handsUp a (quiet n s route))) where
     pub of-ping : (t : Terms) → eqb (kindOf m) pingType ≡ true
         → (NoRefusal (pingIn s l t m) → P (pingDone s l t m route)) → OfStep (pingStep (s .lines) l t m route)
     unfolding pingStep
-    of-ping t k f = of-rules pingType (pingIn s l t m) _ k refl refl refl f
+    of-ping t k f = of-checks P (λ n. refused n noAge) pingType (pingIn s l t m) _ k refl refl refl f
 
     pub of-pong : (clock : ℕ) → eqb (kindOf m) pongType ≡ true
         → (NoRefusal (pongIn m) → P (pongDone s l clock m route)) → OfStep (pongStep line clock m route)
     unfolding pongStep
-    of-pong clock k f = of-rules pongType (pongIn m) _ k refl refl refl f
+    of-pong clock k f = of-checks P (λ n. refused n noAge) pongType (pongIn m) _ k refl refl refl f
 
     pub of-query : (limit : ℕ) → eqb (kindOf m) queryType ≡ true
         → (NoRefusal (queryIn limit s m) → P (queryDone limit s l m route))
         → OfStep (queryStep limit (s .room) (s .lines) l looked m route)
     unfolding queryStep
-    of-query limit k f = of-rules queryType (queryIn limit s m) _ k refl refl refl (λ n. again done (f n))
+    of-query limit k f =
+        of-checks (λ o. P (handsUp (queryAge limit s m) o)) (λ n. refused n (queryAge limit s m)) queryType
+        (queryIn limit s m) _ k refl refl refl (λ n. again done (f n))
       where
         done : Station → Outcome
         done x =
-            leaving (withMemory x (remember capacity (s .memory) (numberIn m) l))
-            (queryTaken limit (s .room) (s .lines) l m route)
+            handsUp (queryAge limit s m)
+            (leaving (withMemory x (remember capacity (s .memory) (numberIn m) l))
+            (queryTaken limit (s .room) (s .lines) l m route))
 
     pub of-hit : eqb (kindOf m) hitType ≡ true → (NoRefusal (hitIn s m) → P (hitDone s l m route))
         → OfStep (hitStep line looked m route)
     unfolding hitStep
     of-hit k f =
-        of-rules hitType (hitIn s m) _ k refl refl refl
-        (λ n. again (λ x. leaving x (hitTaken line looked m route)) (f n))
+        of-checks (λ o. P (handsUp (hitAge s m) o)) (λ n. refused n (hitAge s m)) hitType (hitIn s m) _ k refl refl refl
+        (λ n. again (λ x. handsUp (hitAge s m) (leaving x (hitTaken line looked m route))) (f n))
+
+    -- a type that has no rules
+    unnamed : eqb (kindOf m) routeUpdate ≡ false → OfStep (quiet 7 (record { line = line; taken = false }) route)
+    unnamed u =
+        again (λ x. quiet 7 x route)
+        (refused 7 noAge (record { some = λ e. absurd (omega arith); used = refl; type = u }))
+
+    -- what is left of the types: hits and the rest, with queries, with updates, with pongs
+    module _ (limit : ℕ) (t : Terms) where
+      abbrev hits : Step
+      hits =
+          pickResult (eqb (kindOf m) hitType) (hitStep line looked m route)
+          (quiet 7 (record { line = line; taken = false }) route)
+
+      abbrev queries : Step
+      queries = pickResult (eqb (kindOf m) queryType) (queryStep limit (s .room) (s .lines) l looked m route) hits
+
+      abbrev updates : Step
+      updates = pickResult (eqb (kindOf m) routeUpdate) (updateStep (s .room) l line m route) queries
+
+      abbrev pongs : Step
+      pongs = pickResult (eqb (kindOf m) pongType) (pongStep line (t .clock) m route) updates
 
     -- all of them
     pub of-types : (limit : ℕ) (t : Terms)
@@ -135,13 +173,14 @@ module _ (P : Outcome → Type 0) (s : Station) (l : ℕ) (m route : List ℕ) w
         → P (arrived limit s l m t route)
     unfolding byType
     of-types limit t ping pong update query hit =
-        by pingType _ _ (λ k. of-ping t k (ping k))
-        (λ _. by pongType _ _ (λ k. of-pong (t .clock) k (pong k))
-        (λ _. by routeUpdate _ _ update
-        (λ u. by queryType _ _ (λ k. of-query limit k (query k))
-        (λ _. by hitType _ _ (λ k. of-hit k (hit k))
-        (λ _. again (λ x. quiet 7 x route)
-        (refused 7 (record { some = λ e. absurd (omega arith); used = refl; type = u })))))))
+        by pingType (pingStep (s .lines) l t m route) (pongs limit t) (λ k. of-ping t k (ping k))
+        (λ _. by pongType (pongStep line (t .clock) m route) (updates limit t) (λ k. of-pong (t .clock) k (pong k))
+        (λ _. by routeUpdate (updateStep (s .room) l line m route) (queries limit t) update
+        (λ u. by queryType (queryStep limit (s .room) (s .lines) l looked m route) (hits limit t)
+        (λ k. of-query limit k (query k))
+        (λ _. by hitType (hitStep line looked m route) (quiet 7 (record { line = line; taken = false }) route)
+        (λ k. of-hit k (hit k))
+        (λ _. unnamed u)))))
       where
         by : (n : ℕ) (x y : Step) → (eqb (kindOf m) n ≡ true → OfStep x) → (eqb (kindOf m) n ≡ false → OfStep y)
             → OfStep (pickResult (eqb (kindOf m) n) x y)

@@ -17,15 +17,17 @@ use Rattle.wire.specs.Header.{headerIn, kindOf, ttlOf, hopsOf, sizeOf, payloadO
 use Rattle.wire.specs.Header.{pingType}
 use Rattle.keywords.specs.Keywords.{keywordsOf}
 use Rattle.tables.specs.Admission.{withholds}
-use Rattle.protocol.specs.Memory.{capacity, here, gone, numberIn, Query, find}
+use Rattle.protocol.specs.declared.Age.{Age}
+use Rattle.protocol.specs.Memory.{capacity, here, gone, numberIn, Query, find, noAge}
 use Rattle.protocol.specs.State.{Station, remembered, seen, lineAt, heldAt, lookedUp}
 use Rattle.protocol.specs.Lines.{isOther}
 use Rattle.protocol.specs.Order.{inOrder}
-use Rattle.protocol.specs.Outcomes.{Terms, Outcome, quiet, stored, unused}
+use Rattle.protocol.specs.Outcomes.{Terms, Outcome, quiet, handsUp, stored, unused}
 use Rattle.protocol.specs.Queries.{usualLimit, textIn, hasText, queryBefore, passes, goesOn, queryLines, queryOn}
 use Rattle.protocol.specs.Queries.{ownPayload, ownBytes, ownLines}
 use Rattle.protocol.specs.Hits.{hitStep}
-use Rattle.protocol.specs.Calls.{updateStep, ownBefore, ownAnswer, ownTaken, asking, messageOutcome, ownOutcome}
+use Rattle.protocol.specs.Calls.{updateStep, ownBefore, ownAge, ownAnswer, ownTaken, asking, messageOutcome}
+use Rattle.protocol.specs.Calls.{ownOutcome}
 use Rattle.protocol.specs.Runs.{Call, Open, Close, Message, Ask, World, lent, outcomeOf, step, start}
 use Rattle.protocol.specs.Periods.{lifeLeft}
 use Rattle.protocol.specs.Kept.{Sized}
@@ -82,8 +84,9 @@ module _ (limit : ℕ) (s : Station) (route : List ℕ) where
         lines = refl;
       }
 
-  own-to : (number text : List ℕ) → OwnTo limit s route number text (ownTaken limit s number text route)
-  own-to number text =
+  own-to : (a : Age) (number text : List ℕ)
+      → OwnTo limit s route number text (handsUp a (ownTaken limit s number text route))
+  own-to a number text =
       record {
         eight = refl;
         to = λ k h.
@@ -96,8 +99,8 @@ module _ (limit : ℕ) (s : Station) (route : List ℕ) where
       }
 
 -- What is no hit's. Nothing is written
-quiet-noHit : (kind n : ℕ) (s : Station) (route : List ℕ) → NoHit kind (quiet n s route)
-quiet-noHit kind n s route = record { sent = writes-none kind; delivered = refl }
+quiet-noHit : (kind n : ℕ) (a : Age) (s : Station) (route : List ℕ) → NoHit kind (handsUp a (quiet n s route))
+quiet-noHit kind n a s route = record { sent = writes-none kind; delivered = refl }
 
 module _ (s : Station) (l : ℕ) (m : List ℕ) (t : Terms) (route : List ℕ) where
   abbrev outcome : Outcome
@@ -107,11 +110,11 @@ module _ (s : Station) (l : ℕ) (m : List ℕ) (t : Terms) (route : List ℕ) w
   message-silent : (kindOf m ≡ 0x00 → ⊥) → (kindOf m ≡ 0x80 → ⊥) → (kindOf m ≡ 0x81 → ⊥) → Silent outcome
   unfolding updateStep
   message-silent np nq nh =
-      of-message Silent s l m route usualLimit t (λ n _. quiet-silent n s route)
-      (λ _. of-types Silent s l m route (λ n _. quiet-silent n s route) usualLimit t
+      of-message Silent s l m route usualLimit t (λ n _. quiet-silent n noAge s route)
+      (λ _. of-types Silent s l m route (λ n a _. quiet-silent n a s route) usualLimit t
       (λ k. absurd (np (eqb-true (kindOf m) pingType k)))
-      (λ _ _. quiet-silent 0 _ route)
-      (λ _. quiet-silent _ _ _)
+      (λ _ _. quiet-silent 0 noAge _ route)
+      (λ _. quiet-silent _ noAge _ _)
       (λ k. absurd (nq (eqb-true (kindOf m) queryType k)))
       (λ k. absurd (nh (eqb-true (kindOf m) hitType k))))
 
@@ -123,17 +126,18 @@ module _ (s : Station) (l : ℕ) (m : List ℕ) (t : Terms) (route : List ℕ) w
   payload-most d = let h = d .size in simp length-take (omega arith)
 
   -- a query that is refused, or taken
-  of-queries : (P : Outcome → Type 0) → kindOf m ≡ 0x80 → ((n : ℕ) → (n ≡ 0 → ⊥) → P (quiet n s route))
+  of-queries : (P : Outcome → Type 0) → kindOf m ≡ 0x80
+      → ((n : ℕ) (a : Age) → (n ≡ 0 → ⊥) → P (handsUp a (quiet n s route)))
       → (LetIn s l m (length route) → P (queryDone usualLimit s l m route)) → P outcome
   of-queries P k f g =
-      of-message P s l m route usualLimit t (λ n u. f n (λ z. clash u (ap unused z)))
+      of-message P s l m route usualLimit t (λ n u. f n noAge (λ z. clash u (ap unused z)))
       (λ d. rw (by-query s l m t route usualLimit k)
-      (of-query P s l m route (λ n r. f n (r .some)) usualLimit (eq-eqb (kindOf m) queryType k) (λ _. g d)))
+      (of-query P s l m route (λ n a r. f n a (r .some)) usualLimit (eq-eqb (kindOf m) queryType k) (λ _. g d)))
 
   -- it writes a query or nothing
   queries-noHit : kindOf m ≡ 0x80 → NoHit 0x80 outcome
   queries-noHit k =
-      of-queries (NoHit 0x80) k (λ n _. quiet-noHit 0x80 n s route)
+      of-queries (NoHit 0x80) k (λ n a _. quiet-noHit 0x80 n a s route)
       (λ d. record {
         sent = writes-choice 0x80 (any (λ b. b) (queryLines usualLimit (s .room) (s .lines) l m route)) _ []
             (writes-one (numberOf m) 0x80 (lifeLeft usualLimit m - 1) (hopsOf m + 1) (payloadOf m)
@@ -144,15 +148,15 @@ module _ (s : Station) (l : ℕ) (m : List ℕ) (t : Terms) (route : List ℕ) w
 
   goes-to : kindOf m ≡ 0x80 → outcome .answer ≡ 0 → QueryTo usualLimit s route l m outcome
   goes-to k =
-      of-queries (λ r. r .answer ≡ 0 → QueryTo usualLimit s route l m r) k (λ n ne z. absurd (ne z))
+      of-queries (λ r. r .answer ≡ 0 → QueryTo usualLimit s route l m r) k (λ n a ne z. absurd (ne z))
       (λ _ _. query-to usualLimit s route l m)
 
   -- a ping writes pongs or nothing
   pings-noHit : Sized s → kindOf m ≡ 0x00 → length (t .own .address) ≡ 4 → NoHit 0x01 outcome
   pings-noHit z k four =
-      of-message (NoHit 0x01) s l m route usualLimit t (λ n _. quiet-noHit 0x01 n s route)
+      of-message (NoHit 0x01) s l m route usualLimit t (λ n _. quiet-noHit 0x01 n noAge s route)
       (λ d. rw (by-ping s l m t route usualLimit k)
-      (of-ping (NoHit 0x01) s l m route (λ n _. quiet-noHit 0x01 n s route) t (eq-eqb (kindOf m) pingType k)
+      (of-ping (NoHit 0x01) s l m route (λ n a _. quiet-noHit 0x01 n a s route) t (eq-eqb (kindOf m) pingType k)
       (λ _. record { sent = writes-pongs s z m (number-length d) l t four; delivered = refl })))
 
 -- An arriving query that only its number can refuse
@@ -279,23 +283,24 @@ module _ (s : Station) (o : inOrder s ≡ true) (number text : List ℕ) (out : 
       tests a = (rw o, (areas-fit s out route (a .areas), (le-ltb 4093 (length text) (a .size), (a .noZero, tt))))
 
   -- refused, or taken
-  of-own : (P : Outcome → Type 0) → ((n : ℕ) → (n ≡ 0 → ⊥) → P (quiet n s route))
-      → (NoRefusal rules → P (ownTaken usualLimit s number text route)) → P own
+  of-own : (P : Outcome → Type 0) → ((n : ℕ) (a : Age) → (n ≡ 0 → ⊥) → P (handsUp a (quiet n s route)))
+      → (NoRefusal rules → (a : Age) → P (handsUp a (ownTaken usualLimit s number text route))) → P own
   unfolding asking ownAnswer
   of-own P f g =
-      of-refused P (firstOf rules) s route (ownTaken usualLimit s number text route)
-      (λ e. g (no-refusal rules refl e))
-      (f (firstOf rules))
+      let age = ownAge s number text out (length route) in
+      of-refused (λ o. P (handsUp age o)) (firstOf rules) s route (ownTaken usualLimit s number text route)
+      (λ e. g (no-refusal rules refl e) age)
+      (f (firstOf rules) age)
 
   own-goes : own .answer ≡ 0 → OwnTo usualLimit s route number text own
   own-goes =
-      of-own (λ r. r .answer ≡ 0 → OwnTo usualLimit s route number text r) (λ n ne z. absurd (ne z))
-      (λ _ _. own-to usualLimit s route number text)
+      of-own (λ r. r .answer ≡ 0 → OwnTo usualLimit s route number text r) (λ n a ne z. absurd (ne z))
+      (λ _ a _. own-to usualLimit s route a number text)
 
   own-noHit : length number ≡ 16 → NoHit 0x80 own
   own-noHit sixteen =
-      of-own (NoHit 0x80) (λ n _. quiet-noHit 0x80 n s route)
-      (λ q. let h : length text ≤ 4093 = ltb-false 4093 (length text) (q .1 .1 .0) in
+      of-own (NoHit 0x80) (λ n a _. quiet-noHit 0x80 n a s route)
+      (λ q a. let h : length text ≤ 4093 = ltb-false 4093 (length text) (q .1 .1 .0) in
       let most : length (ownPayload text) ≤ 4096 = simp length-append (omega arith) in
       record {
         sent = writes-choice 0x80 (any (λ b. b) (ownLines usualLimit (s .room) (s .lines) text route)) _ []
@@ -340,16 +345,16 @@ module _ (w : World) (l : ℕ) (m route : List ℕ) (k : kindOf m ≡ 0x81) (fro
         more : 2 ≤ ttlOf m → eqb (ttlOf m) 1 ≡ false
         more t = ne-eqb (ttlOf m) 1 (λ z. absurd (omega arith))
 
-  of-hits : (P : Outcome → Type 0) → ((n : ℕ) → P (quiet n (w .state) route)) → P (hitDone (w .state) l m route)
-      → P hit
-  of-hits P f g = of-hit P (w .state) l m route (λ n _. f n) (eq-eqb (kindOf m) hitType k) (λ _. g)
+  of-hits : (P : Outcome → Type 0) → ((n : ℕ) (a : Age) → P (handsUp a (quiet n (w .state) route)))
+      → P (hitDone (w .state) l m route) → P hit
+  of-hits P f g = of-hit P (w .state) l m route (λ n a _. f n a) (eq-eqb (kindOf m) hitType k) (λ _. g)
 
   hit-routed : HitRouted from w m hit
   unfolding hitStep
   hit-routed =
       record {
-        leaves = of-hits (λ (r : Outcome). r .state ≡ w .state) (λ _. refl) refl;
-        search = of-hits NotSearched (λ _. (refl, refl, refl)) (refl, refl, refl);
+        leaves = of-hits (λ (r : Outcome). r .state ≡ w .state) (λ _ _. refl) refl;
+        search = of-hits NotSearched (λ _ _. (refl, refl, refl)) (refl, refl, refl);
         short = λ a. rw (lt-ltb (sizeOf m) 27 a);
         spent = λ a b. rw (le-ltb (sizeOf m) 27 a, eq-eqb (ttlOf m) 0 b);
         by = λ a b. hit-by a b from refl;
@@ -382,7 +387,7 @@ module _ (base : List Query) (w : World) (v : Invariant base w) where
           area = message-area s l m t route;
           part = λ k e. update-part s z o l m t route (arrives .0 (inl e)) k e;
           others = message-silent s l m t route;
-          refused = λ ne. silent-of _ _ _ _ (refusal-frame .calls s .message l m t route ne);
+          refused = λ ne. silent-of _ _ _ _ _ (refusal-frame .calls s .message l m t route ne);
         }
       where
         arrives : SentIfArrived s l m (t .out) route (messageOutcome s l m t route)
@@ -412,7 +417,7 @@ module _ (base : List Query) (w : World) (v : Invariant base w) where
         goes = own-goes s o number text (t .out) route;
         noHit = own-noHit s o number text (t .out) route;
         area = own-area s number text (t .out) route;
-        refused = λ ne. silent-of _ _ _ _ (refusal-frame .calls s .asks number text (t .out) route ne);
+        refused = λ ne. silent-of _ _ _ _ _ (refusal-frame .calls s .asks number text (t .out) route ne);
       }
 
 all-routed : (base : List Query) (w : World) → Invariant base w → (cs : List Call)

@@ -22,15 +22,16 @@ use Rattle.tables.specs.Tables.{Held, settled, heldIn, noTable}
 use Rattle.tables.specs.Updates.{updateAnswer, updated}
 use Rattle.tables.specs.Answers.{Answers}
 use Rattle.tables.proofs.Answers.{answers}
+use Rattle.protocol.specs.declared.Age.{Age}
 use Rattle.protocol.specs.declared.Line.{Line}
 use Rattle.protocol.specs.State.{Station, lineAt, withLine, heldAt}
 use Rattle.protocol.specs.Lines.{emptyLine, nowhere, withTable, partOf}
 use Rattle.protocol.specs.Order.{inOrder}
-use Rattle.protocol.specs.Outcomes.{Terms, Outcome, quiet, unused}
+use Rattle.protocol.specs.Outcomes.{Terms, Outcome, quiet, handsUp, unused}
 use Rattle.protocol.specs.Queries.{usualLimit, lifeOf, textIn, passes, goesOn}
 use Rattle.protocol.specs.Pings.{isProbe, timeKept}
 use Rattle.protocol.specs.Calls.{opening, closedState, closing, updateStep, arrived, arriving, ownAnswer}
-use Rattle.protocol.specs.Calls.{ownTaken, asking}
+use Rattle.protocol.specs.Calls.{ownAge, ownTaken, asking}
 use Rattle.protocol.specs.Runs.{Area, Same, Other, Call, Open, Close, Message, Ask, World, unsent, lent}
 use Rattle.protocol.specs.Runs.{keptArea}
 use Rattle.protocol.specs.Runs.{outcomeOf, areaAfter, step, run, start, FairArea, FairCall, Fair}
@@ -234,8 +235,8 @@ module _ (limit L room : ℕ) (seven : L ≤ 7) (e : Expected) (us : List Update
       → After (Message l m t Same) (arrived limit s l m t area)
   types-good l m t d =
       of-types (After (Message l m t Same)) s l m area
-      (λ n r. aside l m t (quiet n s area) (r .used) (not-update l m t (r .type)) (untouched L s area (s .memory))
-      (λ y. absurd (r .some y)))
+      (λ n a r. aside l m t (handsUp a (quiet n s area)) (r .used) (not-update l m t (r .type))
+      (untouched L s area (s .memory)) (λ y. absurd (r .some y)))
       limit t
       (λ k _. ping-good l m t k)
       (λ k _. neither l m t pongType k refl refl (pongDone s l (t .clock) m area) refl
@@ -266,25 +267,30 @@ module _ (limit L room : ℕ) (seven : L ≤ 7) (e : Expected) (us : List Update
       → passes (lineAt s L .live) (heldAt s L area) text limit ≡ passes (e .live) (e .held) text limit
   own-same text = read-same (λ b h. passes b h text limit) (λ h. refl)
 
-  asked-good : (number text : List ℕ) (t : Terms) (a : Area) → FairArea room a
+  asked-good : (age : Age) (number text : List ℕ) (t : Terms) (a : Area) → FairArea room a
       → ownAnswer s number text (t .out) (length (lent a area)) ≡ 0
-      → After (Ask number text t a) (ownTaken limit s number text (lent a area))
-  asked-good number text t Same f z = (
+      → After (Ask number text t a) (handsUp age (ownTaken limit s number text (lent a area)))
+  asked-good age number text t Same f z = (
     rw (feed-ask L room false e) (left-alone q (untouched L s area _)),
     (λ _. forwarded room e (q .sound) us (told .speaking) (e .live ≡ true) text limit _
         (read-as (eachLine-at (λ k. passes (lineAt s k .live) (heldAt s k area) text limit) L seven ∙ own-same text)
         (passes-iff room e (q .sound) text limit))),
   )
-  asked-good number text t (Other x) f z = absurd (f (asked-in s number text (t .out) (length x) z .room ∙ q .sameRoom))
+  asked-good age number text t (Other x) f z =
+      absurd (f (asked-in s number text (t .out) (length x) z .room ∙ q .sameRoom))
 
   ask-good : (number text : List ℕ) (t : Terms) (a : Area) → FairArea room a
       → After (Ask number text t a) (asking limit s number text (t .out) (lent a area))
   unfolding asking
   ask-good number text t a f =
-      of-refused (After (Ask number text t a)) answer s (lent a area) (ownTaken limit s number text (lent a area))
-      (asked-good number text t a f)
+      of-refused (λ o. After (Ask number text t a) (handsUp age o)) answer s (lent a area)
+      (ownTaken limit s number text (lent a area))
+      (asked-good age number text t a f)
       (λ n. (rw (feed-ask L room (unused answer) e, kept-lent a area) q, (λ z. absurd (n z))))
     where
+      age : Age
+      age = ownAge s number text (t .out) (length (lent a area))
+
       answer : ℕ
       answer = ownAnswer s number text (t .out) (length (lent a area))
 

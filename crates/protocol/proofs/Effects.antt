@@ -13,16 +13,17 @@ use borrow.Author.Tests.{lt-ltb, eqb-false, ne-eqb}
 use Rattle.laws.specs.Tests.{firstOf}
 use Rattle.laws.proofs.Refusals.{clash, of-choice, no-refusal, NoRefusal}
 use Rattle.wire.specs.Header.{headerIn, kindOf, routeUpdate, queryType, hitType, pingType, pongType}
+use Rattle.protocol.specs.declared.Age.{Age}
 use Rattle.protocol.specs.declared.Line.{Line}
-use Rattle.protocol.specs.Memory.{capacity, here, numberIn}
+use Rattle.protocol.specs.Memory.{capacity, here, numberIn, noAge}
 use Rattle.protocol.specs.State.{Station, remembered, seen, lineAt, withLine}
 use Rattle.protocol.specs.Lines.{lineCount, emptyLine, nowhere}
 use Rattle.protocol.specs.Order.{inOrder}
-use Rattle.protocol.specs.Outcomes.{Terms, Outcome, quiet}
+use Rattle.protocol.specs.Outcomes.{Terms, Outcome, quiet, handsUp}
 use Rattle.protocol.specs.Queries.{usualLimit}
 use Rattle.protocol.specs.Pings.{isProbe, timeKept}
 use Rattle.protocol.specs.Calls.{opening, closedState, closing}
-use Rattle.protocol.specs.Calls.{updateStep, arrived, arriving, ownAnswer, ownTaken, asking}
+use Rattle.protocol.specs.Calls.{updateStep, arrived, arriving, ownAge, ownAnswer, ownTaken, asking}
 use Rattle.protocol.specs.Runs.{Area, Call, Open, Close, Message, Ask, World, lent, outcomeOf}
 use Rattle.protocol.specs.Kept.{Sized, asked, leftBy}
 use Rattle.protocol.specs.Demand2.{took, broughtNumber, broughtBy, opened, closed}
@@ -68,8 +69,9 @@ not-done (Close k) n e = (refl, λ l. (rw (e, and-false), refl))
 not-done (Message k m t a) n e = (rw (e, and-false), λ l. (refl, refl))
 not-done (Ask number text t a) n e = (e, λ l. (refl, refl))
 
-refused-effect : (s : Station) (c : Call) (n : ℕ) (route : List ℕ) → (n ≡ 0 → ⊥) → Effect s c (quiet n s route)
-refused-effect s c n route ne =
+refused-effect : (s : Station) (c : Call) (n : ℕ) (a : Age) (route : List ℕ) → (n ≡ 0 → ⊥)
+    → Effect s c (handsUp a (quiet n s route))
+refused-effect s c n a route ne =
     let h = not-done c n (ne-eqb n 0 ne) in
     record {
       does = inr (inr (record { passed = h .0; unclosed = λ l. h .1 l .0; memory = refl }));
@@ -121,7 +123,7 @@ module _ (s : Station) (z : Sized s) (o : inOrder s ≡ true) (l : ℕ) (m : Lis
   types-effect : (limit : ℕ) → Effect s c (arrived limit s l m t route)
   unfolding updateStep
   types-effect limit =
-      of-types (Effect s c) s l m route (λ n r. refused-effect s c n route (r .some)) limit t
+      of-types (Effect s c) s l m route (λ n a r. refused-effect s c n a route (r .some)) limit t
       (λ k _. passes-line pingType k refl (pingDone s l t m route) kept refl
       (of-choice (λ (x : Line). lineAt s l .live ≡ true → x .live ≡ true) (isProbe (headerIn m)) _ _ (λ _ v. v)
       (λ _ v. v)))
@@ -139,14 +141,15 @@ module _ (s : Station) (z : Sized s) (o : inOrder s ≡ true) where
       → Effect s (Message l m t a) (arriving limit s l m t route)
   message-effect limit l m t a route =
       of-message (Effect s (Message l m t a)) s l m route limit t
-      (λ n u. refused-effect s (Message l m t a) n route (unused-some n u))
+      (λ n u. refused-effect s (Message l m t a) n noAge route (unused-some n u))
       (λ d. types-effect s z o l m t a route d limit)
 
   ask-effect : (limit : ℕ) (number text : List ℕ) (t : Terms) (a : Area) (route : List ℕ)
       → Effect s (Ask number text t a) (asking limit s number text (t .out) route)
   unfolding asking
   ask-effect limit number text t a route =
-      of-refused (Effect s (Ask number text t a)) answer s route (ownTaken limit s number text route)
+      of-refused (λ o. Effect s (Ask number text t a) (handsUp age o)) answer s route
+      (ownTaken limit s number text route)
       (λ e. record {
         does = inl (record {
           taken = refl;
@@ -157,8 +160,11 @@ module _ (s : Station) (z : Sized s) (o : inOrder s ≡ true) where
         });
         stays = λ j w _. (refl, w);
       })
-      (refused-effect s (Ask number text t a) answer route)
+      (refused-effect s (Ask number text t a) answer age route)
     where
+      age : Age
+      age = ownAge s number text (t .out) (length route)
+
       answer : ℕ
       answer = ownAnswer s number text (t .out) (length route)
 
@@ -173,7 +179,7 @@ module _ (s : Station) (z : Sized s) (o : inOrder s ≡ true) where
             let ne : eqb j l ≡ false = ne-eqb j l (λ q. clash w (ap (λ k. lineAt s k .live) q ∙ v .1)) in
             (ap (λ b. b && eqb 0 0) ne, open-still s z o l (v .0) (emptyLine true) (λ _. refl) j w);
       })
-      (refused-effect s (Open l) (firstOf (openingIn s l)) [])
+      (refused-effect s (Open l) (firstOf (openingIn s l)) noAge [])
 
   closing-effect : (l : ℕ) → Effect s (Close l) (closing s l)
   unfolding closing
@@ -192,7 +198,7 @@ module _ (s : Station) (z : Sized s) (o : inOrder s ≡ true) where
             let same = getD-set-other (s .lines) l j (emptyLine false) nowhere (eqb-false j l ne) in
             (refl, ap (λ (x : Line). x .live) same ∙ w);
       })
-      (refused-effect s (Close l) (firstOf (closingIn s l)) [])
+      (refused-effect s (Close l) (firstOf (closingIn s l)) noAge [])
 
 pub call-effect : (w : World) → Sized (w .state) → inOrder (w .state) ≡ true → (c : Call)
     → Effect (w .state) c (outcomeOf w c)

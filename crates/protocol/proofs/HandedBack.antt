@@ -20,6 +20,7 @@ handed o used =
       delivered = refl;
       textat = refl;
       textlen = refl;
+      age = refl;
     }
 
 pub all-handed : AllHanded

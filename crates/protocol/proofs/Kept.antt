@@ -274,7 +274,7 @@ module _ (s : Station) (z : Sized s) (o : inOrder s ≡ true) where
   kept-message : (limit l : ℕ) (m : List ℕ) (t : Terms) (route : List ℕ) → Kept s (arriving limit s l m t route .state)
   kept-message limit l m t route =
       of-message KeptBy s l m route limit t (λ _ _. unchanged)
-      (λ d. of-types KeptBy s l m route (λ _ _. unchanged) limit t
+      (λ d. of-types KeptBy s l m route (λ _ _ _. unchanged) limit t
       (λ _ _. kept-ping s z o l m route d (t .clock))
       (λ _. kept-pong s z o l m route d (t .clock))
       (λ _. kept-update s z o l m route d)

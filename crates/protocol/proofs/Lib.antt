@@ -7,6 +7,7 @@ pub mod ByType
 pub mod Outcomes
 pub mod InOrder
 pub mod InOrderWords
+pub mod Places
 pub mod Memory
 pub mod Kept
 pub mod Refused

@@ -12,11 +12,13 @@ use borrow.Author.Tests.{ltb-true, lt-ltb, not-false}
 use Rattle.laws.specs.Ring.{keptPlaces}
 use Rattle.laws.proofs.Refusals.{or-fst, or-snd, no-refusal}
 use Rattle.laws.proofs.Words.{or-iff, no-iff, yes-iff, least-iff, first-iff}
+use Rattle.protocol.specs.declared.Age.{Age}
 use Rattle.protocol.specs.declared.Line.{Line}
 use Rattle.protocol.specs.State.{Station, remembered, lineAt, withLine}
 use Rattle.protocol.specs.Lines.{lineCount, emptyLine, storedPongs}
 use Rattle.protocol.specs.Order.{inOrder}
-use Rattle.protocol.specs.Outcomes.{Outcome, quiet, refusedOr}
+use Rattle.protocol.specs.Memory.{noAge}
+use Rattle.protocol.specs.Outcomes.{Outcome, quiet, handsUp, refusedOr}
 use Rattle.protocol.specs.Calls.{opening, closedState, closing}
 use Rattle.protocol.specs.Kept.{Sized}
 use Rattle.protocol.specs.Frames.{Bare, Beside, Silent}
@@ -25,13 +27,14 @@ use Rattle.protocol.proofs.Outcomes.{of-refused, answer-taken}
 use Rattle.protocol.proofs.Memory.{remembered-left}
 use Rattle.protocol.proofs.Matching.{line-set, line-other}
 
--- a quiet outcome is silent, and so is one that is refused or leaves quietly
-pub quiet-silent : (n : ℕ) (s : Station) (route : List ℕ) → Silent (quiet n s route)
-quiet-silent n s route =
+-- a quiet outcome is silent, whatever age it hands up, and so is one that is refused or leaves quietly
+pub quiet-silent : (n : ℕ) (a : Age) (s : Station) (route : List ℕ) → Silent (handsUp a (quiet n s route))
+quiet-silent n a s route =
     record { to = refl; sent = refl; delivered = refl; search = refl; textat = refl; textlen = refl }
 
-pub silent-of : (o : Outcome) (n : ℕ) (s : Station) (route : List ℕ) → o ≡ quiet n s route → Silent o
-silent-of o n s route e = rw e (quiet-silent n s route)
+pub silent-of : (o : Outcome) (n : ℕ) (a : Age) (s : Station) (route : List ℕ)
+    → o ≡ handsUp a (quiet n s route) → Silent o
+silent-of o n a s route e = rw e (quiet-silent n a s route)
 
 -- a line that begins anew
 empty-bare : (live : Bool) → Bare live (emptyLine live)
@@ -70,8 +73,8 @@ module _ (s s′ : Station) (l : ℕ) (must bad : Bool)
             rw is (Iff·trans (first-iff 3 test [] refl refl) (or-iff (not (ltb l 8)) bad (least-iff l 8) ill));
         silent =
             of-refused Silent (cond test 3 0) s [] (quiet 0 s′ [])
-            (λ _. quiet-silent 0 s′ [])
-            (λ _. quiet-silent (cond test 3 0) s []);
+            (λ _. quiet-silent 0 noAge s′ [])
+            (λ _. quiet-silent (cond test 3 0) noAge s []);
       }
 
 module _ (s : Station) (z : Sized s) (o : inOrder s ≡ true) (l : ℕ) where

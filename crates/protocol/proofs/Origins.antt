@@ -82,7 +82,7 @@ same-later : (f : Found) (o : Origin) → SameLookUp f o → SameLookUp (later f
 same-later Absent o h = h
 same-later (At n a) o h = record { found = h .found; asker = h .asker }
 
-same-lookUp : (ps : List Past) (x : Number) → SameLookUp (find (map standing ps) x) (lookUp ps x)
+pub same-lookUp : (ps : List Past) (x : Number) → SameLookUp (find (map standing ps) x) (lookUp ps x)
 unfolding find
 same-lookUp [] x = record { found = refl; asker = refl }
 same-lookUp (p ∷ ps) x = go (sameNumber (p .number) x) (same-lookUp ps x)
@@ -98,7 +98,7 @@ same-lookUp (p ∷ ps) x = go (sameNumber (p .number) x) (same-lookUp ps x)
     go false h = same-later rest (lookUp ps x) h
 
 -- a query that was remembered before the log began
-abbrev before : (ℕ → Bool) → Query → Past
+abbrev pub before : (ℕ → Bool) → Query → Past
 before shut q = past shut (q .number) (q .asker) 0
 
 -- One more line has closed: its queries are gone
@@ -258,7 +258,7 @@ standing-base : (qs : List Query) → qs ≡ map standing (map (before (λ l. fa
 standing-base [] = refl
 standing-base (q ∷ qs) = ap₂ _∷_ (standing-now (q .number) (q .asker) 0) (standing-base qs)
 
-remembered-length : (s : Station) → length (remembered s) ≤ capacity
+pub remembered-length : (s : Station) → length (remembered s) ≤ capacity
 unfolding queriesIn keptPlaces
 remembered-length s =
     let q : Memory = s .memory in

@@ -15,7 +15,7 @@ use Rattle.laws.proofs.Words.{and-iff, or-iff, refuted, eqb-iff, less-iff, not-
 use Rattle.wire.specs.Header.{headerIn, ttlOf, hopsOf, sizeOf, numberOf, message}
 use Rattle.protocol.specs.declared.Line.{Line}
 use Rattle.protocol.specs.declared.Own.{Own}
-use Rattle.protocol.specs.Memory.{numberIn}
+use Rattle.protocol.specs.Memory.{numberIn, noAge}
 use Rattle.protocol.specs.State.{Station, lineAt, withLine}
 use Rattle.protocol.specs.Lines.{nowhere, pingedAt, withPong, pongCapacity, storedPongs, elapsed, ElapsedRight}
 use Rattle.protocol.specs.Lines.{ElapsedPoints}
@@ -246,8 +246,8 @@ module _ (s : Station) (z : Sized s) (o : inOrder s ≡ true) (l : ℕ) (l≤7 :
   unfolding pongStep
   pong-silent =
       of-stored Silent s l (numberIn m) (firstOf (pongIn m)) route _
-      (λ _. quiet-silent 0 (withLine s l after) route)
-      (λ _. quiet-silent (firstOf (pongIn m)) s route)
+      (λ _. quiet-silent 0 noAge (withLine s l after) route)
+      (λ _. quiet-silent (firstOf (pongIn m)) noAge s route)
 
   pub pong-routed : PongRouted s l clock m pong
   pong-routed =

@@ -16,13 +16,14 @@ use Rattle.laws.proofs.Overlay.{over-same-front}
 use Rattle.wire.specs.Header.{kindOf, ttlOf, hopsOf, payloadOf, routeUpdate}
 use Rattle.tables.specs.Tables.{Held}
 use Rattle.tables.specs.Updates.{brokenBy}
-use Rattle.protocol.specs.Memory.{queriesIn}
+use Rattle.protocol.specs.declared.Age.{Age}
+use Rattle.protocol.specs.Memory.{queriesIn, noAge}
 use Rattle.protocol.specs.State.{Station, lineAt, withLine, heldAt}
 use Rattle.protocol.specs.Lines.{lineCount, emptyLine, nowhere, withTable, storedPongs}
-use Rattle.protocol.specs.Outcomes.{Terms, Outcome, quiet, refusedOr, unused}
+use Rattle.protocol.specs.Outcomes.{Terms, Outcome, quiet, handsUp, refusedOr, unused}
 use Rattle.protocol.specs.Queries.{usualLimit}
 use Rattle.protocol.specs.Calls.{freshLines, fresh, opening, closedState, closing}
-use Rattle.protocol.specs.Calls.{early, updateStep, arriving, ownAnswer, ownTaken, asking}
+use Rattle.protocol.specs.Calls.{early, updateStep, arriving, ownAge, ownAnswer, ownTaken, asking}
 use Rattle.protocol.specs.Kept.{OutOfOrder, marksBroken, brokenAt, afterRefusal, RefusedQuietly, RefusalsLeave}
 use Rattle.protocol.specs.Kept.{RefusalFrame}
 use Rattle.protocol.specs.Frames.{Bare}
@@ -43,11 +44,16 @@ out-of-order s o =
       asks = λ number text out route. rw o;
     }
 
--- refused by a list of rules, or else answered 0
+-- refused by a list of rules, or else answered 0; and the same with an age
 rules-leave : (s : Station) (route : List ℕ) (n : ℕ) (o : Outcome) → o .answer ≡ 0
     → RefusedQuietly (refusedOr n s route o) (λ n. s) route
 rules-leave s route n o e =
     of-refused (λ r. RefusedQuietly r (λ n. s) route) n s route o (λ _ h. absurd (h e)) (λ _ _. refl)
+
+aged-leave : (a : Age) (s : Station) (route : List ℕ) (n : ℕ) (o : Outcome) → o .answer ≡ 0
+    → RefusedQuietly (handsUp a (refusedOr n s route o)) (λ n. s) route
+aged-leave a s route n o e =
+    of-refused (λ r. RefusedQuietly (handsUp a r) (λ n. s) route) n s route o (λ _ h. absurd (h e)) (λ _ _. refl)
 
 -- of a message it may leave the line's table marked broken
 module _ (s : Station) (l : ℕ) (m route : List ℕ) where
@@ -55,18 +61,18 @@ module _ (s : Station) (l : ℕ) (m route : List ℕ) where
   Leaves o = RefusedQuietly o (λ n. afterRefusal n s l m) route
 
   -- the state after a refusal by n, told whether that marks the table
-  left-by : (n : ℕ) (b : Bool) → marksBroken n m ≡ b
-      → quiet n (cond b (brokenAt s l) s) route ≡ quiet n (afterRefusal n s l m) route
-  left-by n b e = ap (λ c. quiet n (cond c (brokenAt s l) s) route) (sym e)
+  left-by : (n : ℕ) (a : Age) (b : Bool) → marksBroken n m ≡ b
+      → handsUp a (quiet n (cond b (brokenAt s l) s) route) ≡ handsUp a (quiet n (afterRefusal n s l m) route)
+  left-by n a b e = ap (λ c. handsUp a (quiet n (cond c (brokenAt s l) s) route)) (sym e)
 
-  not-marked : (n : ℕ) → eqb (kindOf m) routeUpdate ≡ false → Leaves (quiet n s route)
-  not-marked n k _ = left-by n false (ap (λ b. b && (leb 14 n && leb n 16)) k)
+  not-marked : (n : ℕ) (a : Age) → eqb (kindOf m) routeUpdate ≡ false → Leaves (handsUp a (quiet n s route))
+  not-marked n a k _ = left-by n a false (ap (λ b. b && (leb 14 n && leb n 16)) k)
 
   early-leaves : (n : ℕ) → unused n ≡ true → Leaves (quiet n s route)
   early-leaves n u _ =
       let a : n ≤ 5 = leb-true n 5 (and-snd (leb 1 n) (leb n 5) u) in
       let update : Bool = eqb (kindOf m) routeUpdate in
-      left-by n false (ap (λ c. update && (c && leb n 16)) (lt-leb 14 n (omega arith)) ∙ and-false update)
+      left-by n noAge false (ap (λ c. update && (c && leb n 16)) (lt-leb 14 n (omega arith)) ∙ and-false update)
 
   update-leaves : eqb (kindOf m) routeUpdate ≡ true → Leaves (updateDone s l m route)
   unfolding updateStep brokenBy
@@ -80,7 +86,7 @@ module _ (s : Station) (l : ℕ) (m route : List ℕ) where
       (λ _ h. absurd (h refl))
       (λ n _ _. ap (quiet n (brokenAt s l)) (over-same-front (l * s .room) (lineAt s l .table .length) (s .room) route))
       ne
-      ∙ left-by n true (and-intro (eqb (kindOf m) routeUpdate) (leb 14 n && leb n 16) k range)
+      ∙ left-by n noAge true (and-intro (eqb (kindOf m) routeUpdate) (leb 14 n && leb n 16) k range)
     where
       n : ℕ
       n = updateNumber s l m route
@@ -91,7 +97,7 @@ module _ (s : Station) (l : ℕ) (m route : List ℕ) where
   message-leaves : (limit : ℕ) (t : Terms) → Leaves (arriving limit s l m t route)
   message-leaves limit t =
       of-message Leaves s l m route limit t early-leaves
-      (λ _. of-types Leaves s l m route (λ n r. not-marked n (r .type)) limit t
+      (λ _. of-types Leaves s l m route (λ n a r. not-marked n a (r .type)) limit t
       (λ _ _ h. absurd (h refl))
       (λ _ _ h. absurd (h refl))
       update-leaves
@@ -106,8 +112,8 @@ calls-leave s =
       closes = λ l. rules-leave s [] (firstOf (closingIn s l)) (quiet 0 (closedState s l) []) refl;
       message = λ l m t route. message-leaves s l m route usualLimit t;
       asks = λ number text out route.
-          rules-leave s route (ownAnswer s number text out (length route)) (ownTaken usualLimit s number text route)
-          refl;
+          aged-leave (ownAge s number text out (length route)) s route (ownAnswer s number text out (length route))
+          (ownTaken usualLimit s number text route) refl;
     }
 
 -- a fresh state is made whatever its answer
@@ -128,7 +134,8 @@ unfolding fresh queriesIn keptPlaces
 refusal-frame =
     record {
       calls = calls-leave;
-      quietly = λ n s route. record { answer = refl; state = refl; route′ = refl; silent = quiet-silent n s route };
+      quietly = λ n a s route.
+          record { answer = refl; state = refl; route′ = refl; silent = quiet-silent n a s route };
       freshRefused = λ n h.
           record {
             answer = rw (lt-ltb n 32 h);

@@ -174,7 +174,7 @@ module _ (s : Station) (l : ℕ) (m : List ℕ) (t : Terms) (route : List ℕ) w
       go : (b : Bool) → eqb (told .answer) 0 ≡ b → SameArea route told
       go true e =
           of-message (SameArea route) s l m route usualLimit t (λ _ _. refl)
-          (λ _. of-types (SameArea route) s l m route (λ _ _. refl) usualLimit t
+          (λ _. of-types (SameArea route) s l m route (λ _ _ _. refl) usualLimit t
           (λ _ _. refl)
           (λ _ _. refl)
           (λ k. absurd (ne (eqb-true (kindOf m) routeUpdate k, eqb-true (told .answer) 0 e)))
@@ -188,7 +188,7 @@ module _ (s : Station) (l : ℕ) (m : List ℕ) (t : Terms) (route : List ℕ) w
   unfolding updateStep
   ping-search k =
       of-message NotSearched s l m route usualLimit t (λ _ _. (refl, refl, refl))
-      (λ _. of-types NotSearched s l m route (λ _ _. (refl, refl, refl)) usualLimit t
+      (λ _. of-types NotSearched s l m route (λ _ _ _. (refl, refl, refl)) usualLimit t
       (λ _ _. (refl, refl, refl))
       (λ _ _. (refl, refl, refl))
       (λ _. (refl, refl, refl))

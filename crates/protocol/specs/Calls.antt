@@ -1,5 +1,5 @@
--- The five calls: fresh, opening, closing, an arriving message, an own query. Contracts cite these. A rule takes what
--- it reads; a call applies the rules to its state, and stores what they come to.
+-- The six calls: fresh, opening, closing, an arriving message, an own query, a look-up. Contracts cite these. A rule
+-- takes what it reads; a call applies the rules to its state, and stores what they come to.
 use Prim.Native.Nat.{ℕ, _+_, _*_, _/_}
 use mathlib.Core.Bool.{Bool, true, false, cond, not, _&&_, _||_}
 use mathlib.Core.List.{List, [], _∷_, _++_}
@@ -23,13 +23,16 @@ use Rattle.wire.specs.Header.{
 use Rattle.tables.specs.Updates.{updateAnswer, updated}
 use Rattle.protocol.specs.declared.Line.{Line}
 use Rattle.protocol.specs.declared.Lookup.{Lookup}
+use Rattle.protocol.specs.declared.Age.{Age}
+use Rattle.protocol.specs.declared.Finding.{Finding}
 use Rattle.protocol.specs.declared.Report.{Report}
-use Rattle.protocol.specs.Memory.{Memory, memoryOf, capacity, here, numberIn, remember, leftAll}
+use Rattle.protocol.specs.Memory.{Memory, Number, memoryOf, capacity, here, nobodyAsked, numberIn, ageBehind}
+use Rattle.protocol.specs.Memory.{remember, leftAll}
 use Rattle.protocol.specs.Lines.{lineCount, emptyLine, withTable, heldBy, lineIn}
 use Rattle.protocol.specs.State.{Station, Change, stationOf, lineAt, withLine, withMemory, lookedUp}
 use Rattle.protocol.specs.Order.{inOrder}
 use Rattle.protocol.specs.Outcomes.{Terms, Outcome, Step, quiet, sends, refusedOr, writtenFor, pickResult, stored}
-use Rattle.protocol.specs.Outcomes.{reportOf, usedOf}
+use Rattle.protocol.specs.Outcomes.{handsUp, reportOf, usedOf}
 use Rattle.protocol.specs.Queries.{usualLimit, queryStep, ownLines, ownBytes}
 use Rattle.protocol.specs.Hits.{hitStep}
 use Rattle.protocol.specs.Pings.{pingStep, pongStep}
@@ -145,6 +148,12 @@ ownAfter k = (k .found, 9) ∷ []
 abbrev pub ownRules : Bool → ℕ → ℕ → ℕ → ℕ → Bool → Lookup → List (Bool × ℕ)
 ownRules order room out route size zero k = ownBefore order room out route size zero ++ ownAfter k
 
+-- the age that it hands up
+abbrev pub ownAge : Station → List ℕ → List ℕ → ℕ → ℕ → Age
+ownAge s number text out route =
+    ageBehind (ownBefore (inOrder s) (s .room) out route (length text) (any (eqb 0) text))
+    (lookedUp s (numberIn number))
+
 unfoldable pub ownAnswer : Station → List ℕ → List ℕ → ℕ → ℕ → ℕ
 ownAnswer s number text out route =
     firstOf (ownRules (inOrder s) (s .room) out route (length text) (any (eqb 0) text) (lookedUp s (numberIn number)))
@@ -157,7 +166,31 @@ ownTaken limit s number text route =
 
 unfoldable pub asking : ℕ → Station → List ℕ → List ℕ → ℕ → List ℕ → Outcome
 asking limit s number text out route =
-    refusedOr (ownAnswer s number text out (length route)) s route (ownTaken limit s number text route)
+    handsUp (ownAge s number text out (length route))
+    (refusedOr (ownAnswer s number text out (length route)) s route (ownTaken limit s number text route))
+
+-- looking a number up (RULES 21.1), given whether the state is in order and what the look-up found: who asked, and how
+-- many were remembered after it; refused, nobody and none. The state is only read
+abbrev pub lookUpRules : Bool → Lookup → List (Bool × ℕ)
+lookUpRules order k = (not order, 1) ∷ (not (k .found), 10) ∷ []
+
+abbrev pub foundBy : ℕ → ℕ → Finding
+foundBy asker after = record { answer = 0; asker = asker; after = after }
+
+abbrev pub unfound : ℕ → Finding
+unfound n = record { answer = n; asker = nobodyAsked; after = 0 }
+
+abbrev pub pickFinding : Bool → Finding → Finding → Finding
+pickFinding true a b = a
+pickFinding false a b = b
+
+abbrev pub findingBy : Bool → Lookup → Finding
+findingBy order k =
+    pickFinding (eqb (firstOf (lookUpRules order k)) 0) (foundBy (k .asker) (k .after))
+    (unfound (firstOf (lookUpRules order k)))
+
+unfoldable pub lookingUp : Station → Number → Finding
+lookingUp s x = findingBy (inOrder s) (lookedUp s x)
 
 -- with the usual limit, and as a caller is told
 abbrev pub messageOutcome : Station → ℕ → List ℕ → Terms → List ℕ → Outcome

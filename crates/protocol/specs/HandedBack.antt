@@ -21,6 +21,7 @@ pub record HandedBack (h : Report) (o : Outcome) (n : ℕ) : Type 0 where
   pub delivered : h .delivered ≡ o .delivered
   pub textat : h .textat ≡ o .textat
   pub textlen : h .textlen ≡ o .textlen
+  pub age : h .age ≡ o .age
 
 -- both: a message uses nothing where its answer is 1 to 5, else its header and its payload; an own query uses no byte
 -- of a message

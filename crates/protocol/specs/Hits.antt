@@ -8,9 +8,9 @@ use Rattle.wire.specs.declared.Header.{Header}
 use Rattle.wire.specs.Header.{headerIn, payloadOf, numberOf, message, hitType}
 use Rattle.protocol.specs.declared.Line.{Line}
 use Rattle.protocol.specs.declared.Lookup.{Lookup}
-use Rattle.protocol.specs.Memory.{here, gone}
+use Rattle.protocol.specs.Memory.{here, gone, ageBehind}
 use Rattle.protocol.specs.State.{Change}
-use Rattle.protocol.specs.Outcomes.{Step, nobody, onlyTo, quiet, sends, delivers, refusedOr}
+use Rattle.protocol.specs.Outcomes.{Step, nobody, onlyTo, quiet, sends, delivers, handsUp, refusedOr}
 
 -- the checks, in order: those before the query's number is looked up, and those after; a hit of a query asked here is
 -- delivered before the last two
@@ -40,5 +40,7 @@ hitTaken x k m route =
 
 -- a hit by a line with this record, of whose number the look-up found k
 unfoldable pub hitStep : Line → Lookup → List ℕ → List ℕ → Step
-hitStep x k m route = refusedOr (firstOf (hitRules (headerIn m) k)) (record { line = x; taken = false }) route
-    (hitTaken x k m route)
+hitStep x k m route =
+    handsUp (ageBehind (hitBefore (headerIn m)) k)
+    (refusedOr (firstOf (hitRules (headerIn m) k)) (record { line = x; taken = false }) route
+    (hitTaken x k m route))

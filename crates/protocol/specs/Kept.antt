@@ -12,11 +12,12 @@ use Rattle.wire.specs.Header.{kindOf, routeUpdate}
 use Rattle.tables.specs.Tables.{marked, broken}
 use Rattle.protocol.specs.declared.Pong.{Pong}
 use Rattle.protocol.specs.declared.Line.{Line}
+use Rattle.protocol.specs.declared.Age.{Age}
 use Rattle.protocol.specs.State.{Station, remembered, lineAt, withLine}
 use Rattle.protocol.specs.Memory.{capacity, Number, Query, queriesIn, remember, left}
 use Rattle.protocol.specs.Lines.{lineCount, withTable, withPong, pongCapacity, storedPongs}
 use Rattle.protocol.specs.Order.{inOrder}
-use Rattle.protocol.specs.Outcomes.{Terms, Outcome, quiet}
+use Rattle.protocol.specs.Outcomes.{Terms, Outcome, quiet, handsUp}
 use Rattle.protocol.specs.Calls.{fresh, opening, closedState, closing, messageOutcome, ownOutcome}
 use Rattle.protocol.specs.Runs.{Call, World, run}
 use Rattle.protocol.specs.Frames.{LeftAsItWas, Bare, MarkedBroken}
@@ -88,9 +89,10 @@ BrokenInWords = (s : Station) (l : ℕ) → Sized s → l ≤ 7 → MarkedBroken
 abbrev pub afterRefusal : ℕ → Station → ℕ → List ℕ → Station
 afterRefusal n s l m = cond (marksBroken n m) (brokenAt s l) s
 
--- an outcome that is refused is `quiet`; the state that it leaves may depend on the answer
+-- an outcome that is refused is `quiet`, but for the age that it hands up; the state that it leaves may depend on the
+-- answer
 abbrev pub RefusedQuietly : Outcome → (ℕ → Station) → List ℕ → Type 0
-RefusedQuietly o s route = (o .answer ≡ 0 → ⊥) → o ≡ quiet (o .answer) (s (o .answer)) route
+RefusedQuietly o s route = (o .answer ≡ 0 → ⊥) → o ≡ handsUp (o .age) (quiet (o .answer) (s (o .answer)) route)
 
 pub record RefusalsLeave (s : Station) : Type 0 where
   pub opens : (l : ℕ) → RefusedQuietly (opening s l) (λ n. s) []
@@ -110,10 +112,11 @@ pub record FreshRefused (n : ℕ) : Type 0 where
   pub memory : remembered (fresh n .state) ≡ []
   pub order : inOrder (fresh n .state) ≡ true
 
--- `quietly` is what `quiet` comes to, here and for a state out of order
+-- `quietly` is what `quiet` comes to, here and for a state out of order, with whatever age
 pub record RefusalFrame : Type 0 where
   pub calls : (s : Station) → RefusalsLeave s
-  pub quietly : (n : ℕ) (s : Station) (route : List ℕ) → LeftAsItWas (quiet n s route) n s route
+  pub quietly : (n : ℕ) (a : Age) (s : Station) (route : List ℕ)
+      → LeftAsItWas (handsUp a (quiet n s route)) n s route
   pub freshRefused : (n : ℕ) → n < 32 → FreshRefused n
   pub freshTaken : (n : ℕ) → 32 ≤ n → (fresh n .answer ≡ 0) × (fresh n .state .room ≡ n / 8)
 

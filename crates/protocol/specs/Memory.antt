@@ -1,13 +1,15 @@
 -- The remembered queries: the last 512 (RULES 7.3), as a newest-first list over a ring.
 use Prim.Native.Nat.{ℕ, zero, suc, _+_, _%_, min}
+use mathlib.Core.Path.{_≡_}
 use mathlib.Core.Bool.{Bool, true, false, cond, not, _&&_, _||_}
 use mathlib.Core.List.{List, [], _∷_, map}
 use lib.Dec.{eqb, leb, ltb}
 use lib.ListN.{length, getD, set, take, drop}
-use Rattle.laws.specs.Tests.{any, every, all}
+use Rattle.laws.specs.Tests.{firstOf, any, every, all}
 use Rattle.laws.specs.Bytes.{little}
-use Rattle.laws.specs.Ring.{keptPlaces, onward}
+use Rattle.laws.specs.Ring.{keptPlaces, onward, ringPlace}
 use Rattle.protocol.specs.declared.Lookup.{Lookup}
+use Rattle.protocol.specs.declared.Age.{Age}
 use Rattle.protocol.specs.Lines.{lineCount}
 
 -- how many are remembered
@@ -62,6 +64,10 @@ queryAt q p = record { number = numberFrom (getD (q .lo) p 0) (getD (q .hi) p 0)
 unfoldable pub queriesIn : ℕ → Memory → List Query
 queriesIn n q = map (queryAt q) (keptPlaces n (q .next) (q .count))
 
+-- the place in a ring of n places of the query that stands behind `after` newer ones
+abbrev pub placeBehind : ℕ → Memory → ℕ → ℕ
+placeBehind n q after = ringPlace n (q .next) after
+
 -- looking a number up: how many were remembered after it, and its asker
 pub data Found : Type 0 where
   Absent : Found
@@ -96,6 +102,33 @@ askerOf (At n a) = a
 -- as the code hands it on, and the rules read it
 abbrev pub lookupOf : Found → Lookup
 lookupOf f = record { found = isFound f; after = afterOf f; asker = askerOf f }
+
+-- where a query is found, it stands: the look-up tells its place in the ring
+abbrev pub FoundThere : Type 0
+FoundThere =
+    (n : ℕ) (q : Memory) (x : Number) (after a : ℕ)
+    → find (queriesIn n q) x ≡ At after a
+    → queryAt q (placeBehind n q after) ≡ record { number = x; asker = a }
+
+-- The age of a query that was found (RULES 21): how many were remembered after it. 0 is an age, so a flag beside it
+-- says whether there is one
+abbrev pub noAge : Age
+noAge = record { known = false; after = 0 }
+
+abbrev pub ageAfter : ℕ → Age
+ageAfter n = record { known = true; after = n }
+
+abbrev pub pickAge : Bool → Age → Age → Age
+pickAge true a b = a
+pickAge false a b = b
+
+abbrev pub ageOf : Lookup → Age
+ageOf k = pickAge (k .found) (ageAfter (k .after)) noAge
+
+-- what is handed up by a call whose number is looked up behind these checks: none where one of them refuses, for then
+-- nothing was looked up, and none where nothing was found
+abbrev pub ageBehind : List (Bool × ℕ) → Lookup → Age
+ageBehind before k = pickAge (eqb (firstOf before) 0) (ageOf k) noAge
 
 -- one more is remembered, at the ring's next place; the oldest of n makes way
 unfoldable pub remember : ℕ → Memory → Number → ℕ → Memory

@@ -7,9 +7,10 @@ use lib.ListN.{length}
 use Rattle.laws.specs.Tests.{any}
 use Rattle.wire.specs.Header.{sizeOf}
 use Rattle.protocol.specs.declared.Own.{Own}
+use Rattle.protocol.specs.declared.Age.{Age}
 use Rattle.protocol.specs.declared.Report.{Report}
 use Rattle.protocol.specs.Lines.{eachLine}
-use Rattle.protocol.specs.Memory.{Number}
+use Rattle.protocol.specs.Memory.{Number, noAge}
 use Rattle.protocol.specs.State.{Station, Change, stateAfter}
 
 -- what a message or an own query brings besides: the caller's clock, what this station says of itself, and the length
@@ -23,8 +24,8 @@ abbrev pub termsOf : ℕ → Own → ℕ → Terms
 termsOf clock own out = record { clock = clock; own = own; out = out }
 
 -- the answer, what is left of the state, the lines sent to, the bytes written at the front of the output area, the
--- route area after the call, the text offered to the local search (its place and length in the message), and whether a
--- hit is delivered here
+-- route area after the call, the text offered to the local search (its place and length in the message), whether a hit
+-- is delivered here, and the age that is handed up
 pub record Result (S : Type 0) : Type 0 where
   pub answer : ℕ
   pub state : S
@@ -35,6 +36,7 @@ pub record Result (S : Type 0) : Type 0 where
   pub textat : ℕ
   pub textlen : ℕ
   pub delivered : Bool
+  pub age : Age
 
 -- a call leaves a whole state; what a message does by its type leaves a change of it
 abbrev pub Outcome : Type 0
@@ -53,9 +55,9 @@ onlyTo l = eachLine (eqb l)
 abbrev pub writtenFor : List Bool → List ℕ → List ℕ
 writtenFor to bytes = cond (any (λ b. b) to) bytes []
 
--- a result of its nine parts, in their order: every constructor below is made by this one
-abbrev made : {S : Type 0} → ℕ → S → List Bool → List ℕ → List ℕ → Bool → ℕ → ℕ → Bool → Result S
-made answer state to sent route search textat textlen delivered =
+-- a result of its ten parts, in their order: every constructor below is made by this one
+abbrev made : {S : Type 0} → ℕ → S → List Bool → List ℕ → List ℕ → Bool → ℕ → ℕ → Bool → Age → Result S
+made answer state to sent route search textat textlen delivered age =
     record {
       answer = answer;
       state = state;
@@ -66,24 +68,32 @@ made answer state to sent route search textat textlen delivered =
       textat = textat;
       textlen = textlen;
       delivered = delivered;
+      age = age;
     }
 
 module _ {S : Type 0} where
-  -- answered n, and nothing is sent, searched or delivered
+  -- answered n, and nothing is sent, searched, delivered or handed up
   abbrev pub quiet : ℕ → S → List ℕ → Result S
-  quiet n s route = made n s nobody [] route false 0 0 false
+  quiet n s route = made n s nobody [] route false 0 0 false noAge
 
   -- the same, and these bytes are sent to these lines
   abbrev pub sends : List Bool → List ℕ → Result S → Result S
-  sends to bytes r = made (r .answer) (r .state) to bytes (r .route) (r .search) (r .textat) (r .textlen) (r .delivered)
+  sends to bytes r =
+      made (r .answer) (r .state) to bytes (r .route) (r .search) (r .textat) (r .textlen) (r .delivered) (r .age)
 
   -- the same, and the text at this place of the message is offered to the local search
   abbrev pub searches : ℕ → ℕ → Result S → Result S
-  searches at n r = made (r .answer) (r .state) (r .to) (r .sent) (r .route) true at n (r .delivered)
+  searches at n r = made (r .answer) (r .state) (r .to) (r .sent) (r .route) true at n (r .delivered) (r .age)
 
   -- the same, and whether the hit is delivered here
   abbrev pub delivers : Bool → Result S → Result S
-  delivers b r = made (r .answer) (r .state) (r .to) (r .sent) (r .route) (r .search) (r .textat) (r .textlen) b
+  delivers b r =
+      made (r .answer) (r .state) (r .to) (r .sent) (r .route) (r .search) (r .textat) (r .textlen) b (r .age)
+
+  -- the same, and this age is handed up
+  abbrev pub handsUp : Age → Result S → Result S
+  handsUp age r =
+      made (r .answer) (r .state) (r .to) (r .sent) (r .route) (r .search) (r .textat) (r .textlen) (r .delivered) age
 
   abbrev pub pickResult : Bool → Result S → Result S → Result S
   pickResult true a b = a
@@ -95,7 +105,8 @@ module _ {S : Type 0} where
 
   -- the same with another state
   abbrev pub leaving : {T : Type 0} → T → Result S → Result T
-  leaving t r = made (r .answer) t (r .to) (r .sent) (r .route) (r .search) (r .textat) (r .textlen) (r .delivered)
+  leaving t r =
+      made (r .answer) t (r .to) (r .sent) (r .route) (r .search) (r .textat) (r .textlen) (r .delivered) (r .age)
 
   -- as a caller is told it, with the bytes used; the output and route areas are handed back in place
   abbrev pub reportOf : Result S → ℕ → Report
@@ -109,6 +120,7 @@ module _ {S : Type 0} where
         delivered = r .delivered;
         textat = r .textat;
         textlen = r .textlen;
+        age = r .age;
       }
 
 -- what a message with this number by line l does, stored

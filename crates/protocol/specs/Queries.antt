@@ -12,9 +12,10 @@ use Rattle.tables.specs.Tables.{Held}
 use Rattle.tables.specs.Admission.{withholds}
 use Rattle.protocol.specs.declared.Line.{Line}
 use Rattle.protocol.specs.declared.Lookup.{Lookup}
+use Rattle.protocol.specs.Memory.{ageBehind}
 use Rattle.protocol.specs.Lines.{isOther, eachLine, lineIn, heldFor}
 use Rattle.protocol.specs.State.{Change}
-use Rattle.protocol.specs.Outcomes.{Step, quiet, sends, searches, refusedOr, writtenFor}
+use Rattle.protocol.specs.Outcomes.{Step, quiet, sends, searches, handsUp, refusedOr, writtenFor}
 
 -- the usual life
 abbrev pub usualLimit : ℕ
@@ -85,9 +86,10 @@ queryTaken limit room lines l m route =
 -- an arriving query by line l, of whose number the look-up found k
 unfoldable pub queryStep : ℕ → ℕ → List Line → ℕ → Lookup → List ℕ → List ℕ → Step
 queryStep limit room lines l k m route =
-    refusedOr (firstOf (queryRules limit (headerIn m) (hasText (payloadOf m)) k))
+    handsUp (ageBehind (queryBefore limit (headerIn m) (hasText (payloadOf m))) k)
+    (refusedOr (firstOf (queryRules limit (headerIn m) (hasText (payloadOf m)) k))
     (record { line = lineIn lines l; taken = false }) route
-    (queryTaken limit room lines l m route)
+    (queryTaken limit room lines l m route))
 
 -- own queries: TTL the limit, Hops 0, speed 0, to every line that is open and lets it pass (RULES 8)
 abbrev pub ownPayload : List ℕ → List ℕ

@@ -77,9 +77,27 @@ pub struct Lookup {
     pub asker: u8,
 }
 
+// The age of a query: whether its number was looked up and found, and how many queries were remembered after it, which
+// is 0 for the newest, and where there is no age.
+#[repr(C)]
+pub struct Age {
+    pub known: bool,
+    pub after: usize,
+}
+
+// What a caller is told of a look-up: the answer, who asked, and how many queries were remembered after it. Refused, it
+// tells of nobody, and of none.
+#[repr(C)]
+pub struct Finding {
+    pub answer: u8,
+    pub asker: u8,
+    pub after: usize,
+}
+
 // What a caller is told of a message or an own query: the answer, the bytes it used of the message and wrote to the
 // output area, the lines to send those to, whether a query is offered to the local search (with its text's place and
-// length in the message), and whether a hit is delivered here.
+// length in the message), whether a hit is delivered here, and the age of the query that a hit answers or a query
+// repeats, where that was found.
 #[repr(C)]
 pub struct Report {
     pub answer: u8,
@@ -90,4 +108,5 @@ pub struct Report {
     pub delivered: bool,
     pub textat: usize,
     pub textlen: usize,
+    pub age: Age,
 }

@@ -12,17 +12,19 @@ use Rattle.laws.proofs.Rings.{map-map}
 use Rattle.wire.specs.Header.{headerIn, payloadOf, pingType, pongType, routeUpdate, queryType, hitType}
 use Rattle.protocol.specs.declared.Line.{Line}
 use Rattle.protocol.specs.declared.Lookup.{Lookup}
+use Rattle.protocol.specs.declared.Age.{Age}
 use Rattle.protocol.specs.Lines.{lineIn, nowhere, emptyLine, storedPongs}
-use Rattle.protocol.specs.Memory.{capacity, memoryInOrder, numberIn}
+use Rattle.protocol.specs.Memory.{capacity, memoryInOrder, numberIn, ageBehind}
 use Rattle.protocol.specs.State.{Station, stationOf, lineAt, withLine, remembered, lookedUp}
 use Rattle.protocol.specs.Order.{lineInOrder, inOrder}
-use Rattle.protocol.specs.Outcomes.{Terms, Result, Outcome, Step, pickResult, refusedOr, leaving, quiet}
-use Rattle.protocol.specs.Queries.{usualLimit, hasText, queryRules, queryStep}
-use Rattle.protocol.specs.Hits.{hitRules, hitStep}
+use Rattle.protocol.specs.Outcomes.{Terms, Result, Outcome, Step, pickResult, refusedOr, handsUp, leaving, quiet}
+use Rattle.protocol.specs.Queries.{usualLimit, hasText, queryBefore, queryRules, queryStep}
+use Rattle.protocol.specs.Hits.{hitBefore, hitRules, hitStep}
 use Rattle.protocol.specs.Pings.{isProbe, timeKept, walk, pongsSent, pingRules, pingTaken, pingStep}
 use Rattle.protocol.specs.Pings.{pongRules, pongStep}
 use Rattle.protocol.specs.Calls.{openingRules, opening, closedState, closingRules, closing}
-use Rattle.protocol.specs.Calls.{early, updateStep, byType, arrived, arriving, ownAnswer, ownTaken, asking}
+use Rattle.protocol.specs.Calls.{early, updateStep, byType, arrived, arriving, ownAge, ownAnswer, ownTaken}
+use Rattle.protocol.specs.Calls.{asking}
 use Rattle.protocol.specs.Runs.{Call, Open, Close, Message, Ask, World, lent, step, run}
 use Rattle.protocol.proofs.Outcomes.{of-pick, stored-again, earlyIn, ownIn}
 use Rattle.receiving.specs.Feeding.{holding, shutLine, onLine, dropped}
@@ -123,6 +125,10 @@ module _ (lines : List Line) where
         (refusedOr n (record { line = x; taken = false }) route r)
     refused-alike n route a = pick-both Alike (eqb n 0) a (record { bare = refl; held = refl })
 
+    -- with an age
+    aged-alike : (a : Age) {r′ r : Step} → Alike r′ r → Alike (handsUp a r′) (handsUp a r)
+    aged-alike a e = record { bare = ap (handsUp a) (e .bare); held = e .held }
+
     -- each type of message
     ping-taken : (t : Terms) (m route : List ℕ) → Alike (pingTaken bared l t m route) (pingTaken lines l t m route)
     unfolding pongsSent
@@ -152,13 +158,15 @@ module _ (lines : List Line) where
     unfolding queryStep
     query-alike limit room k m route =
         rw (bare-in lines l)
+        (aged-alike (ageBehind (queryBefore limit (headerIn m) (hasText (payloadOf m))) k)
         (refused-alike (firstOf (queryRules limit (headerIn m) (hasText (payloadOf m)) k)) route
-        (record { bare = simp (bare-in lines); held = refl }))
+        (record { bare = simp (bare-in lines); held = refl })))
 
     hit-alike : (k : Lookup) (m route : List ℕ) → Alike (hitStep (bareLine x) k m route) (hitStep x k m route)
     unfolding hitStep
     hit-alike k m route =
-        refused-alike (firstOf (hitRules (headerIn m) k)) route (record { bare = refl; held = refl })
+        aged-alike (ageBehind (hitBefore (headerIn m)) k)
+        (refused-alike (firstOf (hitRules (headerIn m) k)) route (record { bare = refl; held = refl }))
 
     types-alike : (limit room : ℕ) (k : Lookup) (m : List ℕ) (t : Terms) (route : List ℕ)
         → Alike (byType limit room bared l k m t route) (byType limit room lines l k m t route)
@@ -229,8 +237,9 @@ module _ (s : Station) where
     unfolding asking ownAnswer
     own-bare =
         rw (order-bare s)
+        (ap (handsUp (ownAge s number text out (length route)))
         (refused-bare (firstOf (ownIn s number text out (length route))) route (ownTaken limit s number text route)
-        (simp (bare-at s)))
+        (simp (bare-at s))))
 
     own-held : SamePending s (asking limit s number text out route .state)
     unfolding asking

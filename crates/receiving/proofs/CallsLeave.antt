@@ -20,7 +20,7 @@ use Rattle.protocol.specs.declared.Line.{Line}
 use Rattle.protocol.specs.Lines.{nowhere, withPending}
 use Rattle.protocol.specs.State.{Station, stationOf, lineAt, withLine}
 use Rattle.protocol.specs.Order.{inOrder}
-use Rattle.protocol.specs.Outcomes.{Terms, quiet}
+use Rattle.protocol.specs.Outcomes.{Terms, quiet, handsUp}
 use Rattle.protocol.specs.Calls.{messageOutcome}
 use Rattle.protocol.specs.Kept.{sizedLine, Sized, Kept, afterRefusal}
 use Rattle.protocol.proofs.Outcomes.{stored-again}
@@ -163,8 +163,8 @@ module _ (s : Station) (l : ℕ) (bytes held : List ℕ) (t : Terms) (route : Li
             (λ f. (f .result ≡ quiet 5 (onLine shutLine l s) route) × (f .held ≡ held))
             (λ _ _ _. (refl, refl));
         refused = of-whole s l bytes held t route
-            (λ f. (f .result .answer ≡ 0 → ⊥) → f .result ≡ quiet (f .result .answer)
-            (onLine (holding 0) l (afterRefusal (f .result .answer) s l (frontOf j))) route)
+            (λ f. (f .result .answer ≡ 0 → ⊥) → f .result ≡ handsUp (f .result .age) (quiet (f .result .answer)
+            (onLine (holding 0) l (afterRefusal (f .result .answer) s l (frontOf j))) route))
             (λ _ _ _ _ n. ap (dropped l) (refusal-frame .calls s .message l (frontOf j) t route n));
         long = held-within .long;
         front = held-within .front;

@@ -64,7 +64,7 @@ module _ (s : Station) (limit l : ℕ) (m : List ℕ) (t : Terms) (route : List 
   unfolding updateStep
   message-lives =
       of-message Lives s l m route limit t (λ _ _. same-lives s)
-      (λ _. of-types Lives s l m route (λ _ _. same-lives s) limit t
+      (λ _. of-types Lives s l m route (λ _ _ _. same-lives s) limit t
       (λ _ _. lives-set s l _
       (of-choice (λ (x : Line). x .live ≡ lineAt s l .live) (isProbe (headerIn m)) _ _ (λ _. refl) (λ _. refl)))
       (λ _ _. lives-set s l _ refl)

@@ -11,7 +11,7 @@ use Rattle.laws.specs.Tests.{firstOf}
 use Rattle.wire.specs.Header.{sizeOf}
 use Rattle.protocol.specs.State.{Station, lineAt}
 use Rattle.protocol.specs.Order.{inOrder}
-use Rattle.protocol.specs.Outcomes.{Terms, Outcome, quiet}
+use Rattle.protocol.specs.Outcomes.{Terms, Outcome, quiet, handsUp}
 use Rattle.protocol.specs.Blind.{typeRules, unnamed}
 use Rattle.protocol.specs.Kept.{Sized, Kept, afterRefusal}
 use Rattle.receiving.specs.Feeding.{Fed, feedRules, starts, heldBytes, joined, frontOf, holding, shutLine, onLine, waiting}
@@ -87,12 +87,12 @@ module _ (s : Station) (l : ℕ) (bytes held : List ℕ) (t : Terms) (route : Li
         × (take (heldCount + length bytes) (fed .held) ≡ inAll)
     -- 5: the line is shut, and holds nothing
     pub over : fed .result .answer ≡ 5 → (fed .result ≡ quiet 5 (onLine shutLine l s) route) × (fed .held ≡ held)
-    -- any other refusal: what document 01 allows, and the line holds nothing
+    -- any other refusal: what document 01 allows, and the line holds nothing; an age may be handed up
     pub refused : fed .waits ≡ false → unread (fed .result .answer) ≡ false
         → (fed .result .answer ≡ 5 → ⊥) → (fed .result .answer ≡ 0 → ⊥)
         → fed .result
-        ≡ quiet (fed .result .answer)
-        (onLine (holding 0) l (afterRefusal (fed .result .answer) s l (frontOf inAll))) route
+        ≡ handsUp (fed .result .age) (quiet (fed .result .answer)
+        (onLine (holding 0) l (afterRefusal (fed .result .answer) s l (frontOf inAll))) route)
     -- the held area keeps its length, and the bytes that were held
     pub long : length (fed .held) ≡ length held
     pub front : take heldCount (fed .held) ≡ take heldCount held

@@ -140,7 +140,7 @@ module _ (s : Station) (L : ℕ) (area : List ℕ) (w : Listening s L area) wher
     module _ (taken : answerTo (s .room) (heldAt s L area) m ≡ 0) where
       pub left-taken : Taken left
       unfolding updateStep
-      left-taken = (taken, quiet-silent _ _ _)
+      left-taken = (taken, quiet-silent _ _ _ _)
 
       used-whole : (x : List ℕ) (t : Terms) → 4119 ≤ t .out → messageReport s L (m ++ x) t area .used ≡ length m
       unfolding updateStep
