@@ -5,12 +5,13 @@ ghost use mathlib.Core.Path.{_≡_};
 ghost use Prim.Native.Nat.{_%_};
 ghost use mathlib.Core.Bool.{false};
 ghost use lib.ListN.{length, set, getD};
-ghost use Rattle.protocol.specs.Memory.{memoryOf, numberFrom, capacity, memoryInOrder, queriesIn, find, lookupOf};
+ghost use Rattle.protocol.specs.Memory.{memoryOf, numberFrom, numberIn, capacity, memoryInOrder, queriesIn};
+ghost use Rattle.protocol.specs.Memory.{find, lookupOf};
 ghost use Rattle.protocol.specs.Lines.{livesIn};
 ghost use Rattle.protocol.specs.State.{stationOf};
 ghost use Rattle.protocol.specs.Order.{inOrder};
 ghost use Rattle.protocol.specs.Outcomes.{termsOf};
-ghost use Rattle.protocol.specs.Calls.{fresh, opening, closing};
+ghost use Rattle.protocol.specs.Calls.{fresh, opening, closing, lookingUp};
 ghost use Rattle.receiving.specs.Feeding.{feedOutcome};
 ghost use Rattle.station.specs.Calls.{MessageMet, OwnMet, Changed};
 ghost use Rattle.station.specs.Feeding.{FeedMet};
@@ -22,10 +23,12 @@ use memory::leave::leave;
 use memory::order::survey;
 use memory::remember::fresh;
 use memory::remember::remember;
+use protocol::Finding;
 use protocol::HERE;
 use protocol::Line;
 use protocol::Own;
 use protocol::Report;
+use refusals::ages::look_up;
 use station::asking::ask;
 use station::changes::Beginning;
 use station::changes::LineChange;
@@ -265,6 +268,31 @@ pub extern "C" fn lunozhar_ask_lent(
     let taken = report.answer == 0;
     remember(lo, hi, asker, count, next, taken, h.lo, h.hi, HERE);
     report
+}
+
+// A number is looked up: who asked, and how many queries were remembered after it.
+#[no_mangle]
+pub extern "C" fn lunozhar_look_up_lent<'a>(
+    lo: &'a [u64; 512],
+    hi: &'a [u64; 512],
+    asker: &'a [u8; 512],
+    count: usize,
+    next: usize,
+    room: usize,
+    lines: Lines,
+    number: Number,
+) -> Finding
+    ensures { λ r.
+        let s = stationOf room (lines .at) (memoryOf (now (lo .entry)) (now (hi .entry)) (now (asker .entry)) count next) in
+        ⌜ r ≡ lookingUp s (numberIn (number .bytes)) ⌝ }
+{
+    let at = lines.at;
+    let bytes = number.bytes;
+    let h = read_header(&bytes);
+    let s = survey_ring(lo, hi, asker, count, next, at, h.lo, h.hi);
+    let known = s.known;
+    let order = in_order(s.order, room, at);
+    look_up(order, known)
 }
 
 // Whether a station is in order.

@@ -23,12 +23,14 @@ use Rattle.tables.specs.Tables.{Held, heldIn}
 use Rattle.tables.specs.Updates.{updateAnswer, updated, answered, partWith}
 use Rattle.protocol.specs.declared.Line.{Line}
 use Rattle.protocol.specs.declared.Lookup.{Lookup}
+use Rattle.protocol.specs.declared.Age.{Age}
 use Rattle.protocol.specs.declared.Report.{Report}
+use Rattle.protocol.specs.Memory.{noAge, ageAfter, pickAge, ageBehind}
 use Rattle.protocol.specs.Lines.{lineIn, withTable, partOf, heldFor}
-use Rattle.protocol.specs.Outcomes.{Step, onlyTo, writtenFor, refusedOr}
-use Rattle.protocol.specs.Queries.{untilZero, textIn, hasText, queryOn, queryRules, lifeOf, queryTo, queryLines}
-use Rattle.protocol.specs.Queries.{queryTaken, queryStep}
-use Rattle.protocol.specs.Hits.{hitOn, hitRules, hitTaken, hitStep}
+use Rattle.protocol.specs.Outcomes.{Step, onlyTo, writtenFor, handsUp, refusedOr}
+use Rattle.protocol.specs.Queries.{untilZero, textIn, hasText, queryOn, queryBefore, queryRules, lifeOf, queryTo}
+use Rattle.protocol.specs.Queries.{queryLines, queryTaken, queryStep}
+use Rattle.protocol.specs.Hits.{hitOn, hitBefore, hitRules, hitTaken, hitStep}
 use Rattle.protocol.specs.Calls.{updateStep}
 use Rattle.protocol.proofs.Updates.{updated-within}
 use Rattle.forwarding.specs.Messages.{passable, passedOn, countIf, writtenIf, passedInto}
@@ -39,7 +41,9 @@ use Rattle.forwarding.proofs.MessageLaws.{query-bytes, hit-bytes}
 use Rattle.forwarding.proofs.TextLaws.{until-stops}
 use Rattle.station.specs.declared.actions.Action.{Action}
 use Rattle.station.specs.declared.lines.View.{View}
-use Rattle.station.specs.Actions.{actionOf, viewOf, quietReport, quietAction, Does, Sendable}
+use Rattle.station.specs.Actions.{actionOf, viewOf, quietReport, quietAction, agedAction, Does}
+use Rattle.station.specs.Actions.{Sendable}
+use Rattle.station.proofs.AgeLaws.{repeat-is, does-aged}
 
 -- ---- a step that is picked by its number
 
@@ -176,6 +180,7 @@ sentIn q w to =
       delivered = q .delivered;
       textat = q .textat;
       textlen = q .textlen;
+      age = q .age;
     }
 
 abbrev deliveredIn : Report → Report
@@ -189,6 +194,7 @@ deliveredIn q =
       delivered = true;
       textat = q .textat;
       textlen = q .textlen;
+      age = q .age;
     }
 
 pub record Goes (h : Header) : Type 0 where
@@ -207,42 +213,53 @@ module _ (h : Header) (k : Lookup) {a : ℕ} (e : a ≡ firstOf (hitRules h k)) 
       }
 
 module _ (x : Line) (h : Header) (k : Lookup) (m area out : List ℕ) (p : Sendable h hitType m (length out)) {a : ℕ}
-    (e : a ≡ firstOf (hitRules h k)) where
+    (e : a ≡ firstOf (hitRules h k)) {age : Age} (eage : age ≡ ageBehind (hitBefore h) k) where
   hit-number : a ≡ firstOf (hitRules (headerIn m) k)
   hit-number = e ∙ ap (λ (h : Header). firstOf (hitRules h k)) (p .message .header)
 
-  pub hit-refused : {act : Action} → (a ≡ 0 → ⊥) → act ≡ quietAction a x → Does (hitStep x k m area) act out out
+  hit-age : age ≡ ageBehind (hitBefore (headerIn m)) k
+  hit-age = eage ∙ ap (λ (h : Header). ageBehind (hitBefore h) k) (p .message .header)
+
+  -- what a hit does, with the age that was handed up
+  hit-aged : {act : Action} {out′ : List ℕ}
+      → Does (picked (firstOf (hitRules (headerIn m) k)) x area (hitTaken x k m area)) act out out′
+      → Does (hitStep x k m area) (agedAction age act) out out′
   unfolding hitStep
-  hit-refused z ea = step-refused _ x area (hitTaken x k m area) out hit-number z ea
+  hit-aged {act} {out′} d =
+      subst (λ b. Does (handsUp b (picked (firstOf (hitRules (headerIn m) k)) x area (hitTaken x k m area)))
+      (agedAction age act) out out′) hit-age (does-aged age d)
+
+  pub hit-refused : {act : Action} → (a ≡ 0 → ⊥) → act ≡ agedAction age (quietAction a x)
+      → Does (hitStep x k m area) act out out
+  hit-refused z ea = rw ea (hit-aged (step-refused _ x area (hitTaken x k m area) out hit-number z refl))
 
   module _ (z : a ≡ 0) {q : Report} (eq : q ≡ quietReport 0) where
     pub hit-here : k .asker ≡ 8 → Does (hitStep x k m area)
-        (record { report = deliveredIn q; line = x; remember = false }) out out
-    unfolding hitStep
+        (agedAction age (record { report = deliveredIn q; line = x; remember = false })) out out
     hit-here f =
         let t = eq-eqb (k .asker) 8 f in
-        step-taken _ x area (hitTaken x k m area) out hit-number z
+        hit-aged (step-taken _ x area (hitTaken x k m area) out hit-number z
         (record {
           action = ap (λ (q : Report). record { report = deliveredIn q; line = x; remember = false }) eq ∙ rw t;
           output = rw t;
-        })
+        }))
 
     pub hit-on : {w : ℕ} {to : List Bool} {out′ : List ℕ} → (k .asker ≡ 8 → ⊥) → ((i : ℕ) → getD m i 0 < 256)
         → w ≡ countIf (passable m (23 + h .size) out) (23 + h .size) → to ≡ onlyTo (k .asker)
         → out′ ≡ passedInto m (23 + h .size) (h .ttl - 1) (h .hops + 1) out
-        → Does (hitStep x k m area) (record { report = sentIn q w to; line = x; remember = false }) out out′
-    unfolding hitStep
+        → Does (hitStep x k m area) (agedAction age (record { report = sentIn q w to; line = x; remember = false }))
+        out out′
     hit-on {w} {to} f bytes ew et eo =
         let t = ne-eqb (k .asker) 8 f in
         let eb = hit-bytes m (p .message .whole) bytes (kind-is m out p) in
         let ends =
         ap (λ (j : Header). passedInto m (23 + h .size) (j .ttl - 1) (j .hops + 1) out) (p .message .header) in
-        step-taken _ x area (hitTaken x k m area) out hit-number z
+        hit-aged (step-taken _ x area (hitTaken x k m area) out hit-number z
         (record {
           action = ap (λ (q : Report). record { report = sentIn q w to; line = x; remember = false }) eq
               ∙ rw (t, pass-count m out p _ _ eb ew, et);
           output = rw t (pass-bytes m out p _ _ eb (eo ∙ ends));
-        })
+        }))
 
 -- ---- a query's text, its life and its lines
 
@@ -318,6 +335,7 @@ searchedIn q w to n =
       delivered = q .delivered;
       textat = 25;
       textlen = n;
+      age = q .age;
     }
 
 module _ (limit room : ℕ) (lines : List Line) (l : ℕ) (m route out : List ℕ) where
@@ -352,13 +370,32 @@ module _ (limit room l : ℕ) (v : View) (h : Header) (k : Lookup) (m out route 
       ∙ ap₂ (λ (h : Header) b. firstOf (queryRules limit h b k)) (p .message .header)
       (asked-ended m (h .size) (size-is m out p) t et)
 
+  -- the age, read off the answer
+  query-age : pickAge (eqb a 9) (ageAfter (k .after)) noAge
+      ≡ ageBehind (queryBefore limit (headerIn m) (hasText (payloadOf m))) k
+  query-age =
+      ap (λ n. pickAge (eqb n 9) (ageAfter (k .after)) noAge) query-number
+      ∙ repeat-is k ((eqb (hopsOf m) 255, 12) ∷ []) refl (queryBefore limit (headerIn m) (hasText (payloadOf m))) refl
+
   module _ (lines : List Line) (ev : v ≡ viewOf lines room l) where
-    pub query-refused : {act : Action} → (a ≡ 0 → ⊥) → act ≡ quietAction a (v .line)
-        → Does (queryStep limit room lines l k m route) act out out
+    -- what a query does, with the age that was handed up
+    query-aged : {age : Age} → age ≡ pickAge (eqb a 9) (ageAfter (k .after)) noAge → {act : Action} {out′ : List ℕ}
+        → Does (picked (firstOf (queryRules limit (headerIn m) (hasText (payloadOf m)) k)) (lineIn lines l) route
+        (queryTaken limit room lines l m route)) act out out′
+        → Does (queryStep limit room lines l k m route) (agedAction age act) out out′
     unfolding queryStep
-    query-refused z ea =
-        step-refused _ (lineIn lines l) route (queryTaken limit room lines l m route) out query-number z
-        (ea ∙ ap (λ (v : View). quietAction a (v .line)) ev)
+    query-aged {age} eage {act} {out′} d =
+        subst (λ b. Does (handsUp b (picked (firstOf (queryRules limit (headerIn m) (hasText (payloadOf m)) k))
+        (lineIn lines l) route (queryTaken limit room lines l m route))) (agedAction age act) out out′)
+        (eage ∙ query-age) (does-aged age d)
+
+    pub query-refused : {act : Action} {age : Age} → (a ≡ 0 → ⊥)
+        → age ≡ pickAge (eqb a 9) (ageAfter (k .after)) noAge → act ≡ agedAction age (quietAction a (v .line))
+        → Does (queryStep limit room lines l k m route) act out out
+    query-refused z eage ea =
+        rw ea (query-aged eage
+        (step-refused _ (lineIn lines l) route (queryTaken limit room lines l m route) out query-number z
+        (ap (λ (v : View). quietAction a (v .line)) ev)))
 
     -- the lines it goes on to, what is written, and how much
     module _ (z : a ≡ 0) {life : ℕ} (el : life ≡ min (h .ttl) (limit - h .hops)) {to : List Bool}
@@ -400,12 +437,12 @@ module _ (limit room l : ℕ) (v : View) (h : Header) (k : Lookup) (m out route 
       pub query-passed : {q : Report} → q ≡ quietReport 0
           → Does (queryStep limit room lines l k m route)
           (record { report = searchedIn q w to (t .length); line = v .line; remember = true }) out out′
-      unfolding queryStep
-      query-passed eq =
-          step-taken _ (lineIn lines l) route (queryTaken limit room lines l m route) out query-number z
+      query-passed {q} eq =
+          query-aged (ap (λ (q : Report). q .age) eq ∙ rw z)
+          (step-taken _ (lineIn lines l) route (queryTaken limit room lines l m route) out query-number z
           (query-done limit room lines l m route out eq (ap (λ (v : View). v .line) ev) to-is
           (ew ∙ ap (λ b. cond b (countIf (passable m (23 + h .size) out) (23 + h .size)) 0) some-is
           ∙ count-by (any (λ b. b) (queryLines limit room lines l m route)))
           (asked-length m (h .size) (size-is m out p) t et)
           (eo ∙ ap (λ b. cond b (passedInto m (23 + h .size) (life - 1) (h .hops + 1) out) out) some-is
-          ∙ bytes-by (any (λ b. b) (queryLines limit room lines l m route))))
+          ∙ bytes-by (any (λ b. b) (queryLines limit room lines l m route)))))

@@ -31,9 +31,14 @@ use Rattle.wire.specs.Header.{
 }
 use Rattle.protocol.specs.declared.Line.{Line}
 use Rattle.protocol.specs.declared.Lookup.{Lookup}
+use Rattle.protocol.specs.declared.Age.{Age}
 use Rattle.protocol.specs.declared.Report.{Report}
 use Rattle.protocol.specs.Memory.{
   Memory,
+  noAge,
+  ageAfter,
+  pickAge,
+  ageBehind,
   memoryOf,
   capacity,
   here,
@@ -56,7 +61,7 @@ use Rattle.protocol.specs.Lines.{lineIn, livesIn, nowhere, emptyLine, withPong}
 use Rattle.protocol.specs.State.{Station, Change, stationOf, lookedUp, lineAt, withLine, withMemory, stateAfter}
 use Rattle.protocol.specs.Order.{linesInOrder, inOrder}
 use Rattle.protocol.specs.Outcomes.{Terms, Result, Outcome, Step, quiet, sends, writtenFor, pickResult, refusedOr}
-use Rattle.protocol.specs.Outcomes.{stored, unused, usedOf}
+use Rattle.protocol.specs.Outcomes.{handsUp, stored, unused, usedOf}
 use Rattle.protocol.specs.Queries.{usualLimit, hasText, queryRules, queryTaken, queryStep, ownTo, ownLines, ownBytes}
 use Rattle.protocol.specs.Hits.{hitStep, hitRules, hitTaken}
 use Rattle.protocol.specs.Pings.{pingStep, pingRules, pingTaken, pongStep, pongRules, arrivedPong}
@@ -82,7 +87,9 @@ use Rattle.protocol.specs.Calls.{
   arrived,
   arriving,
   messageOutcome,
+  ownBefore,
   ownRules,
+  ownAge,
   ownAnswer,
   asking,
   ownTaken,
@@ -95,10 +102,13 @@ use Rattle.forwarding.specs.Passing.{heldOf}
 use Rattle.station.specs.declared.lines.View.{View}
 use Rattle.station.specs.declared.changes.LineChange.{LineChange}
 use Rattle.station.specs.declared.changes.Beginning.{Beginning}
-use Rattle.station.specs.Actions.{actionOf, viewOf, quietReport, quietAction, Does, Whole, Fit, acting}
+use Rattle.station.specs.Actions.{actionOf, viewOf, quietReport, quietAction, agedReport, Does}
+use Rattle.station.specs.Actions.{Fit, acting}
 use Rattle.station.specs.Calls.{Met, OwnMet, Changed, bothInOrder, changedBy, openedBy, closedBy, firstRefusal}
-use Rattle.station.specs.Calls.{arrivalStep, Handed, MessageMet, ownAnswerBy, ownQuerySent, Sends, begunOver}
+use Rattle.station.specs.Calls.{arrivalStep, Handed, MessageMet, ownAnswerBy, ownAgeBy, ownQuerySent, Sends}
+use Rattle.station.specs.Calls.{begunOver}
 use Rattle.station.specs.Feeding.{usedBy}
+use Rattle.station.proofs.AgeLaws.{repeat-is}
 use Rattle.station.proofs.ActionLaws.{sentIn, step-refused}
 
 -- ---- what a message does by its type
@@ -613,32 +623,46 @@ own-first order known room lines text out route ev ez en =
     ∙ rw ez (ap (λ (v : View). firstOf (ownRules (order && v .order) room out route (length text)
     (any (eqb 0) text) known)) ev)
 
--- answered so, and answered as the definition has it
-pub answered-as : (room : ℕ) (lines : List Line) (number text route out : List ℕ) {n k : ℕ} → n ≡ k → {r : Report}
-    {out′ : List ℕ} → Sends (ownQuerySent usualLimit n room lines number text route) r out out′
-    → Sends (ownQuerySent usualLimit k room lines number text route) r out out′
-answered-as room lines number text route out e {r} {out′} d =
-    subst (λ n. Sends (ownQuerySent usualLimit n room lines number text route) r out out′) e d
+-- answered so, with an age that is read off the answer, and as the definition has both
+pub answered-as : (order : Bool) (known : Lookup) (room : ℕ) (lines : List Line) (number text route out : List ℕ)
+    {n : ℕ} → n ≡ ownAnswerBy order known room lines text (length out) (length route)
+    → {age : Age} → age ≡ pickAge (eqb n 9) (ageAfter (known .after)) noAge
+    → {r : Report} {out′ : List ℕ} → Sends (ownQuerySent usualLimit n room lines number text route) r out out′
+    → Sends (handsUp (ownAgeBy order known room lines text (length out) (length route))
+    (ownQuerySent usualLimit (ownAnswerBy order known room lines text (length out) (length route)) room lines number
+    text route)) (agedReport age r) out out′
+answered-as order known room lines number text route out {n} e {age} eage {r} {out′} d =
+    let before = ownBefore (bothInOrder order room lines) room (length out) (length route) (length text)
+    (any (eqb 0) text) in
+    let aged : age ≡ ageBehind before known =
+    eage ∙ ap (λ k. pickAge (eqb k 9) (ageAfter (known .after)) noAge) e ∙ repeat-is known [] refl before refl in
+    subst (λ b. Sends (handsUp b (ownQuerySent usualLimit (ownAnswerBy order known room lines text (length out)
+    (length route)) room lines number text route)) (agedReport age r) out out′) aged
+    (subst (λ k. Sends (handsUp age (ownQuerySent usualLimit k room lines number text route)) (agedReport age r) out
+    out′) e (record { report = ap (agedReport age) (d .report); output = d .output }))
 
 module _ (room : ℕ) (lines : List Line) (q : Memory) (number text route out : List ℕ) where
   abbrev asked : Station
   asked = state room lines q
 
-  own-done : {n : ℕ} → n ≡ ownAnswer asked number text (length out) (length route) → {r : Report} {out′ : List ℕ}
-      → Sends (ownQuerySent usualLimit n room lines number text route) r out out′
+  own-done : {n : ℕ} → n ≡ ownAnswer asked number text (length out) (length route)
+      → {age : Age} → age ≡ ownAge asked number text (length out) (length route) → {r : Report} {out′ : List ℕ}
+      → Sends (handsUp age (ownQuerySent usualLimit n room lines number text route)) r out out′
       → OwnMet asked number text route r (askedState asked number r) out out′
   unfolding asking ownQuerySent
-  own-done {n} own-is {r} {out′} d =
-      subst (λ k. Met (refusedOr k asked route (ownTaken usualLimit asked number text route)) 0 r
+  own-done {n} own-is {age} age-is {r} {out′} d =
+      rw (← age-is)
+      (subst (λ k. Met (handsUp age (refusedOr k asked route (ownTaken usualLimit asked number text route))) 0 r
       (askedState asked number r) out out′ route) own-is
-      (by (eqb n 0) refl d)
+      (by (eqb n 0) refl d))
     where
       sent : Bool → Result Bool
       sent b = sends (ownLines usualLimit room lines text route)
           (writtenFor (ownLines usualLimit room lines text route) (ownBytes usualLimit number text)) (quiet 0 b route)
 
-      by : (b : Bool) → eqb n 0 ≡ b → Sends (pickResult b (sent (eqb n 0)) (quiet n (eqb n 0) route)) r out out′
-          → Met (pickResult b (ownTaken usualLimit asked number text route) (quiet n asked route)) 0 r
+      by : (b : Bool) → eqb n 0 ≡ b
+          → Sends (handsUp age (pickResult b (sent (eqb n 0)) (quiet n (eqb n 0) route))) r out out′
+          → Met (handsUp age (pickResult b (ownTaken usualLimit asked number text route) (quiet n asked route))) 0 r
           (askedState asked number r) out out′ route
       by true e w =
           record {
@@ -658,11 +682,12 @@ module _ (room : ℕ) (lines : List Line) (q : Memory) (number text route out : 
 
   pub own-met : (order : Bool) → bothInOrder order room lines ≡ inOrder asked → (known : Lookup)
       → known ≡ lookedUp asked (numberIn number) → {r : Report} {out′ : List ℕ}
-      → Sends (ownQuerySent usualLimit (ownAnswerBy order known room lines text (length out) (length route)) room lines
-      number text route) r out out′
+      → Sends (handsUp (ownAgeBy order known room lines text (length out) (length route))
+      (ownQuerySent usualLimit (ownAnswerBy order known room lines text (length out) (length route)) room lines
+      number text route)) r out out′
       → OwnMet asked number text route r (askedState asked number r) out out′
   unfolding ownAnswer
-  own-met order eo known ek d = own-done own-is d
+  own-met order eo known ek d = own-done own-is (rw (eo, ek)) d
     where
       own-is : ownAnswerBy order known room lines text (length out) (length route)
           ≡ ownAnswer asked number text (length out) (length route)

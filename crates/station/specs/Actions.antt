@@ -9,7 +9,9 @@ use Rattle.wire.specs.declared.Header.{Header}
 use Rattle.wire.specs.Header.{headerSize, largestPayload, largestMessage, headerIn, sizeOf}
 use Rattle.protocol.specs.declared.Line.{Line}
 use Rattle.protocol.specs.declared.Lookup.{Lookup}
+use Rattle.protocol.specs.declared.Age.{Age}
 use Rattle.protocol.specs.declared.Report.{Report}
+use Rattle.protocol.specs.Memory.{noAge}
 use Rattle.protocol.specs.Lines.{lineIn, livesIn, tablesIn}
 use Rattle.protocol.specs.State.{Change}
 use Rattle.protocol.specs.Order.{linesInOrder}
@@ -31,7 +33,7 @@ abbrev pub viewOf : List Line → ℕ → ℕ → View
 viewOf lines room l =
     record { order = linesInOrder room lines; line = lineIn lines l; live = livesIn lines; tables = tablesIn lines }
 
--- answered n, and nothing is used, sent, searched or delivered
+-- answered n, and nothing is used, sent, searched, delivered or handed up
 abbrev pub quietReport : ℕ → Report
 quietReport n =
     record {
@@ -43,10 +45,29 @@ quietReport n =
       delivered = false;
       textat = 0;
       textlen = 0;
+      age = noAge;
     }
 
 abbrev pub quietAction : ℕ → Line → Action
 quietAction n x = record { report = quietReport n; line = x; remember = false }
+
+-- a report and an action with another age
+abbrev pub agedReport : Age → Report → Report
+agedReport a q =
+    record {
+      answer = q .answer;
+      used = q .used;
+      written = q .written;
+      to = q .to;
+      search = q .search;
+      delivered = q .delivered;
+      textat = q .textat;
+      textlen = q .textlen;
+      age = a;
+    }
+
+abbrev pub agedAction : Age → Action → Action
+agedAction a act = record { report = agedReport a (act .report); line = act .line; remember = act .remember }
 
 -- a step is met by what is handed on and by the output area after it
 pub record Does (r : Step) (a : Action) (out out′ : List ℕ) : Type 0 where

@@ -11,15 +11,17 @@ use Rattle.laws.specs.Tests.{firstOf, any}
 use Rattle.wire.specs.Header.{sizeOf}
 use Rattle.protocol.specs.declared.Line.{Line}
 use Rattle.protocol.specs.declared.Lookup.{Lookup}
+use Rattle.protocol.specs.declared.Age.{Age}
 use Rattle.protocol.specs.declared.Report.{Report}
+use Rattle.protocol.specs.Memory.{ageBehind}
 use Rattle.protocol.specs.Lines.{lineIn, emptyLine}
 use Rattle.protocol.specs.Order.{linesInOrder}
 use Rattle.protocol.specs.State.{Station}
 use Rattle.protocol.specs.Outcomes.{Terms, Result, Outcome, Step, writtenFor, reportOf, usedOf, quiet, sends}
 use Rattle.protocol.specs.Outcomes.{refusedOr}
 use Rattle.protocol.specs.Queries.{ownLines, ownBytes}
-use Rattle.protocol.specs.Calls.{freshRoom, freshAnswer, freshLines, openingRules, closingRules, earlyRules, ownRules}
-use Rattle.protocol.specs.Calls.{messageOutcome, ownOutcome}
+use Rattle.protocol.specs.Calls.{freshRoom, freshAnswer, freshLines, openingRules, closingRules, earlyRules, ownBefore}
+use Rattle.protocol.specs.Calls.{ownRules, messageOutcome, ownOutcome}
 use Rattle.station.specs.declared.actions.Action.{Action}
 use Rattle.station.specs.declared.changes.LineChange.{LineChange}
 use Rattle.station.specs.declared.changes.Beginning.{Beginning}
@@ -93,6 +95,11 @@ pub record Handed (r : Step) (m : List ℕ) (a : Action) (out out′ route′ : 
 abbrev pub ownAnswerBy : Bool → Lookup → ℕ → List Line → List ℕ → ℕ → ℕ → ℕ
 ownAnswerBy order known room lines text out route =
     firstOf (ownRules (bothInOrder order room lines) room out route (length text) (any (eqb 0) text) known)
+
+-- the age that it hands up
+abbrev pub ownAgeBy : Bool → Lookup → ℕ → List Line → List ℕ → ℕ → ℕ → Age
+ownAgeBy order known room lines text out route =
+    ageBehind (ownBefore (bothInOrder order room lines) room out route (length text) (any (eqb 0) text)) known
 
 unfoldable pub ownQuerySent : ℕ → ℕ → ℕ → List Line → List ℕ → List ℕ → List ℕ → Result Bool
 ownQuerySent limit n room lines number text route =

@@ -78,6 +78,7 @@ usedIn r used =
       delivered = r .delivered;
       textat = r .textat;
       textlen = r .textlen;
+      age = r .age;
     }
 
 abbrev pub usedBy : Action → ℕ → Action

@@ -1,9 +1,11 @@
 // What an arriving message does, but for the stores that make the state after it.
 ghost use mathlib.Core.Path.{_≡_};
 ghost use Rattle.protocol.specs.Outcomes.{onlyTo};
-ghost use Rattle.station.specs.Actions.{quietReport, quietAction};
+ghost use Rattle.station.specs.Actions.{quietReport, quietAction, agedAction};
+use protocol::Age;
 use protocol::Line;
 use protocol::Report;
+use refusals::ages::no_age;
 
 // What the caller is told, the record of the message's line after it, and whether its number is to be remembered.
 #[repr(C)]
@@ -13,11 +15,12 @@ pub struct Action {
     pub remember: bool,
 }
 
-// Answered, and nothing is used, sent, searched or delivered.
+// Answered, and nothing is used, sent, searched, delivered or handed up.
 pub(crate) fn quiet(answer: u8) -> Report
     ensures { λ r. ⌜ r ≡ quietReport answer ⌝ }
 {
     let to = [false; 8];
+    let age = no_age();
     Report {
         answer,
         used: 0,
@@ -27,6 +30,7 @@ pub(crate) fn quiet(answer: u8) -> Report
         delivered: false,
         textat: 0,
         textlen: 0,
+        age,
     }
 }
 
@@ -35,6 +39,19 @@ pub(crate) fn quietly(answer: u8, line: Line) -> Action
     ensures { λ r. ⌜ r ≡ quietAction answer line ⌝ }
 {
     let report = quiet(answer);
+    Action {
+        report,
+        line,
+        remember: false,
+    }
+}
+
+// The same, with this age handed up.
+pub(crate) fn refused(answer: u8, line: Line, age: Age) -> Action
+    ensures { λ r. ⌜ r ≡ agedAction age (quietAction answer line) ⌝ }
+{
+    let mut report = quiet(answer);
+    report.age = age;
     Action {
         report,
         line,

@@ -4,9 +4,10 @@ ghost use mathlib.Core.List.{List};
 ghost use Prim.Native.Nat.{ℕ, _≤_};
 ghost use lib.ListN.{length};
 ghost use Rattle.protocol.specs.declared.Line.{Line};
+ghost use Rattle.protocol.specs.Outcomes.{handsUp};
 ghost use Rattle.protocol.specs.Queries.{usualLimit};
 ghost use Rattle.station.specs.Actions.{viewOf};
-ghost use Rattle.station.specs.Calls.{Sends, ownAnswerBy, ownQuerySent};
+ghost use Rattle.station.specs.Calls.{Sends, ownAnswerBy, ownAgeBy, ownQuerySent};
 use crate::actions::quiet;
 use crate::lines::View;
 use crate::lines::read_lines;
@@ -18,6 +19,7 @@ use memory::Survey;
 use protocol::LIMIT;
 use protocol::Line;
 use protocol::Report;
+use refusals::ages::repeat_age;
 
 // An own query that is answered so is written where it goes to some line.
 fn send_own(
@@ -63,7 +65,9 @@ pub fn ask(
 ) -> Report
     ensures { λ r.
         let n = ownAnswerBy (s .order) (s .known) room lines (now (text .entry)) (length (now (out .entry))) (length (now (route .entry))) in
-        ⌜ Sends (ownQuerySent usualLimit n room lines number (now (text .entry)) (now (route .entry))) r (now (out .entry)) (now (out .exit)) ⌝ }
+        let age = ownAgeBy (s .order) (s .known) room lines (now (text .entry)) (length (now (out .entry))) (length (now (route .entry))) in
+        let sent = ownQuerySent usualLimit n room lines number (now (text .entry)) (now (route .entry)) in
+        ⌜ Sends (handsUp age sent) r (now (out .entry)) (now (out .exit)) ⌝ }
 {
     let v = read_lines(lines, room, 0);
     let zero = any_zero(text);
@@ -77,5 +81,8 @@ pub fn ask(
         zero,
         known,
     );
-    send_own(LIMIT, answer, room, v, number, text, out, route)
+    let mut report = send_own(LIMIT, answer, room, v, number, text, out, route);
+    let age = repeat_age(answer, known);
+    report.age = age;
+    report
 }

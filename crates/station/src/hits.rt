@@ -10,11 +10,12 @@ ghost use Rattle.station.specs.Actions.{Sendable, Does};
 use crate::actions::Action;
 use crate::actions::only_to;
 use crate::actions::quiet;
-use crate::actions::quietly;
+use crate::actions::refused;
 use forwarding::messages::pass_on;
 use protocol::HERE;
 use protocol::Line;
 use protocol::Lookup;
+use refusals::ages::hit_age;
 use wire::HEADER_SIZE;
 use wire::Header;
 
@@ -23,12 +24,14 @@ pub(crate) fn hit_step(line: Line, h: Header, known: Lookup, m: &[u8], out: &mut
     requires { ⌜ Sendable h hitType (now m) (length (now out)) ⌝ }
     ensures { λ r. ⌜ ((area : List ℕ) → Does (hitStep line known (now (m .entry)) area) r (now (out .entry)) (now (out .exit))) ⌝ }
 {
+    let age = hit_age(h, known);
     let answer = refusals::hit(h, known);
     if answer != 0 {
-        return quietly(answer, line);
+        return refused(answer, line, age);
     }
     let asker = known.asker;
     let mut report = quiet(0);
+    report.age = age;
     if asker == HERE {
         report.delivered = true;
         return Action {

@@ -9,13 +9,14 @@ ghost use Rattle.protocol.specs.Queries.{queryStep};
 ghost use Rattle.station.specs.Actions.{Sendable, Does, viewOf};
 use crate::actions::Action;
 use crate::actions::quiet;
-use crate::actions::quietly;
+use crate::actions::refused;
 use crate::lines::View;
 use forwarding::lines::any_line;
 use forwarding::lines::going;
 use forwarding::messages::pass_if;
 use forwarding::texts::text_length;
 use protocol::Lookup;
+use refusals::ages::repeat_age;
 use wire::HEADER_SIZE;
 use wire::Header;
 
@@ -52,7 +53,8 @@ pub(crate) fn query_step(
     let text = text_length(payload);
     let answer = refusals::query(limit, h, text.ended, known);
     if answer != 0 {
-        return quietly(answer, line);
+        let age = repeat_age(answer, known);
+        return refused(answer, line, age);
     }
     let textlen = text.length;
     let end = 2 + textlen;

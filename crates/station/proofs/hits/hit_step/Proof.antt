@@ -10,21 +10,21 @@ use Rattle.station.proofs.hits.hit_step.Tie as tie
 
 -- where the hit's answer is told
 abbrev start : tie.After-hit → tie.Start
-start c = c .before .before .before
+start c = c .before .before .before .before
 
 returns : tie.Need-returns
 returns c =
     let told = c .before .before in
     let a = start told .args in
     λ area. hit-refused (a .line) (a .h) (a .known) (now (a .m)) area (now (a .out)) (start told .pre)
-    (told .hit .ensures) (c .before .if1 .taken) (c .quietly .ensures)
+    (told .hit .ensures) (told .before .hit-age .ensures) (c .before .if1 .taken) (c .refused .ensures)
 
 returns-2 : tie.Need-returns-2
 returns-2 c =
     let told = c .before .before .before in
     let a = start told .args in
     λ area. hit-here (a .line) (a .h) (a .known) (now (a .m)) area (now (a .out)) (start told .pre) (told .hit .ensures)
-    (c .before .before .if1 .left) (c .before .quiet .ensures) (c .if2 .taken)
+    (told .before .hit-age .ensures) (c .before .before .if1 .left) (c .before .quiet .ensures) (c .if2 .taken)
 
 -- where it is to be passed on, its TTL and Hops allow it
 goes : (c : tie.Else2) → Goes (start (c .before .before .before) .args .h)
@@ -39,7 +39,7 @@ sub-pass-on c = omega (arith, goes (c .before .before .before) .lives)
 add-pass-on : tie.Need-add-pass-on
 add-pass-on c =
     let at = c .before .before .before .before in
-    let known = at .before .before .before .before .before in
+    let known = at .before .before .before .before .before .before in
     let hops = ap (λ (h : Header). h .hops) (known .before .pre .message .header) in
     omega (arith, goes at .rises, hops, known .shared-slice-known .given 18)
 
@@ -51,13 +51,13 @@ returns-3 c =
     let told = at .before .before .before in
     let a = start told .args in
     λ area. hit-on (a .line) (a .h) (a .known) (now (a .m)) area (now (a .out)) (start told .pre) (told .hit .ensures)
-    (at .before .before .if1 .left) (at .before .quiet .ensures) (at .if2 .left)
-    (λ i. omega (arith, told .before .before .shared-slice-known .given i))
+    (told .before .hit-age .ensures) (at .before .before .if1 .left) (at .before .quiet .ensures) (at .if2 .left)
+    (λ i. omega (arith, told .before .before .before .shared-slice-known .given i))
     (passed .pass-on .ensures .0) (to .only-to .ensures) (passed .pass-on .ensures .1)
 
 pub hit-step-spec : {M : Type 1} → statement M
 hit-step-spec =
     tie.close
-    (tie.spec (λ c κs. search needs) (λ c κs. search needs) returns (λ c κs. search needs) returns-2
+    (tie.spec (λ c κs. search needs) (λ c κs. search needs) (λ c κs. search needs) returns (λ c κs. search needs) returns-2
     (λ c. search needs) (λ c. search needs) (λ c κs. search needs) sub-pass-on add-pass-on (λ c κs. search needs)
     (λ c. search needs) returns-3)

@@ -33,12 +33,12 @@ begun c =
 
 returns : tie.Need-returns
 returns c =
-    let told = c .before .before in
+    let told = c .before .before .before in
     let text = told .before .text-length in
     let a = begun told .args in
     λ lines ev. query-refused (a .limit) (a .room) (a .l) (a .v) (a .h) (a .known) (now (a .m)) (now (a .out))
     (now (a .route)) (begun told .pre) (text .result) (text .ensures) (told .query .ensures) lines ev
-    (c .before .if1 .taken) (c .quietly .ensures)
+    (c .before .before .if1 .taken) (c .before .repeat-age .ensures) (c .refused .ensures)
 
 -- where it is taken, it has a text, and its TTL and Hops allow it
 taken : (c : tie.Else1)
@@ -97,7 +97,7 @@ pub query-step-spec : {M : Type 1} → statement M
 query-step-spec =
     tie.close
     (tie.spec (λ c. search needs) (λ c. search needs) (λ c. search needs) (λ c. search needs) part-payload-end
-    (λ c κs. search needs) (λ c κs. search needs) (λ c κs. search needs) returns
+    (λ c κs. search needs) (λ c κs. search needs) (λ c κs. search needs) (λ c κs. search needs) returns
     add-end (λ c κs. taken c .rises) (λ c. search needs) (λ c. search needs) part-going-end
     (λ c κs. search needs) (λ c κs. search needs) (λ c κs. search needs) sub-pass-if add-pass-if
     (λ c κs. search needs) (λ c. search needs) returns-2)
