@@ -1,12 +1,17 @@
 // The calls of the station, each over a station that is held by value: every use of them is in this file. A call lends
 // the pieces of the ring, so it takes them apart into locals and puts them together again.
+ghost use mathlib.Core.Path.{_≡_};
+ghost use mathlib.Core.Logic.{_⊎_};
+ghost use Rattle.protocol.specs.Calls.{unfound};
 use lunozhar::Lines;
 use lunozhar::Number;
 use lunozhar::calls;
 use lunozhar::calls::Fed;
+use protocol::Finding;
 use protocol::Line;
 use protocol::Own;
 use protocol::Report;
+use refusals::ages::no_age;
 
 // The ring of remembered queries.
 pub(crate) struct Ring {
@@ -57,6 +62,7 @@ fn quiet(answer: u8) -> Report {
         delivered: false,
         textat: 0,
         textlen: 0,
+        age: no_age(),
     }
 }
 
@@ -259,6 +265,28 @@ pub(crate) fn asked(w: Held, bytes: [u8; 16], text: &[u8], out: &mut [u8], route
         route,
     );
     after(w, ring_of(lo, hi, asker, count, next), report)
+}
+
+// The number is looked up.
+pub(crate) fn looked_up(w: Held, bytes: [u8; 16]) -> Finding
+    ensures { λ r. ⌜ (r .answer ≡ 0) ⊎ (r ≡ unfound (r .answer)) ⌝ }
+{
+    let ring = w.ring;
+    let lo = ring.lo;
+    let hi = ring.hi;
+    let asker = ring.asker;
+    let lines = w.lines;
+    let number = Number { bytes };
+    calls::lunozhar_look_up_lent(
+        &lo,
+        &hi,
+        &asker,
+        ring.count,
+        ring.next,
+        w.room,
+        lines,
+        number,
+    )
 }
 
 // The record of a line.

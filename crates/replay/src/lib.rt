@@ -5,8 +5,11 @@ mod set;
 
 ghost use Prim.Native.Nat.{_≤_};
 ghost use mathlib.Core.Path.{_≡_};
+ghost use mathlib.Core.Logic.{_⊎_};
 ghost use lib.Dec.{eqb};
+ghost use Rattle.protocol.specs.Calls.{unfound};
 use crate::calls::Held;
+use protocol::Finding;
 use protocol::Report;
 use rows::words;
 
@@ -27,6 +30,13 @@ pub struct Told {
     pub report: Report,
     pub mark: u8,
     pub brought: Brought,
+}
+
+// What a row's events came to: the answers as above, and the station after all of them.
+struct Done {
+    answers: [u8; 256],
+    count: usize,
+    station: Held,
 }
 
 // Whether this is what stands where the answer would be of a call that waits: the number itself, as a caller knows it.
@@ -139,46 +149,79 @@ fn told_of_line(w: Held) -> Brought {
     }
 }
 
-fn run(mut w: Held, row: &[u8], held: &mut [u8], out: &mut [u8], route: &mut [u8]) -> Told
+// The events from word k on.
+fn run(
+    mut w: Held,
+    row: &[u8],
+    mut k: usize,
+    held: &mut [u8],
+    out: &mut [u8],
+    route: &mut [u8],
+) -> Done
+    requires { ⌜ k ≤ 1 ⌝ }
     ensures { λ r. ⌜ r .count ≤ 256 ⌝ }
 {
     let mut answers = [0u8; 256];
     let mut count: usize = 0;
-    let mut k: usize = 0;
     while k < rows::count(row) {
         let kind = kind_of(row, k);
         w = event(w, kind, row, k, held, out, route);
         count = noted(&mut answers, count, kind, w.report.answer);
         k += width(kind);
     }
-    let report = w.report;
-    Told {
+    Done {
         answers,
         count,
-        report,
-        mark: calls::mark(w),
-        brought: told_of_line(w),
+        station: w,
     }
 }
 
-// A number of `terms OUTPUT ROUTE CALLS`, if that comes first: how much of the two areas is lent, and whether the
-// station takes calls.
-fn term(row: &[u8], j: usize, usual: usize) -> usize {
-    if kind_of(row, 0) == 5 {
-        return rows::size(row, 0, j);
+// A number of `terms OUTPUT ROUTE CALLS`, if that is the event at word k: how much of the two areas is lent, and
+// whether the station takes calls.
+fn term(row: &[u8], k: usize, j: usize, usual: usize) -> usize {
+    if kind_of(row, k) == 5 {
+        return rows::size(row, k, j);
     }
     usual
+}
+
+// The events from word k on, over these areas.
+fn ran(row: &[u8], k: usize, held: &mut [u8], out: &mut [u8], route: &mut [u8]) -> Done
+    requires { ⌜ k ≤ 1 ⌝ }
+    ensures { λ r. ⌜ r .count ≤ 256 ⌝ }
+{
+    run(
+        calls::started(term(row, k, 3, 1) != 0),
+        row,
+        k,
+        held,
+        words::front(out, term(row, k, 1, wire::LARGEST_MESSAGE)),
+        words::front(route, term(row, k, 2, 32)),
+    )
 }
 
 // What the row's events tell, over these areas; the held ones stand one behind the other.
 pub fn replayed(row: &[u8], held: &mut [u8], out: &mut [u8], route: &mut [u8]) -> Told
     ensures { λ r. ⌜ r .count ≤ 256 ⌝ }
 {
-    run(
-        calls::started(term(row, 3, 1) != 0),
-        row,
-        held,
-        words::front(out, term(row, 1, wire::LARGEST_MESSAGE)),
-        words::front(route, term(row, 2, 32)),
-    )
+    let done = ran(row, 0, held, out, route);
+    let answers = done.answers;
+    let w = done.station;
+    let report = w.report;
+    Told {
+        answers,
+        count: done.count,
+        report,
+        mark: calls::mark(w),
+        brought: told_of_line(w),
+    }
+}
+
+// What the look-up of the number that is the row's first word tells after the events that follow it; refused, of nobody
+// and of none.
+pub fn looked_up(row: &[u8], held: &mut [u8], out: &mut [u8], route: &mut [u8]) -> Finding
+    ensures { λ r. ⌜ (r .answer ≡ 0) ⊎ (r ≡ unfound (r .answer)) ⌝ }
+{
+    let done = ran(row, 1, held, out, route);
+    calls::looked_up(done.station, number(rows::word(row, 0, 0)))
 }

@@ -6,7 +6,7 @@ use libc::STDOUT_FILENO;
 fn write_text(fd: i32) {
     let mut file = [0u8; 32769];
     let size = io::read_full(fd, &mut file);
-    let mut out = [0u8; 98304];
+    let mut out = [0u8; 118784];
     let done = transcript::text::session_text(&file[..size], &mut out);
     let n = done.written;
     io::write_all(STDOUT_FILENO, &out[..n]);

@@ -12,9 +12,11 @@ use borrow.Author.Tests.{leb-true, le-leb, eq-eqb}
 use Rattle.laws.specs.Tests.{all}
 use Rattle.laws.proofs.Refusals.{and-fst, and-snd}
 use Rattle.laws.proofs.Text.{head-drop}
+use Rattle.digits.specs.Decimal.{decimal}
 use Rattle.transcript.specs.Files.{countOf, offsetOf, eventAt, kindOf, countFrom, longest, goodOffsets, goodEvent}
 use Rattle.transcript.specs.Files.{goodFile}
-use Rattle.transcript.specs.Claims.{InForm, GoodExactly, Station}
+use Rattle.transcript.specs.Rows.{ageText}
+use Rattle.transcript.specs.Claims.{InForm, GoodExactly, Station, AgeColumn}
 use Rattle.transcript.proofs.Reading.{offsets-fit, offsets-room, offsets-first, offsets-last}
 
 -- a test of all numbers from a on, and of one of them
@@ -128,3 +130,7 @@ good-exactly file = (
 
 pub station : Station
 station = record { pong = refl; calls = refl; route = refl }
+
+pub age-column : AgeColumn
+unfolding ageText decimal
+age-column = record { none = refl; newest = refl; hundred = refl; oldest = refl }

@@ -1,8 +1,8 @@
--- Laws of the last column and of a row.
+-- Laws of the last two columns and of a row.
 use Prim.Native.Nat.{ℕ, _+_, _*_, _≤_, _<_}
 use mathlib.Core.Path.{_≡_, refl, sym, ap, _∙_}
 use mathlib.Core.Bool.{Bool, true, false, cond, _||_}
-use mathlib.Core.List.{List, [], _∷_, _++_}
+use mathlib.Core.List.{List, [], _∷_, _++_, append-assoc}
 use native.Mathlib.Numerals.{add-one}
 use native.Mathlib.Omega.{arith}
 use lib.ListN.{length, getD, drop, drop-of-length-le}
@@ -10,8 +10,9 @@ use lib.Seq.{drop-cons}
 use Rattle.laws.specs.Parts.{Put}
 use Rattle.laws.proofs.Text.{put-then}
 use Rattle.digits.specs.Decimal.{digit, decimal}
+use Rattle.protocol.specs.declared.Age.{Age}
 use Rattle.transcript.specs.Rows.{space, comma, dash, newline, flagged, furtherLines, lineList, flagText}
-use Rattle.transcript.specs.Rows.{sentText, columnText, rowText}
+use Rattle.transcript.specs.Rows.{sentText, columnText, ageText, rowText}
 use Rattle.transcript.proofs.Putting.{put-none, Left, left-start, left-on, left-end}
 
 -- what is still to be listed, of the flags from line k on
@@ -100,11 +101,23 @@ pub column-put : (n : ℕ) {at : ℕ} {area mid after : List ℕ} {i j : ℕ} �
     → Put i (space ∷ []) mid after j → Put at (columnText n) area after j × (j ≤ at + 6)
 column-put n room p near q = let m = q .moved in (put-then p q (omega arith), omega arith)
 
-pub row-put : (i answer : ℕ) (to : List Bool) {at : ℕ} {a₀ a₁ a₂ a₃ a₄ : List ℕ} {p q r s : ℕ} → at + 30 ≤ length a₀
-    → Put at (columnText i) a₀ a₁ p → p ≤ at + 6 → Put p (columnText answer) a₁ a₂ q → q ≤ p + 6 → Put q (sentText to)
-    a₂ a₃ r → r ≤ q + 17
-    → Put r (newline ∷ []) a₃ a₄ s → Put at (rowText i answer to) a₀ a₄ s × (s ≤ at + 30)
+-- the age's column: a dash, or its number
+module _ (age : Age) {at : ℕ} {area after : List ℕ} {j : ℕ} where
+  pub age-none : age .known ≡ false → Put at (dash ∷ []) area after j → Put at (ageText age) area after j × (j ≤ at + 5)
+  unfolding ageText
+  age-none e p = let m = p .moved in (rw e p, omega arith)
+
+  pub age-some : age .known ≡ true → Put at (decimal (age .after)) area after j → Put at (ageText age) area after j
+  unfolding ageText
+  age-some e p = rw e p
+
+pub row-put : (i answer : ℕ) (to : List Bool) (age : Age) {at : ℕ} {a₀ a₁ a₂ a₃ a₄ a₅ a₆ : List ℕ} {p q r s t u : ℕ}
+    → at + 36 ≤ length a₀ → Put at (columnText i) a₀ a₁ p → p ≤ at + 6 → Put p (columnText answer) a₁ a₂ q → q ≤ p + 6
+    → Put q (sentText to) a₂ a₃ r → r ≤ q + 17 → Put r (space ∷ []) a₃ a₄ s → Put s (ageText age) a₄ a₅ t → t ≤ s + 5
+    → Put t (newline ∷ []) a₅ a₆ u → Put at (rowText i answer to age) a₀ a₆ u × (u ≤ at + 36)
 unfolding rowText
-row-put i answer to room p₁ n₁ p₂ n₂ p₃ n₃ p₄ =
+row-put i answer to age room p₁ n₁ p₂ n₂ p₃ n₃ p₄ p₅ n₅ p₆ =
     let m = p₄ .moved in
-    (put-then (put-then (put-then p₁ p₂ (omega arith)) p₃ (omega arith)) p₄ (omega arith), omega arith)
+    let n = p₆ .moved in
+    let sent = put-then (put-then (put-then p₁ p₂ (omega arith)) p₃ (omega arith)) p₄ (omega arith) in
+    (simp append-assoc (simp append-assoc at (put-then (put-then sent p₅ (omega arith)) p₆ (omega arith))), omega arith)

@@ -18,7 +18,7 @@ callsOf file is = map (λ i. callOf (eventAt file i)) is
 -- a row for each call of a log, whose newest call stands first
 unfoldable pub logRows : List Made → List ℕ
 logRows [] = []
-logRows (d ∷ ds) = logRows ds ++ rowText (length ds) (d .outcome .answer) (d .outcome .to)
+logRows (d ∷ ds) = logRows ds ++ rowText (length ds) (d .outcome .answer) (d .outcome .to) (d .outcome .age)
 
 -- an outcome does not depend on the log
 unlogged : (w : World) (c : Call) → outcomeOf w c ≡ outcomeOf (start (w .state) (w .area)) c
@@ -36,12 +36,13 @@ module _ (file : List ℕ) where
   rows-logged (suc k) i w e =
       let c = callOf (eventAt file i) in
       let n : length (step w c .log) ≡ i + 1 = omega arith in
-      let row : List ℕ = rowText (length (w .log)) (outcomeOf w c .answer) (outcomeOf w c .to) in
+      let o = outcomeOf w c in
+      let row : List ℕ = rowText (length (w .log)) (o .answer) (o .to) (o .age) in
       rows-logged k (i + 1) (step w c) n
       ∙ append-assoc (logRows (w .log)) row
-      (rowsFrom file (outcomeOf w c .state) (areaAfter c (w .area) (outcomeOf w c .route)) (countFrom (i + 1) k))
+      (rowsFrom file (o .state) (areaAfter c (w .area) (o .route)) (countFrom (i + 1) k))
       ∙ ap (λ x. logRows (w .log) ++ x)
-      (ap₂ (λ (j : ℕ) (o : Outcome). rowText j (o .answer) (o .to) ++ rowsFrom file (o .state)
+      (ap₂ (λ (j : ℕ) (o : Outcome). rowText j (o .answer) (o .to) (o .age) ++ rowsFrom file (o .state)
       (areaAfter c (w .area) (o .route)) (countFrom (i + 1) k)) e (unlogged w c))
 
   -- all rows of a file are the log of its calls, from a fresh state over a route area of zeros

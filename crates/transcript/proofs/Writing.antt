@@ -53,7 +53,7 @@ pub record Rows (file : List ℕ) (n at : ℕ) (s₀ : Station) (route₀ before
     (s : Station)
     (next i : ℕ) : Type 0 where
   pub within : i ≤ n
-  pub near : next ≤ at + 30 * i
+  pub near : next ≤ at + 36 * i
   pub output : length area ≡ outputSize
   pub kept : length route ≡ length route₀
   pub good : all (goodEvent file) (countFrom i (n - i)) ≡ true
@@ -89,16 +89,16 @@ module _ {file : List ℕ} {n at : ℕ} {s₀ : Station} {route₀ before : List
       (e : Answers (outcomeBy s route (eventAt file i)) a t)
       (f : after ≡ routeBy s route (eventAt file i)) where
     rows-next : rowsFrom file s route (countFrom i (n - i))
-        ≡ rowText i (a .answer) (a .to) ++ rowsFrom file t after (countFrom (i + 1) (n - (i + 1)))
+        ≡ rowText i (a .answer) (a .to) (a .age) ++ rowsFrom file t after (countFrom (i + 1) (n - (i + 1)))
     unfolding rowsFrom
-    rows-next = rw (count-next i n h, e .answer, e .to, e .state, f)
+    rows-next = rw (count-next i n h, e .answer, e .to, e .age, e .state, f)
 
     pub rows-on : {used written : List ℕ} {j : ℕ} → length used ≡ length area → length after ≡ length route
-        → Put next (rowText i (a .answer) (a .to)) out written j → j ≤ next + 30 → at + 30 * n ≤ length before
+        → Put next (rowText i (a .answer) (a .to) (a .age)) out written j → j ≤ next + 36 → at + 36 * n ≤ length before
         → Rows file n at s₀ route₀ before used after written t j (i + 1)
     rows-on u k p b room =
         let z : Left at (rowsFrom file s₀ route₀ (countFrom 0 n)) before next
-        (rowText i (a .answer) (a .to) ++ rowsFrom file t after (countFrom (i + 1) (n - (i + 1)))) out =
+        (rowText i (a .answer) (a .to) (a .age) ++ rowsFrom file t after (countFrom (i + 1) (n - (i + 1)))) out =
         rw rows-next at (r .rest) in
         let m = p .moved in
         let size = r .rest .size in
@@ -109,8 +109,8 @@ module _ {file : List ℕ} {n at : ℕ} {s₀ : Station} {route₀ before : List
           output = u ∙ r .output;
           kept = k ∙ r .kept;
           good = and-snd (goodEvent file i) _ (both h);
-          rest = left-on (rowText i (a .answer) (a .to)) (rowsFrom file t after (countFrom (i + 1) (n - (i + 1)))) z p
-              (omega arith);
+          rest = left-on (rowText i (a .answer) (a .to) (a .age))
+              (rowsFrom file t after (countFrom (i + 1) (n - (i + 1)))) z p (omega arith);
         }
 
   pub rows-end : n ≤ i → Put at (rowsFrom file s₀ route₀ (countFrom 0 n)) before out next
@@ -158,7 +158,7 @@ module _ (file : List ℕ) (e : goodFile file ≡ true) where
       rw s at (events-rise file (countOf file) 0 events-good) in
       omega (arith, offsets-first file offsets-good, offsets-last file offsets-good, offsets-fit file offsets-good)
 
-  pub rows-fit : (n lent size at : ℕ) → n ≡ countOf file → lent ≡ outputSize → textRoom ≤ size → at ≤ 16
+  pub rows-fit : (n lent size at : ℕ) → n ≡ countOf file → lent ≡ outputSize → textRoom ≤ size → at ≤ 22
       → RowsFit file n lent size at
   rows-fit n lent size at f g h k =
       record {
@@ -176,7 +176,7 @@ pub session-put : (file : List ℕ) {n : ℕ} {s : Station} {route out mid after
     → Put 0 (heading ++ allRows file) out after next
 unfolding allRows
 session-put file {at = at} e f g room p q =
-    let m : at ≡ 16 = p .moved in
+    let m : at ≡ 22 = p .moved in
     put-then p (rw (e, f, g) at q) (omega arith)
 
 -- what is handed back by the file and the area: whether the text fits and how long it is, the area after it, and that

@@ -1,8 +1,10 @@
--- The rows of a session's text: the event's number, the answer, and the lines that were sent to.
+-- The rows of a session's text: the event's number, the answer, the lines that were sent to, and the age of the query
+-- that was looked up.
 use Prim.Native.Nat.{ℕ, _+_}
-use mathlib.Core.Bool.{Bool, true, false}
+use mathlib.Core.Bool.{Bool, true, false, cond}
 use mathlib.Core.List.{List, [], _∷_, _++_}
 use Rattle.digits.specs.Decimal.{digit, decimal}
+use Rattle.protocol.specs.declared.Age.{Age}
 
 abbrev pub space : ℕ
 space = 0x20
@@ -38,7 +40,7 @@ flagText started false k = []
 flagText false true k = digit k ∷ []
 flagText true true k = comma ∷ digit k ∷ []
 
--- the last column
+-- the third column
 unfoldable pub sentText : List Bool → List ℕ
 sentText to = lineList (flagged 0 to)
 
@@ -46,5 +48,10 @@ sentText to = lineList (flagged 0 to)
 abbrev pub columnText : ℕ → List ℕ
 columnText n = decimal n ++ (space ∷ [])
 
-unfoldable pub rowText : ℕ → ℕ → List Bool → List ℕ
-rowText i answer to = ((columnText i ++ columnText answer) ++ sentText to) ++ (newline ∷ [])
+-- the last column (RULES 21.6): the age, 0 among them, and a dash where none was looked up or found
+unfoldable pub ageText : Age → List ℕ
+ageText age = cond (age .known) (decimal (age .after)) (dash ∷ [])
+
+unfoldable pub rowText : ℕ → ℕ → List Bool → Age → List ℕ
+rowText i answer to age =
+    ((columnText i ++ columnText answer) ++ (sentText to ++ (space ∷ []))) ++ (ageText age ++ (newline ∷ []))

@@ -10,6 +10,7 @@ use Rattle.laws.specs.Parts.{over}
 use Rattle.laws.specs.Text.{codes}
 use Rattle.protocol.specs.declared.Line.{Line}
 use Rattle.protocol.specs.declared.Own.{Own}
+use Rattle.protocol.specs.declared.Age.{Age}
 use Rattle.protocol.specs.State.{Station}
 use Rattle.protocol.specs.Outcomes.{Outcome, termsOf}
 use Rattle.protocol.specs.Calls.{fresh}
@@ -49,15 +50,17 @@ outcomeBy s route e = outcomeOf (start s route) (callOf e)
 abbrev pub routeBy : Station → List ℕ → List ℕ → List ℕ
 routeBy s route e = areaAfter (callOf e) route (outcomeBy s route e .route)
 
--- what the code hands on of a call on a line, whose record after it is x: the state but for the ring, the answer and
--- the lines sent to
-abbrev pub handedOn : List Line → ℕ → Line → ℕ → List Bool → Answered
-handedOn lines line x answer to = record { lines = set lines (line % 8) x; answer = answer; to = to }
+-- what the code hands on of a call on a line, whose record after it is x: the state but for the ring, the answer, the
+-- lines sent to and the age handed up
+abbrev pub handedOn : List Line → ℕ → Line → ℕ → List Bool → Age → Answered
+handedOn lines line x answer to age =
+    record { lines = set lines (line % 8) x; answer = answer; to = to; age = age }
 
 -- what is handed on, and the state after, are an outcome's
 pub record Answers (o : Outcome) (r : Answered) (after : Station) : Type 0 where
   pub answer : r .answer ≡ o .answer
   pub to : r .to ≡ o .to
+  pub age : r .age ≡ o .age
   pub state : after ≡ o .state
 
 -- a row for each of these events, each call made on what the one before it left
@@ -65,6 +68,7 @@ unfoldable pub rowsFrom : List ℕ → Station → List ℕ → List ℕ → Lis
 rowsFrom file s route [] = []
 rowsFrom file s route (i ∷ is) =
     rowText i (outcomeBy s route (eventAt file i) .answer) (outcomeBy s route (eventAt file i) .to)
+    (outcomeBy s route (eventAt file i) .age)
     ++ rowsFrom file (outcomeBy s route (eventAt file i) .state) (routeBy s route (eventAt file i)) is
 
 -- all rows, from a fresh state over a route area of zeros
@@ -72,16 +76,16 @@ unfoldable pub allRows : List ℕ → List ℕ
 allRows file = rowsFrom file (fresh routeSize .state) (replicate routeSize 0) (countFrom 0 (countOf file))
 
 -- what the function that writes n rows from place `at` on needs: good events, whose offsets are there, an output area
--- of the right length, and room for rows of at most 30 bytes
+-- of the right length, and room for rows of at most 36 bytes
 pub record RowsFit (file : List ℕ) (n lent size at : ℕ) : Type 0 where
   pub good : all (goodEvent file) (countFrom 0 n) ≡ true
   pub offsets : 8 + 4 * n ≤ length file
   pub short : length file ≤ longest
   pub output : lent ≡ outputSize
-  pub room : at + 30 * n ≤ size
+  pub room : at + 36 * n ≤ size
 
 abbrev pub heading : List ℕ
-heading = codes "event answer to\n"
+heading = codes "event answer to after\n"
 
 abbrev pub badFile : List ℕ
 badFile = codes "bad file\n"
@@ -91,7 +95,7 @@ sessionText file = cond (goodFile file) (heading ++ allRows file) badFile
 
 -- an area of this many bytes has room for every text
 abbrev pub textRoom : ℕ
-textRoom = 98304
+textRoom = 118784
 
 -- what is handed back, and the area after it; a shorter area stays as it is
 abbrev pub writtenOf : ℕ → List ℕ → Written

@@ -3,8 +3,10 @@ use lunozhar::Lines;
 use lunozhar::calls::lunozhar_close_lent;
 use lunozhar::calls::lunozhar_message_lent;
 use lunozhar::calls::lunozhar_open_lent;
+use protocol::Age;
 use protocol::Line;
 use protocol::Own;
+use refusals::ages::no_age;
 ghost use mathlib.Core.Path.{_≡_};
 ghost use Prim.Native.Nat.{_≤_};
 ghost use lib.ListN.{length};
@@ -13,12 +15,13 @@ ghost use Rattle.protocol.specs.State.{stationOf};
 ghost use Rattle.transcript.specs.Files.{lineOf};
 ghost use Rattle.transcript.specs.Text.{ownPong, outputSize, handedOn, Answers, outcomeBy, routeBy};
 
-// What a row and the next event need of a call: the lines after it, its answer, and the lines sent to. The ring is
-// lent.
+// What a row and the next event need of a call: the lines after it, its answer, the lines sent to and the age handed
+// up. The ring is lent.
 pub struct Answered {
     pub lines: [Line; 8],
     pub answer: u8,
     pub to: [bool; 8],
+    pub age: Age,
 }
 
 fn own_pong() -> Own
@@ -34,12 +37,24 @@ fn own_pong() -> Own
 }
 
 // The record that a call on a line hands back is put at line % 8.
-fn hand_on(mut lines: [Line; 8], line: u32, x: Line, answer: u8, to: [bool; 8]) -> Answered
-    ensures { λ r. ⌜ r ≡ handedOn lines line x answer to ⌝ }
+fn hand_on(
+    mut lines: [Line; 8],
+    line: u32,
+    x: Line,
+    answer: u8,
+    to: [bool; 8],
+    age: Age,
+) -> Answered
+    ensures { λ r. ⌜ r ≡ handedOn lines line x answer to age ⌝ }
 {
     let j = (line % 8) as usize;
     lines[j] = x;
-    Answered { lines, answer, to }
+    Answered {
+        lines,
+        answer,
+        to,
+        age,
+    }
 }
 
 fn line_of(event: &[u8]) -> u32
@@ -82,12 +97,12 @@ pub(crate) fn act(
     if kind == 0 {
         let opened = lunozhar_open_lent(lo, hi, asker, n, p, room, all, line);
         let x = opened.line;
-        return hand_on(lines, line, x, opened.answer, [false; 8]);
+        return hand_on(lines, line, x, opened.answer, [false; 8], no_age());
     }
     if kind == 1 {
         let closed = lunozhar_close_lent(lo, hi, asker, n, p, room, all, line);
         let x = closed.line;
-        return hand_on(lines, line, x, closed.answer, [false; 8]);
+        return hand_on(lines, line, x, closed.answer, [false; 8], no_age());
     }
     let clock = wire::little4(&event[2..]);
     let own = own_pong();
@@ -109,5 +124,6 @@ pub(crate) fn act(
     let x = arrival.line;
     let report = arrival.report;
     let to = report.to;
-    hand_on(lines, line, x, report.answer, to)
+    let age = report.age;
+    hand_on(lines, line, x, report.answer, to, age)
 }

@@ -1,12 +1,14 @@
 // The rows of the text.
 use crate::put::put_byte;
 use crate::put::put_number;
+use protocol::Age;
 ghost use mathlib.Core.Path.{_≡_};
 ghost use mathlib.Core.Bool.{_||_};
 ghost use Prim.Native.Nat.{_+_, _<_, _≤_};
 ghost use lib.ListN.{length};
 ghost use Rattle.laws.specs.Parts.{Put};
-ghost use Rattle.transcript.specs.Rows.{flagText, sentText, columnText, rowText};
+ghost use Rattle.protocol.specs.Memory.{capacity};
+ghost use Rattle.transcript.specs.Rows.{flagText, sentText, columnText, ageText, rowText};
 
 fn either(a: bool, b: bool) -> bool
     ensures { λ r. ⌜ r ≡ a || b ⌝ }
@@ -60,14 +62,35 @@ fn put_column(out: &mut [u8], at: usize, n: u16) -> usize
     put_byte(out, next, b' ')
 }
 
-// A row: the event's number, the answer, and the lines that were sent to.
-pub(crate) fn put_row(out: &mut [u8], at: usize, i: u16, answer: u8, to: [bool; 8]) -> usize
-    requires { ⌜ at + 30 ≤ length (now out) ⌝ }
-    ensures text { λ r. ⌜ Put at (rowText i answer to) (now (out .entry)) (now (out .exit)) r ⌝ }
-    ensures near { λ r. ⌜ r ≤ at + 30 ⌝ }
+// The age, or a dash for none.
+fn put_age(out: &mut [u8], at: usize, age: Age) -> usize
+    requires { ⌜ (at + 5 ≤ length (now out)) × (age .after < capacity) ⌝ }
+    ensures text { λ r. ⌜ Put at (ageText age) (now (out .entry)) (now (out .exit)) r ⌝ }
+    ensures near { λ r. ⌜ r ≤ at + 5 ⌝ }
+{
+    if !age.known {
+        return put_byte(out, at, b'-');
+    }
+    put_number(out, at, age.after as u16)
+}
+
+// A row: the event's number, the answer, the lines that were sent to, and the age.
+pub(crate) fn put_row(
+    out: &mut [u8],
+    at: usize,
+    i: u16,
+    answer: u8,
+    to: [bool; 8],
+    age: Age,
+) -> usize
+    requires { ⌜ (at + 36 ≤ length (now out)) × (age .after < capacity) ⌝ }
+    ensures text { λ r. ⌜ Put at (rowText i answer to age) (now (out .entry)) (now (out .exit)) r ⌝ }
+    ensures near { λ r. ⌜ r ≤ at + 36 ⌝ }
 {
     let a = put_column(out, at, i);
     let b = put_column(out, a, answer as u16);
     let c = put_sent(out, b, to);
-    put_byte(out, c, b'\n')
+    let d = put_byte(out, c, b' ');
+    let e = put_age(out, d, age);
+    put_byte(out, e, b'\n')
 }

@@ -40,7 +40,8 @@ fn put_rows(
     ensures { λ r.
         let s = stationOf room lines
         (memoryOf (now (lo .entry)) (now (hi .entry)) (now (asker .entry)) (now (count .entry)) (now (next .entry))) in
-        ⌜ Put at (rowsFrom (now (file .entry)) s (now (route .entry)) (countFrom 0 n)) (now (out .entry)) (now (out .exit)) r ⌝ }
+        ⌜ Put at (rowsFrom (now (file .entry)) s (now (route .entry)) (countFrom 0 n))
+        (now (out .entry)) (now (out .exit)) r ⌝ }
 {
     let mut end = at;
     let mut i: usize = 0;
@@ -60,7 +61,8 @@ fn put_rows(
             route,
         );
         let sent = done.to;
-        end = put_row(out, end, i as u16, done.answer, sent);
+        let age = done.age;
+        end = put_row(out, end, i as u16, done.answer, sent, age);
         lines = done.lines;
         i += 1;
     }
@@ -88,7 +90,7 @@ fn put_session(file: &[u8], out: &mut [u8]) -> usize
         route.len(),
     );
     let lines = begun.lines;
-    let at = put_text(out, 0, b"event answer to\n");
+    let at = put_text(out, 0, b"event answer to after\n");
     let n = count(file);
     put_rows(
         &mut lo,
@@ -113,7 +115,7 @@ pub fn session_text(file: &[u8], out: &mut [u8]) -> Written
     ensures area { λ _. ⌜ now (out .exit) ≡ areaOf (sessionText (now (file .entry))) (now (out .entry)) ⌝ }
     ensures inside { λ r. ⌜ r .written ≤ length (now (out .entry)) ⌝ }
 {
-    if out.len() < 98304 {
+    if out.len() < 118784 {
         return Written {
             fits: false,
             written: 0,

@@ -1,5 +1,7 @@
 // `case LABEL EVENT ..`, `calls LABEL EVENT ..` and `order LABEL EVENT ..`: what the events of a row told.
+// `look LABEL NUMBER EVENT ..`: what a look-up tells after them.
 use crate::print;
+use protocol::Age;
 use replay::Brought;
 use rows::words;
 
@@ -39,17 +41,26 @@ fn answer_words(kind: usize, answers: &[u8], count: usize, answer: u8) {
     }
 }
 
-// But for `order`: the bytes used, the lines sent to, whether the query is offered to the local search, and of `calls`
-// whether there is something for this station.
-fn sent_words(kind: usize, used: usize, to: [bool; 8], search: bool, delivered: bool) {
+// But for `order`: the bytes used, the lines sent to, and whether the query is offered to the local search.
+fn sent_words(kind: usize, used: usize, to: [bool; 8], search: bool) {
     if kind == ORDER {
         return;
     }
     print::number(used as u64);
     print::flags(to);
     print::flag(search);
-    if kind == CALLS {
-        print::flag(delivered);
+}
+
+// Of `calls` whether there is something for this station, and the age that is handed up, `-` for none.
+fn age_words(kind: usize, delivered: bool, age: Age) {
+    if kind != CALLS {
+        return;
+    }
+    print::flag(delivered);
+    if age.known {
+        print::number(age.after as u64);
+    } else {
+        print::start(0);
     }
 }
 
@@ -85,8 +96,20 @@ pub(crate) fn values(kind: usize, row: &[u8], out: &mut [u8]) {
     let answers = told.answers;
     let r = told.report;
     let to = r.to;
+    let age = r.age;
     answer_words(kind, &answers, told.count, r.answer);
-    sent_words(kind, r.used, to, r.search, r.delivered);
+    sent_words(kind, r.used, to, r.search);
+    age_words(kind, r.delivered, age);
     area_words(kind, told.mark, &route, out, r.written);
     brought_words(kind, told.brought);
+}
+
+// The answer of the look-up, who asked, and how many were remembered after it.
+pub(crate) fn look(row: &[u8], out: &mut [u8]) {
+    let mut route = [0u8; 64];
+    let mut held = [0u8; 32952];
+    let f = replay::looked_up(row, &mut held, out, &mut route);
+    print::number(f.answer as u64);
+    print::number(f.asker as u64);
+    print::number(f.after as u64);
 }

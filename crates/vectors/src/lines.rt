@@ -9,11 +9,18 @@ use crate::sessions;
 use crate::updates;
 use rows::words;
 
-// Room for the input, for the bytes of a row, and for what is written, which is a session's text at the longest.
+// Room for the input, and for the bytes of a row.
 pub(crate) fn room() -> [u8; 98304]
     ensures { λ r. ⌜ 98304 ≡ length r ⌝ }
 {
     [0; 98304]
+}
+
+// Room for what is written, which is a session's text at the longest.
+fn text_room() -> [u8; 118784]
+    ensures { λ r. ⌜ 118784 ≡ length r ⌝ }
+{
+    [0; 118784]
 }
 
 // Where the word behind the space at this place ends.
@@ -65,6 +72,7 @@ fn values(kind: usize, label: &[u8], row: &[u8], out: &mut [u8]) {
         2 | 3 | 4 | 5 => updates::values(kind, row, out),
         6 | 7 | 8 | 9 => pairs::values(kind, row, out),
         12 | 13 => sessions::values(kind, label, row, out),
+        16 => calls::look(row, out),
         _ => calls::values(kind, row, out),
     }
 }
@@ -72,7 +80,7 @@ fn values(kind: usize, label: &[u8], row: &[u8], out: &mut [u8]) {
 fn read(kind: usize, label: &[u8], text: &[u8]) {
     let mut area = room();
     let n = rows::read(text, &mut area);
-    let mut out = room();
+    let mut out = text_room();
     values(kind, label, words::part(&area, 0, n), &mut out);
 }
 
@@ -101,7 +109,7 @@ fn unread(line: &[u8]) {
 
 fn kind_of(name: &[u8]) -> usize {
     words::index(
-        b"place keywords update withheld table run group field try written case casehash session file calls order",
+        b"place keywords update withheld table run group field try written case casehash session file calls order look",
         name,
     )
 }
@@ -109,7 +117,7 @@ fn kind_of(name: &[u8]) -> usize {
 fn one(line: &[u8]) {
     let end = bytes::scan::find(line, 0, line.len(), b' ');
     let kind = kind_of(words::part(line, 0, end));
-    if kind < 16 {
+    if kind < 17 {
         row(kind, line, end);
     } else {
         unread(line);

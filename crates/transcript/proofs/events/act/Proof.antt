@@ -19,7 +19,7 @@ use Rattle.transcript.proofs.events.act.Tie as tie
 
 returns : tie.Need-returns
 returns c =
-    let at-call = c .before .before in
+    let at-call = c .before .before .before in
     let at-if1 = at-call .before .before .before .before in
     let at-line = at-if1 .before .before .before .before in
     let a = at-line .before .before .before .before .args in
@@ -28,11 +28,12 @@ returns c =
     let s = stationOf (a .room) (a .lines) q in
     act-open s (a .route .now) (a .event .now) (l .result) (l .ensures) (at-if1 .if1 .taken)
     (handed (a .lines) (l .result) (at-call .lunozhar-open-lent .result .line) (opening s (l .result))
-    (at-call .lunozhar-open-lent .ensures) (opening-quiet s (l .result)) (c .hand-on .ensures))
+    (at-call .lunozhar-open-lent .ensures) (opening-quiet s (l .result)) (c .before .no-age .ensures)
+    (c .hand-on .ensures))
 
 returns-2 : tie.Need-returns-2
 returns-2 c =
-    let at-call = c .before .before in
+    let at-call = c .before .before .before in
     let at-if2 = at-call .before .before .before .before in
     let at-if1 = at-if2 .before in
     let at-line = at-if1 .before .before .before .before in
@@ -42,12 +43,13 @@ returns-2 c =
     let s = stationOf (a .room) (a .lines) q in
     act-close s (a .route .now) (a .event .now) (l .result) (l .ensures) (at-if1 .if1 .left) (at-if2 .if2 .taken)
     (handed (a .lines) (l .result) (at-call .lunozhar-close-lent .result .line) (closing s (l .result))
-    (at-call .lunozhar-close-lent .ensures) (closing-quiet s (l .result)) (c .hand-on2 .ensures))
+    (at-call .lunozhar-close-lent .ensures) (closing-quiet s (l .result)) (c .before .no-age2 .ensures)
+    (c .hand-on2 .ensures))
 
 returns-3 : tie.Need-returns-3
 returns-3 c =
     let before4 = c .before .before .before .before in
-    let at-call = before4 .before .before .before .before in
+    let at-call = before4 .before .before .before .before .before in
     let at-call4 = at-call .before .before .before .before in
     let at-own = at-call4 .before .before .before .before .before in
     let at-clock = at-own .before in
@@ -72,8 +74,8 @@ returns-3 c =
 pub act-spec : {M : Type 1} → statement M
 act-spec =
     tie.close
-    (tie.spec (λ c κs. search needs) (λ c. search needs) (λ c κs. search needs) (λ c κs. search needs) returns
-    (λ c κs. search needs) (λ c κs. search needs) returns-2
+    (tie.spec (λ c κs. search needs) (λ c. search needs) (λ c κs. search needs) (λ c κs. search needs)
+    (λ c κs. search needs) returns (λ c κs. search needs) (λ c κs. search needs) (λ c κs. search needs) returns-2
     (λ c. search needs) (λ c. search needs) (λ c. search needs) (λ c κs. search needs) (λ c κs. search needs)
     (λ c. search needs) (λ c. search needs) (λ c. search needs) (λ c κs. search needs) (λ c κs. search needs)
     (λ c. search needs) (λ c. search needs) returns-3)

@@ -4,6 +4,7 @@ use mathlib.Core.Path.{sym, _∙_}
 use native.Mathlib.Omega.{arith}
 use Rattle.protocol.specs.Memory.{memoryOf}
 use Rattle.protocol.specs.State.{stationOf}
+use Rattle.transcript.proofs.Acting.{age-below}
 use Rattle.transcript.proofs.Writing.{Rows, rows-start, rows-on, rows-end}
 use Rattle.transcript.proofs.Writing.{Part, part-rises, part-within, part-size, part-event}
 use borrow.Author.Needs.{needs}
@@ -88,26 +89,30 @@ few t = omega (arith, start-of (t .before) .pre .offsets, start-of (t .before) .
 cast-put-row : tie.Need-cast-put-row Inv-loop μ-loop
 cast-put-row c =
     let before4 = c .before .before .before .before in
-    omega (arith, few (test-of (before4 .before .before)))
+    omega (arith, few (test-of (before4 .before .before .before)))
 
+-- the age handed on is below the ring's capacity
 put-row-requires : tie.Need-put-row-requires Inv-loop μ-loop
 put-row-requires c κs =
     let before4 = c .before .before .before .before in
-    let t = test-of (before4 .before .before) in
-    let inv = t .before .loop .inv in
-    omega (arith, start-of (t .before) .pre .room, inv .near, inv .rest .size, t .loop-test .taken)
+    let at-act = before4 .before .before .before in
+    let t = test-of at-act in
+    let inv = t .before .loop .inv in (
+      omega (arith, start-of (t .before) .pre .room, inv .near, inv .rest .size, t .loop-test .taken),
+      age-below _ _ _ (at-act .act .ensures .0),
+    )
 
 add-i : tie.Need-add-i Inv-loop μ-loop
 add-i c =
     let before4 = c .before .before .before .before in
     let before8 = before4 .before .before .before .before in
-    omega (arith, few (test-of (before8 .before .before)))
+    omega (arith, few (test-of (before8 .before .before .before)))
 
 loop-again : tie.Need-loop-again Inv-loop μ-loop
 loop-again c =
     let at-put-row = c .before .before .before in
     let at-put-row4 = at-put-row .before .before .before .before in
-    let at-act = at-put-row4 .before .before .before in
+    let at-act = at-put-row4 .before .before .before .before in
     let at-act4 = at-act .before .before .before .before in
     let o = at-act4 .before .before .before .before .before in
     let inv = turn-of o .loop .inv in
