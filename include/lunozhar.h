@@ -53,7 +53,7 @@ enum lunozhar_answer {
     LUNOZHAR_UNKNOWN_TYPE = 7,        /* the message is no ping, pong, query, query hit or route update */
     LUNOZHAR_BAD_TTL_OR_HOPS = 8,     /* TTL or Hops is not allowed */
     LUNOZHAR_REPEATED = 9,            /* the query's number is remembered */
-    LUNOZHAR_NOT_FOUND = 10,          /* a hit for no remembered query; the handshake field is absent */
+    LUNOZHAR_NOT_FOUND = 10,          /* a hit or a look-up for no remembered query; the handshake field is absent */
     LUNOZHAR_ASKER_CLOSED = 11,       /* a hit for a query whose line has closed since */
     LUNOZHAR_HOPS_FULL = 12,          /* Hops is 255 and would have to rise */
     LUNOZHAR_PING_TOO_SOON = 13,      /* less than 1,000 ms since the line's last accepted ping */
@@ -80,8 +80,9 @@ enum lunozhar_mark {
 
 /* The asker of a remembered query: a line, 0 to 7, or one of these. */
 enum lunozhar_asker {
-    LUNOZHAR_ASKER_HERE = 8, /* this station itself */
-    LUNOZHAR_ASKER_GONE = 9  /* a line that has closed since, even if it is open again */
+    LUNOZHAR_ASKER_HERE = 8,   /* this station itself */
+    LUNOZHAR_ASKER_GONE = 9,   /* a line that has closed since, even if it is open again */
+    LUNOZHAR_ASKER_NOBODY = 10 /* of a look-up that was refused; never in a station */
 };
 
 /* The kind of a handshake group. */
@@ -159,6 +160,13 @@ typedef struct lunozhar_number {
     uint8_t bytes[16];
 } lunozhar_number;
 
+/* The age of a remembered query: how many were remembered after it. 0 is the newest's, so whether there is an age is
+ * said beside it. */
+typedef struct lunozhar_age {
+    bool known;   /* a number was looked up, and found */
+    size_t after; /* how many were remembered after it, 0 to 511; 0 where none was found */
+} lunozhar_age;
+
 /* What a message or an own query came to. */
 typedef struct lunozhar_told {
     uint8_t answer;           /* enum lunozhar_answer; of lunozhar_feed also LUNOZHAR_WAITING */
@@ -170,6 +178,8 @@ typedef struct lunozhar_told {
     bool delivered;           /* the message is a hit for a query of this station's own */
     size_t textat;
     size_t textlen;
+    lunozhar_age age;         /* of the query that a hit answers, or that a query repeats: for a hit answered 0, 11 or
+                               * 12, or 8 with TTL 1; for a query, arriving or own, answered 9; else there is none */
 } lunozhar_told;
 
 /* What bytes of a line came to. */
@@ -178,6 +188,13 @@ typedef struct lunozhar_fed {
     bool within; /* the message that was taken stands at the front of the held area, else at the front of the bytes */
     bool waits;  /* the message is not whole yet, and told.answer is LUNOZHAR_WAITING */
 } lunozhar_fed;
+
+/* What a look-up came to. */
+typedef struct lunozhar_finding {
+    uint8_t answer; /* 0, 1 or 10 */
+    uint8_t asker;  /* a line or enum lunozhar_asker; LUNOZHAR_ASKER_NOBODY where the answer is not 0 */
+    size_t after;   /* how many queries were remembered after it; 0 where the answer is not 0 */
+} lunozhar_finding;
 
 /* What the functions below hand back of a message, of bytes, of a line opened or closed, and of a station made:
  * the record of the line after the call, or all that is new of the station. */
@@ -269,6 +286,8 @@ lunozhar_feeding lunozhar_feed_lent(uint64_t *lo, uint64_t *hi, uint8_t *asker, 
 lunozhar_told lunozhar_ask_lent(uint64_t *lo, uint64_t *hi, uint8_t *asker, size_t *count, size_t *next, size_t room,
                                 lunozhar_lines lines, lunozhar_number number, const uint8_t *text, size_t text_len,
                                 uint8_t *out, size_t out_len, const uint8_t *route, size_t route_len);
+lunozhar_finding lunozhar_look_up_lent(const uint64_t *lo, const uint64_t *hi, const uint8_t *asker, size_t count,
+                                       size_t next, size_t room, lunozhar_lines lines, lunozhar_number number);
 bool lunozhar_in_order_lent(const uint64_t *lo, const uint64_t *hi, const uint8_t *asker, size_t count, size_t next,
                             size_t room, lunozhar_lines lines);
 
@@ -318,7 +337,10 @@ static inline uint8_t lunozhar_close(lunozhar_station *station, uint32_t line) {
  * an accepted update's entries to the line's part of the route area (route_len at least LUNOZHAR_ROUTE, where
  * route_len / 8 is the station's room). A refusal writes to no area and changes no state, but that 14, 15 and 16
  * mark the line's table as broken. Held bytes and shut marks are lunozhar_feed's alone: they are neither read nor
- * changed here, of this line or another, and an answer 5 shuts nothing. */
+ * changed here, of this line or another, and an answer 5 shuts nothing.
+ *
+ * A hit whose number was looked up and found hands up told.age, how many queries were remembered after the one that it
+ * answers, whether it is sent, delivered or then refused; so does a query that is answered 9. */
 static inline lunozhar_told lunozhar_message(lunozhar_station *station, uint32_t line, uint32_t clock,
                                              lunozhar_own own, const uint8_t *message, size_t message_len,
                                              uint8_t *out, size_t out_len, uint8_t *route, size_t route_len) {
@@ -346,7 +368,7 @@ static inline lunozhar_told lunozhar_message(lunozhar_station *station, uint32_t
  *             comes instead of 4, and is not to be counted.
  *   0, 6..16  the message is whole, and done or refused: its bytes are used, and none are held any more. Where some of
  *             it was held it now stands whole at the front of the held area, and `within` is set; else the held area
- *             is as it was. The state is as after lunozhar_message.
+ *             is as it was. State and told.age are as of lunozhar_message; any other call here tells no age.
  *   5         its header is there, with a payload over 4,096 bytes: the bytes of the header are used, none are held,
  *             the held area is as it was, and the line is shut.
  *             A program closes it: it is sent to as before, and takes no more bytes.
@@ -373,12 +395,20 @@ static inline lunozhar_fed lunozhar_feed(lunozhar_station *station, uint32_t lin
 /* Asks a query of this station's own, with a number that no query had yet. The message goes to each open line
  * whose table does not withhold it, and is written to the front of the output area (lengths as for
  * lunozhar_message). The route area is only read. Answers 0, 1, 2, 5 for a text over 4,093 bytes, 6 for a zero
- * byte in it, or 9 for a number that is remembered. Held bytes and shut marks are neither read nor changed. */
+ * byte in it, or 9 for a number that is remembered, which hands up told.age. Held bytes and shut marks are neither
+ * read nor changed. */
 static inline lunozhar_told lunozhar_ask(lunozhar_station *station, lunozhar_number number, const uint8_t *text,
                                          size_t text_len, uint8_t *out, size_t out_len, const uint8_t *route,
                                          size_t route_len) {
     return lunozhar_ask_lent(station->lo, station->hi, station->asker, &station->count, &station->next, station->room,
                              *lunozhar_lines_of(station), number, text, text_len, out, out_len, route, route_len);
+}
+
+/* Looks up the number of a query: who asked it, and how many queries were remembered after it. Answers 0, 1, or 10 for
+ * a number that is not remembered. The station is only read. */
+static inline lunozhar_finding lunozhar_look_up(const lunozhar_station *station, lunozhar_number number) {
+    return lunozhar_look_up_lent(station->lo, station->hi, station->asker, station->count, station->next,
+                                 station->room, *lunozhar_lines_of(station), number);
 }
 
 /* Whether the state is in order, as every call tests first (answer 1). A state that only these functions wrote is. */
@@ -482,7 +512,11 @@ LUNOZHAR_AT(lunozhar_own, calls, 16);
 LUNOZHAR_SIZE(lunozhar_number, 16);
 LUNOZHAR_AT(lunozhar_number, bytes, 0);
 
-LUNOZHAR_SIZE(lunozhar_told, 56);
+LUNOZHAR_SIZE(lunozhar_age, 16);
+LUNOZHAR_AT(lunozhar_age, known, 0);
+LUNOZHAR_AT(lunozhar_age, after, 8);
+
+LUNOZHAR_SIZE(lunozhar_told, 72);
 LUNOZHAR_AT(lunozhar_told, answer, 0);
 LUNOZHAR_AT(lunozhar_told, used, 8);
 LUNOZHAR_AT(lunozhar_told, written, 16);
@@ -491,17 +525,23 @@ LUNOZHAR_AT(lunozhar_told, search, 32);
 LUNOZHAR_AT(lunozhar_told, delivered, 33);
 LUNOZHAR_AT(lunozhar_told, textat, 40);
 LUNOZHAR_AT(lunozhar_told, textlen, 48);
+LUNOZHAR_AT(lunozhar_told, age, 56);
 
-LUNOZHAR_SIZE(lunozhar_fed, 64);
+LUNOZHAR_SIZE(lunozhar_fed, 80);
 LUNOZHAR_AT(lunozhar_fed, told, 0);
-LUNOZHAR_AT(lunozhar_fed, within, 56);
-LUNOZHAR_AT(lunozhar_fed, waits, 57);
+LUNOZHAR_AT(lunozhar_fed, within, 72);
+LUNOZHAR_AT(lunozhar_fed, waits, 73);
 
-LUNOZHAR_SIZE(lunozhar_arrival, 304);
+LUNOZHAR_SIZE(lunozhar_finding, 16);
+LUNOZHAR_AT(lunozhar_finding, answer, 0);
+LUNOZHAR_AT(lunozhar_finding, asker, 1);
+LUNOZHAR_AT(lunozhar_finding, after, 8);
+
+LUNOZHAR_SIZE(lunozhar_arrival, 320);
 LUNOZHAR_AT(lunozhar_arrival, line, 0);
 LUNOZHAR_AT(lunozhar_arrival, told, 248);
 
-LUNOZHAR_SIZE(lunozhar_feeding, 312);
+LUNOZHAR_SIZE(lunozhar_feeding, 328);
 LUNOZHAR_AT(lunozhar_feeding, line, 0);
 LUNOZHAR_AT(lunozhar_feeding, fed, 248);
 

@@ -1,6 +1,7 @@
 /* A station with two neighbours. Line 0 asks for "mountain lake"; the query goes on by line 1; the hit comes back by
  * line 1 and goes to line 0. Then line 0 closes and is given to another neighbour: the same hit, coming late, is
- * refused. At the end the station asks both for "lake" itself. samples/two-lines.out is what this prints.
+ * refused. Then the station asks both for "lake" itself, the hit comes once more, and both queries are looked up.
+ * samples/two-lines.out is what this prints.
  *
  *     rt staticlib lunozhar
  *     cc -std=c11 -Wall -Wextra -Werror -Iinclude samples/two-lines.c target/staticlib/liblunozhar.a \
@@ -44,7 +45,16 @@ static void arrive(uint32_t line, uint32_t clock, const uint8_t *message, size_t
     if (told.search) {
         printf(", text \"%.*s\"", (int)told.textlen, (const char *)message + told.textat);
     }
+    if (told.age.known) {
+        printf(", age %zu", told.age.after); /* how many queries were remembered after the one that was looked up */
+    }
     printf("\n");
+}
+
+/* Looks a query's number up, and prints who asked it and how many were remembered after it. */
+static void look_up(const char *which, lunozhar_number number) {
+    const lunozhar_finding found = lunozhar_look_up(&station, number);
+    printf("look-up of %s: answer %u, asker %u, after %zu\n", which, found.answer, found.asker, found.after);
 }
 
 int main(void) {
@@ -68,6 +78,14 @@ int main(void) {
     lunozhar_told asked = lunozhar_ask(&station, number, text, sizeof text, out, sizeof out, route, sizeof route);
     printf("own query: answer %u, written %zu", asked.answer, asked.written);
     printf(", to line 0: %d, to line 1: %d\n", asked.to[0], asked.to[1]);
+    arrive(1, 1800, hit, hit_len);
+
+    const lunozhar_number other = {{0xC9}};
+    lunozhar_number first;
+    memcpy(first.bytes, query, sizeof first.bytes); /* a message begins with its number */
+    look_up("the query of line 0", first);          /* asked by LUNOZHAR_ASKER_GONE */
+    look_up("the own query", number);               /* asked by LUNOZHAR_ASKER_HERE */
+    look_up("another number", other);               /* LUNOZHAR_NOT_FOUND, and LUNOZHAR_ASKER_NOBODY */
     printf("in order: %d\n", lunozhar_in_order(&station));
     return 0;
 }

@@ -1,6 +1,6 @@
 //! The proved core, called through its boundary. All calls of the library are in this module.
 
-use crate::sides::{Areas, Call, Greeted, Outcome, Side, Writing, ADDRESS, PORT};
+use crate::sides::{Areas, Call, Found, Greeted, Outcome, Side, Writing, ADDRESS, PORT};
 use lunozhar::raw::{self, Fed, Number, Own, Station, Told};
 use std::mem::MaybeUninit;
 
@@ -49,9 +49,10 @@ impl Side for Proved {
     }
 
     fn outcome(told: &Told) -> Outcome {
-        let Told { answer, used, written, to, search, delivered, textat, textlen } = *told;
+        let Told { answer, used, written, to, search, delivered, textat, textlen, age } = *told;
         let to = to.iter().rev().fold(0, |mask, &sent| mask << 1 | u8::from(sent));
-        Outcome { answer, used, written, to, search, delivered, text: (textat, textlen), within: false, waits: false }
+        let (text, after) = ((textat, textlen), age.known.then_some(age.after));
+        Outcome { answer, used, written, to, search, delivered, text, after, within: false, waits: false }
     }
 
     #[inline]
@@ -84,6 +85,13 @@ impl Side for Proved {
 
     fn fed_outcome(fed: &Fed) -> Outcome {
         Outcome { within: fed.within, waits: fed.waits, ..Self::outcome(&fed.told) }
+    }
+
+    #[inline]
+    fn look_up(&self, number: &[u8; 16]) -> Found {
+        // SAFETY: the station is only read.
+        let found = unsafe { raw::lunozhar_look_up(&*self.0, Number { bytes: *number }) };
+        Found { answer: found.answer, asker: found.asker, after: found.after }
     }
 
     #[inline]

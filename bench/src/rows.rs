@@ -159,12 +159,29 @@ pub fn sessions() -> Vec<Session> {
     messages.into_iter().chain(feeds).collect()
 }
 
-fn in_order(name: &str, effort: Effort, areas: &mut Areas) -> Row {
-    let (setup, calls, way) = (world(5, ROOM).warm(), Vec::new(), Way::Message);
+/// Both with a warm station.
+fn warm_pair(name: &str, world: &mut World, areas: &mut Areas) -> (Proved, Reference) {
+    let (setup, calls, way) = (world.warm(), Vec::new(), Way::Message);
     let session = Session { name: name.into(), setup, calls, way, expected: |_| true, units: 1 };
-    let (proved, reference) = (session.started::<Proved>(areas), session.started::<Reference>(areas));
+    (session.started(areas), session.started(areas))
+}
+
+fn in_order(name: &str, effort: Effort, areas: &mut Areas) -> Row {
+    let (proved, reference) = warm_pair(name, &mut world(5, ROOM), areas);
     assert!(proved.in_order() && reference.in_order());
     repeated(name, effort, &mut (), |_| black_box(&proved).in_order(), |_| black_box(&reference).in_order())
+}
+
+/// The look-up of the query with this age, or of a number that is not remembered.
+fn look_up(name: &str, effort: Effort, areas: &mut Areas, age: Option<usize>) -> Row {
+    let mut world = world(9, ROOM);
+    let (proved, reference) = warm_pair(name, &mut world, areas);
+    let number = age.map_or(world.numbers.number(), |age| world.kept[MEMORY - 1 - age]);
+    let found = proved.look_up(&number);
+    assert_eq!(found, reference.look_up(&number), "{name}: what is found is equal");
+    assert_eq!((found.answer, found.after), age.map_or((10, 0), |age| (0, age)), "{name}: it is what the row says");
+    let one = |_: &mut ()| black_box(&proved).look_up(black_box(&number));
+    repeated(name, effort, &mut (), one, |_| black_box(&reference).look_up(black_box(&number)))
 }
 
 fn hash(name: &str, effort: Effort, length: usize) -> Row {
@@ -206,8 +223,11 @@ fn field(name: &str, effort: Effort) -> Row {
 type Function = fn(&str, Effort, &mut Areas) -> Row;
 
 /// Rows of the other functions, with what measures each.
-pub const FUNCTIONS: [(&str, Function); 7] = [
+pub const FUNCTIONS: [(&str, Function); 10] = [
     ("in order, 512 remembered", in_order),
+    ("look-up, the newest of 512", |name, effort, areas| look_up(name, effort, areas, Some(0))),
+    ("look-up, the oldest of 512", |name, effort, areas| look_up(name, effort, areas, Some(MEMORY - 1))),
+    ("look-up, none of 512 (10)", |name, effort, areas| look_up(name, effort, areas, None)),
     ("table writer, 65,536 entries, 4 bits", |name, effort, _| writer(name, effort, 4, INFINITY)),
     ("table writer, 65,536 entries, 8 bits", |name, effort, _| writer(name, effort, 8, 100)),
     ("hash of 8 bytes", |name, effort, _| hash(name, effort, 8)),

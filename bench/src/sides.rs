@@ -2,7 +2,7 @@
 
 use lunozhar_reference::handshake::{self, Kind};
 use lunozhar_reference::hash;
-use lunozhar_reference::station::{Fed, Handled, OwnPong, State, HELD, OUTPUT};
+use lunozhar_reference::station::{Fed, Handled, OwnPong, State, HELD, NOBODY, OUTPUT};
 use lunozhar_reference::writer::{write_table, Entries};
 
 /// Bytes of the route area for each of the eight lines.
@@ -45,8 +45,18 @@ pub struct Outcome {
     pub search: bool,
     pub delivered: bool,
     pub text: (usize, usize),
+    /// How many queries were remembered after the one that was found.
+    pub after: Option<usize>,
     pub within: bool,
     pub waits: bool,
+}
+
+/// What a look-up came to: the answer, the asker, and how many queries were remembered after it.
+#[derive(Clone, Copy, Debug, PartialEq, Eq)]
+pub struct Found {
+    pub answer: u8,
+    pub asker: u8,
+    pub after: usize,
 }
 
 /// A group's answer, length, kind, version and code.
@@ -83,6 +93,7 @@ pub trait Side: Clone {
     fn feed(&mut self, call: &Call, from: usize, areas: &mut Areas) -> Self::Fed;
     fn used(fed: &Self::Fed) -> usize;
     fn fed_outcome(fed: &Self::Fed) -> Outcome;
+    fn look_up(&self, number: &[u8; 16]) -> Found;
     fn in_order(&self) -> bool;
     fn hash(keyword: &[u8]) -> u32;
     /// The answer and how many bytes were written.
@@ -116,9 +127,9 @@ impl Side for Reference {
     }
 
     fn outcome(told: &Handled) -> Outcome {
-        let Handled { answer, used, written, to, search, delivered, text_start, text_length } = *told;
+        let Handled { answer, used, written, to, search, delivered, text_start, text_length, after } = *told;
         let text = (text_start, text_length);
-        Outcome { answer, used, written, to, search, delivered, text, within: false, waits: false }
+        Outcome { answer, used, written, to, search, delivered, text, after, within: false, waits: false }
     }
 
     #[inline]
@@ -134,6 +145,14 @@ impl Side for Reference {
 
     fn fed_outcome(fed: &Fed) -> Outcome {
         Outcome { within: fed.within, waits: fed.waits, ..Self::outcome(&fed.handled) }
+    }
+
+    #[inline]
+    fn look_up(&self, number: &[u8; 16]) -> Found {
+        match self.0.look_up(number) {
+            Ok(known) => Found { answer: 0, asker: known.asker, after: known.after },
+            Err(answer) => Found { answer, asker: NOBODY, after: 0 },
+        }
     }
 
     #[inline]

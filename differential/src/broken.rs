@@ -4,14 +4,14 @@ use crate::call::Call;
 use crate::case::Start;
 use crate::second::Reference;
 use crate::side::{Lent, Outcome, Side};
-use lunozhar::raw::{Station, Tally};
+use lunozhar::raw::{Age, Station, Tally};
 
 pub struct Broken<const FAULT: usize>(Reference);
 
 /// How each fault is named: an answer, a line sent to, a byte past what is written, a place of the state that is not
 /// kept, a route byte, a writer's byte, the tally, and a panic; of bytes as they come those used, where the message
-/// stands, what is held and a shut mark.
-pub const FAULTS: [&str; 12] = [
+/// stands, what is held and a shut mark; an age that is handed up, and one that is looked up.
+pub const FAULTS: [&str; 14] = [
     "answer",
     "to",
     "output byte 4118",
@@ -24,10 +24,12 @@ pub const FAULTS: [&str; 12] = [
     "within",
     "held byte 25",
     "state: line 1 pending shut",
+    "age",
+    "after",
 ];
 
 /// A writer whose tables do not stand when they are read.
-pub const BAD_WRITER: usize = 12;
+pub const BAD_WRITER: usize = 14;
 
 impl<const FAULT: usize> Side for Broken<FAULT> {
     fn begin(start: &Start) -> Self {
@@ -47,6 +49,8 @@ impl<const FAULT: usize> Side for Broken<FAULT> {
             (8, Outcome::Fed(fed)) if fed.told.answer == 5 => fed.told.used = 23,
             (9, Outcome::Fed(fed)) if fed.told.search => fed.within = false,
             (10, Outcome::Fed(fed)) if fed.waits && fed.told.used > 20 => held[25] ^= 1,
+            (12, Outcome::Told(told)) if told.answer == 8 && told.age.known => told.age = Age::default(),
+            (13, Outcome::Finding(finding)) if finding.after > 3 => finding.after -= 1,
             (BAD_WRITER, Outcome::Written(written)) if written.written > 0 => out[written.written - 1] ^= 1,
             _ => {}
         }

@@ -72,6 +72,7 @@ calls! {
     /// Bytes as they come, with the line's held area of the case, or another in its place.
     Feed "feed" { line: u32, clock: u32, own: Own, bytes: Vec<u8>, held: Option<Area>, out: Area, route: Option<Area> }
     Ask "ask" { number: [u8; 16], text: Vec<u8>, out: Area, route: Option<Area> }
+    LookUp "look-up" { number: [u8; 16] }
     InOrder "in-order" {}
     Count "count" { answer: u8 }
     /// The old table is lent also where `had` is false.

@@ -4,7 +4,7 @@
 
 use lunozhar::raw;
 use lunozhar_reference::handshake::{Field, Group, Kind, Pair, Pairs};
-use lunozhar_reference::station::{Fed, Handled, Line, OwnPong, Pong, State, LINES, MEMORY, PONGS};
+use lunozhar_reference::station::{Fed, Handled, Line, OwnPong, Pong, Remembered, State, LINES, MEMORY, NOBODY, PONGS};
 use lunozhar_reference::table::Table;
 use lunozhar_reference::writer::Written;
 use std::array;
@@ -95,6 +95,20 @@ pub fn told(handled: &Handled) -> raw::Told {
         delivered: handled.delivered,
         textat: handled.text_start,
         textlen: handled.text_length,
+        age: age(handled.after),
+    }
+}
+
+/// The number is 0 where there is no age.
+fn age(after: Option<usize>) -> raw::Age {
+    raw::Age { known: after.is_some(), after: after.unwrap_or(0) }
+}
+
+/// Refused, nobody and 0.
+pub fn finding(looked_up: Result<Remembered, u8>) -> raw::Finding {
+    match looked_up {
+        Ok(Remembered { asker, after }) => raw::Finding { answer: 0, asker, after },
+        Err(answer) => raw::Finding { answer, asker: NOBODY, after: 0 },
     }
 }
 

@@ -62,13 +62,16 @@ fn report(case: &Case) -> Option<String> {
     Some(format!("{about}#   proved    {}\n#   reference {}\n{}", difference.first, difference.second, case.text()))
 }
 
-/// A line for each kind of call: how many, and how often each number was answered.
+/// A line for each kind of call: how many, how often each number was answered, how many only waited, and how many
+/// handed up an age.
 fn print_counts(counts: &Counts) {
     let print = |kind: &str, count: &Count| {
         let met = count.answers.iter().enumerate().filter(|(_, times)| **times > 0);
         let answers: String = met.map(|(answer, times)| format!(" {answer}:{times}")).collect();
         let waits = if count.waits > 0 { format!(" waits:{}", count.waits) } else { String::new() };
-        println!("{:>10} {kind:<24}{answers}{waits}", count.calls);
+        let ages: u64 = count.ages.iter().sum();
+        let ages = if ages > 0 { format!(" ages:{ages}") } else { String::new() };
+        println!("{:>10} {kind:<24}{answers}{waits}{ages}", count.calls);
     };
     println!("     calls kind                     answer:times ..");
     counts.kinds.iter().for_each(|(kind, count)| print(kind, count));

@@ -17,9 +17,8 @@ impl Side for Proved {
 
     fn run(&mut self, call: &Call, lent: Lent<'_>) -> Outcome {
         match call {
-            Call::Fresh { .. } | Call::Open { .. } | Call::Close { .. } | Call::InOrder {} | Call::Count { .. } => {
-                self.change(call, lent.route)
-            }
+            Call::Fresh { .. } | Call::Open { .. } | Call::Close { .. } | Call::Count { .. } => self.change(call, lent.route),
+            Call::LookUp { .. } | Call::InOrder {} => self.read(call),
             Call::Message { .. } | Call::Ask { .. } => self.handle(call, lent.out, lent.route),
             Call::Feed { .. } => self.feed(call, lent),
             _ => pure(call, lent.out),
@@ -36,7 +35,18 @@ impl Side for Proved {
 }
 
 impl Proved {
-    /// The calls that take nothing but the state or the tally.
+    /// The calls that only read the state.
+    fn read(&self, call: &Call) -> Outcome {
+        // SAFETY: the station is whole, and is not written.
+        unsafe {
+            match call {
+                Call::LookUp { number } => Outcome::Finding(raw::lunozhar_look_up(&*self.station, Number { bytes: *number })),
+                _ => Outcome::Flag(raw::lunozhar_in_order(&*self.station)),
+            }
+        }
+    }
+
+    /// The calls that take nothing but the state or the tally, and change it.
     fn change(&mut self, call: &Call, route: &[u8]) -> Outcome {
         let station: *mut Station = &mut *self.station;
         // SAFETY: the station and the tally are whole and lent to nobody else.
@@ -49,7 +59,7 @@ impl Proved {
                     raw::lunozhar_count(&mut self.tally, *answer);
                     Outcome::Nothing
                 }
-                _ => Outcome::Flag(raw::lunozhar_in_order(station)),
+                _ => Outcome::Nothing,
             }
         }
     }

@@ -14,12 +14,14 @@ const NUMBER: [u8; 16] = [0x5A; 16];
 /// Enough for a RESET, 255 PATCHes and 65,536 bytes of data.
 const WRITER_OUT: Area = Area { length: 29 + 255 * 28 + 65_536, seed: 1, top: 0 };
 
-/// How many calls were made, how often each number was answered, and how many calls only waited.
+/// How many calls were made, how often each number was answered, how many calls only waited, and how many of each
+/// number handed up an age.
 #[derive(Clone, Debug, Default, PartialEq, Eq)]
 pub struct Count {
     pub calls: u64,
     pub answers: [u64; ANSWERS],
     pub waits: u64,
+    pub ages: [u64; ANSWERS],
 }
 
 impl Count {
@@ -27,8 +29,11 @@ impl Count {
         self.calls += 1;
         match outcome.answer() {
             Some(WAITING) => self.waits += 1,
-            Some(answer) => self.answers.get_mut(usize::from(answer)).into_iter().for_each(|times| *times += 1),
-            None => {}
+            Some(answer) if usize::from(answer) < ANSWERS => {
+                self.answers[usize::from(answer)] += 1;
+                self.ages[usize::from(answer)] += u64::from(outcome.has_age());
+            }
+            _ => {}
         }
     }
 }

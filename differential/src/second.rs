@@ -58,6 +58,7 @@ impl Reference {
                 Outcome::Fed(convert::fed(&self.state.feed(*line as usize, *clock, &own, bytes, held, out, route)))
             }
             Call::Ask { number, text, .. } => Outcome::Told(convert::told(&self.state.own_query(number, text, out, route))),
+            Call::LookUp { number } => Outcome::Finding(convert::finding(self.state.look_up(number))),
             Call::InOrder {} => Outcome::Flag(self.state.in_order()),
             Call::Count { answer } => {
                 self.tally.count(*answer);

@@ -76,5 +76,7 @@ mod tests {
         found_and_small::<9>();
         found_and_small::<10>();
         found_and_small::<11>();
+        found_and_small::<12>();
+        found_and_small::<13>();
     }
 }

@@ -2,7 +2,7 @@
 
 use crate::call::Call;
 use crate::case::Start;
-use lunozhar::raw::{Asked, Fed, Group, Hosts, Station, Tally, Told, Written};
+use lunozhar::raw::{Asked, Fed, Finding, Group, Hosts, Station, Tally, Told, Written};
 
 /// The areas that are lent to a call: for output, the route area, and of a call that brings bytes the held area of its
 /// line.
@@ -30,6 +30,7 @@ pub enum Outcome {
     Number(u32),
     Told(Told),
     Fed(Fed),
+    Finding(Finding),
     Written(Written),
     Group(Group),
     Asked(Asked),
@@ -44,11 +45,20 @@ impl Outcome {
         match self {
             Outcome::Answer(answer) => Some(*answer),
             Outcome::Told(told) | Outcome::Fed(Fed { told, .. }) => Some(told.answer),
+            Outcome::Finding(finding) => Some(finding.answer),
             Outcome::Written(written) => Some(written.answer),
             Outcome::Group(group) => Some(group.answer),
             Outcome::Asked(asked) => Some(asked.answer),
             Outcome::Hosts(hosts) => Some(hosts.answer),
             _ => None,
+        }
+    }
+
+    /// Whether a message, bytes or an own query handed up an age.
+    pub fn has_age(&self) -> bool {
+        match self {
+            Outcome::Told(told) | Outcome::Fed(Fed { told, .. }) => told.age.known,
+            _ => false,
         }
     }
 
@@ -58,12 +68,13 @@ impl Outcome {
             ($of:expr; $($field:ident)*) => { vec![$((stringify!($field), format!("{:?}", $of.$field))),*] };
         }
         match self {
-            Outcome::Told(told) => named!(told; answer used written to search delivered textat textlen),
+            Outcome::Told(told) => named!(told; answer used written to search delivered textat textlen age),
             Outcome::Fed(fed) => {
-                let mut fields = named!(fed.told; answer used written to search delivered textat textlen);
+                let mut fields = named!(fed.told; answer used written to search delivered textat textlen age);
                 fields.extend(named!(fed; within waits));
                 fields
             }
+            Outcome::Finding(finding) => named!(finding; answer asker after),
             Outcome::Written(written) => named!(written; answer written),
             Outcome::Group(group) => named!(group; answer used kind major minor code),
             Outcome::Asked(asked) => named!(asked; answer used written),

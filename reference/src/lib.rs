@@ -12,6 +12,8 @@
 //! - A number that is remembered twice: every call files the kept places in an index, a table of chains on the stack, and holds a number against
 //!   those of its own chain only; a message's number is looked up in its chain too. There a filter of words is filled in passing, and the ring is
 //!   gone through where it does not decide.
+//! - The age of a query: reckoned from the place where its chain has it, back from the ring's next place. There the ring
+//!   is gone through from the newest on, and those that are passed are counted.
 //! - Askers: those that are known are counted. There each is held against every closed line.
 //! - PATCH: added at once, with a note of the least and the greatest sum, and undone if one is outside. There every number is tried, in blocks at
 //!   4 bits, before any is added.
@@ -37,7 +39,8 @@
 //! - [`tally`]: counts of the answers given.
 //! - [`session`]: the text of a session file.
 //!
-//! Answers are document 01's numbers, 0 to 18, and 19 for a line that is shut (document 02, R-1).
+//! Answers are document 01's numbers, 0 to 18, and 19 for a line that is shut (document 02, R-1). A call that looks a
+//! query's number up and finds it hands its age up (document 02, R-2): how many were remembered after it.
 
 #![forbid(unsafe_code)]
 

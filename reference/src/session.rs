@@ -1,6 +1,6 @@
 //! The session program: the text that a session file gives.
 
-use crate::station::{OwnPong, State, LINES, OUTPUT};
+use crate::station::{Handled, OwnPong, State, LINES, OUTPUT};
 use std::io::Write;
 
 /// The longest session file.
@@ -66,7 +66,7 @@ pub fn file(events: &[Vec<u8>]) -> Vec<u8> {
     bytes
 }
 
-/// The text of a session: a heading, and a row for each event with its answer and the lines sent to.
+/// The text of a session: a heading, and a row for each event with its answer, the lines sent to and the age handed up.
 pub fn text(file: &[u8]) -> Vec<u8> {
     let mut text = Vec::new();
     match events(file) {
@@ -80,21 +80,20 @@ fn run(events: &[&[u8]], text: &mut Vec<u8>) {
     let mut route = vec![0; ROUTE];
     let mut out = vec![0; OUTPUT];
     let (_, mut state) = State::fresh(&route);
-    text.extend(b"event answer to\n");
+    text.extend(b"event answer to after\n");
     for (row, event) in events.iter().enumerate() {
         let line = usize::from(event[1]);
         let clock = u32::from_le_bytes([event[2], event[3], event[4], event[5]]);
-        let (answer, to) = match event[0] {
-            0 => (state.open(line), 0),
-            1 => (state.close(line), 0),
-            _ => {
-                let handled = state.message(line, clock, &OWN, &event[EVENT..], &mut out, &mut route);
-                (handled.answer, handled.to)
-            }
+        let changed = |answer| Handled { answer, ..Handled::default() };
+        let Handled { answer, to, after, .. } = match event[0] {
+            0 => changed(state.open(line)),
+            1 => changed(state.close(line)),
+            _ => state.message(line, clock, &OWN, &event[EVENT..], &mut out, &mut route),
         };
         let lines: Vec<String> = (0..LINES).filter(|line| to & (1 << line) != 0).map(|line| line.to_string()).collect();
         let to = if lines.is_empty() { "-".to_string() } else { lines.join(",") };
-        writeln!(text, "{row} {answer} {to}").expect("a vector takes every byte");
+        let after = after.map_or("-".to_string(), |after| after.to_string());
+        writeln!(text, "{row} {answer} {to} {after}").expect("a vector takes every byte");
     }
 }
 
@@ -125,7 +124,37 @@ mod tests {
 
     #[test]
     fn the_six_events() {
-        assert_eq!(shown(&file(&six_events())), "event answer to\n0 0 -\n1 0 -\n2 0 -\n3 0 -\n4 0 1\n5 9 -\n");
+        let rows = "0 0 - -\n1 0 - -\n2 0 - -\n3 0 - -\n4 0 1 -\n5 9 - 0\n";
+        assert_eq!(shown(&file(&six_events())), format!("event answer to after\n{rows}"));
+    }
+
+    /// The last column: the age of a query that was found, of hits and repeats; 0 is one.
+    #[test]
+    fn ages() {
+        let query = |number, ttl| event(2, 0, 0, &message(number, 0x80, ttl, 0, b"\0\0x\0"));
+        let hit = |number, ttl, payload: &[u8]| event(2, 1, 0, &message(number, 0x81, ttl, 0, payload));
+        let mut events = vec![event(0, 0, 0, b""), event(0, 1, 0, b""), query(1, 3), query(2, 3), query(3, 3)];
+        let hits = [(1, 2), (2, 2), (3, 2), (4, 2), (1, 1), (1, 0)].map(|(number, ttl)| hit(number, ttl, &[0; 27]));
+        events.extend(hits);
+        events.extend([hit(1, 2, &[0; 26]), query(2, 3), query(2, 16), event(1, 0, 0, b""), hit(1, 2, &[0; 27])]);
+        let taken = "0 0 - -\n1 0 - -\n2 0 1 -\n3 0 1 -\n4 0 1 -\n";
+        let hits = "5 0 0 2\n6 0 0 1\n7 0 0 0\n8 10 - -\n9 8 - 2\n10 8 - -\n";
+        let others = "11 6 - -\n12 9 - 1\n13 8 - -\n14 0 - -\n15 11 - 2\n";
+        assert_eq!(shown(&file(&events)), format!("event answer to after\n{taken}{hits}{others}"));
+    }
+
+    /// The last of 512 queries is there with 511 behind it, and is gone with one more.
+    #[test]
+    fn the_oldest_age() {
+        let query = |number: u16| {
+            let mut number_bytes = [0; 16];
+            number_bytes[..2].copy_from_slice(&number.to_le_bytes());
+            event(2, 0, 0, &header::message(&number_bytes, 0x80, 3, 0, b"\0\0x\0"))
+        };
+        let mut events: Vec<_> = [event(0, 0, 0, b"")].into_iter().chain((0..512).map(query)).collect();
+        events.extend([query(0), query(512), query(1), query(0), query(1)]);
+        let text = shown(&file(&events));
+        assert!(text.ends_with("\n513 9 - 511\n514 0 - -\n515 9 - 511\n516 0 - -\n517 0 - -\n"), "{text}");
     }
 
     #[test]
@@ -136,7 +165,8 @@ mod tests {
         events.push(event(1, 7, 0, b"more"));
         events.push(event(1, 200, 0, b""));
         events.push(event(2, 5, 0, &message(2, 0x80, 7, 0, b"\0\0x\0")));
-        assert_eq!(shown(&file(&events)), "event answer to\n0 0 -\n1 0 -\n2 0 -\n3 0 2,7\n4 0 2\n5 0 -\n6 3 -\n7 0 2\n");
+        let rows = "0 0 - -\n1 0 - -\n2 0 - -\n3 0 2,7 -\n4 0 2 -\n5 0 - -\n6 3 - -\n7 0 2 -\n";
+        assert_eq!(shown(&file(&events)), format!("event answer to after\n{rows}"));
     }
 
     /// C87: a bad file gives one line, whatever is good in it.
@@ -144,7 +174,7 @@ mod tests {
     fn bad_files() {
         let bad = "bad file\n";
         let good = file(&six_events());
-        assert_eq!(shown(&file(&[])), "event answer to\n");
+        assert_eq!(shown(&file(&[])), "event answer to after\n");
         for length in 0..good.len() {
             assert_eq!(shown(&good[..length]), bad);
         }
@@ -160,7 +190,7 @@ mod tests {
         assert_eq!(shown(&[0, 0, 0, 0, 9, 0, 0, 0, 0]), bad);
         assert_eq!(shown(&[0xFF; 100]), bad);
         let longest = |length: usize| file(&[event(0, 0, 0, &vec![0; length - 18])]);
-        assert_eq!(shown(&longest(FILE)), "event answer to\n0 0 -\n");
+        assert_eq!(shown(&longest(FILE)), "event answer to after\n0 0 - -\n");
         assert_eq!(shown(&longest(FILE + 1)), bad);
         let mut falling = good.clone();
         falling.copy_within(8..12, 12);

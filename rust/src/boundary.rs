@@ -5,7 +5,7 @@
 //! write overlaps nothing else. Slices and references are so, empty ones too, and `&mut` borrows of one call are apart. It keeps no pointer.
 #![allow(unsafe_code)]
 
-use crate::raw::{self, Asked, Fed, Group, Hosts, Lines, Number, Own, Pairs, Station, Tally, Told, Written, LINES};
+use crate::raw::{self, Asked, Fed, Finding, Group, Hosts, Lines, Number, Own, Pairs, Station, Tally, Told, Written, LINES};
 
 /// Makes a station over a route area of so many bytes.
 ///
@@ -164,6 +164,17 @@ pub unsafe fn lunozhar_ask(
     raw::lunozhar_ask_lent(lo, hi, asker, count, next, *room, Lines { at }, number, text, text_len, out, out_len, route, route_len)
 }
 
+/// Looks a query's number up.
+///
+/// # Safety
+///
+/// The pointer points to a whole station.
+#[inline]
+pub unsafe fn lunozhar_look_up(station: *const Station, number: Number) -> Finding {
+    let Station { room, lines, lo, hi, asker, count, next } = &*station;
+    raw::lunozhar_look_up_lent(lo.as_ptr(), hi.as_ptr(), asker.as_ptr(), *count, *next, *room, Lines { at: *lines }, number)
+}
+
 /// Whether a state is in order.
 ///
 /// # Safety
@@ -243,6 +254,11 @@ pub(crate) fn ask(station: &mut Station, number: Number, text: &[u8], out: &mut 
     let out_len = out.len();
     // SAFETY: each pointer goes with the length of its slice; station and output are borrowed apart, and apart from what is read.
     unsafe { raw::lunozhar_ask(station, number, text.as_ptr(), text.len(), out.as_mut_ptr(), out_len, route.as_ptr(), route.len()) }
+}
+
+pub(crate) fn look_up(station: &Station, number: Number) -> Finding {
+    // SAFETY: the reference points to a whole station, which is only read.
+    unsafe { raw::lunozhar_look_up(station, number) }
 }
 
 pub(crate) fn in_order(station: &Station) -> bool {

@@ -23,13 +23,15 @@
 //! assert_eq!(outcome.local, Local::Query(b"mountain lake"));
 //! assert!(outcome.sent.lines().eq([1]));
 //!
-//! // The same query once more is refused.
+//! // The same query once more is refused. None was remembered after it.
 //! let refused = second.message(0, 1_100, &own, asked.bytes).unwrap_err();
 //! assert_eq!(refused.to_string(), "refused with 9: the query's number is remembered (39 bytes used)");
+//! assert_eq!(refused.after, Some(0));
 //! # Ok::<(), Box<dyn std::error::Error>>(())
 //! ```
 //!
-//! [`Station`] has the calls; what a line brings in scraps goes to [`Station::feed`] or [`Station::feed_all`].
+//! [`Station`] has the calls; what a line brings in scraps goes to [`Station::feed`] or [`Station::feed_all`];
+//! [`Station::look_up`] tells who asked a query, and how many were remembered after it.
 //! [`handshake`] reads and writes the groups of lines that open a connection; [`table`] writes the updates of a route
 //! table for a neighbour; [`keyword`] has a keyword's hash and place. A refusal is a [`Refusal`], with its number.
 //! [`raw`] is what C sees.
@@ -48,5 +50,5 @@ pub mod table;
 mod tally;
 
 pub use refusal::{Refusal, Refused};
-pub use station::{Fed, Local, Outcome, Own, Sent, Station};
+pub use station::{Asker, Fed, Local, Outcome, Own, Remembered, Sent, Station};
 pub use tally::Tally;

@@ -15,7 +15,7 @@
 //! ```
 
 pub use crate::boundary::{
-    lunozhar_ask, lunozhar_close, lunozhar_feed, lunozhar_fresh, lunozhar_in_order, lunozhar_message, lunozhar_open,
+    lunozhar_ask, lunozhar_close, lunozhar_feed, lunozhar_fresh, lunozhar_in_order, lunozhar_look_up, lunozhar_message, lunozhar_open,
 };
 use core::mem::{offset_of, size_of};
 
@@ -57,6 +57,8 @@ pub const MARK_BROKEN: u8 = 4;
 pub const ASKER_HERE: u8 = 8;
 /// The asker of a remembered query whose line has closed since.
 pub const ASKER_GONE: u8 = 9;
+/// The asker that a look-up gives which found no query.
+pub const ASKER_NOBODY: u8 = 10;
 
 /// The kind of a handshake group that was refused.
 pub const KIND_NONE: u8 = 0;
@@ -189,6 +191,16 @@ pub struct Number {
     pub bytes: [u8; 16],
 }
 
+/// The age of a remembered query. 0 is the newest's, so whether there is an age is said beside it.
+#[repr(C)]
+#[derive(Clone, Copy, Debug, Default, PartialEq, Eq)]
+pub struct Age {
+    /// Whether a number was looked up, and found.
+    pub known: bool,
+    /// How many queries were remembered after it; 0 where none was found.
+    pub after: usize,
+}
+
 /// What a message or an own query came to.
 #[repr(C)]
 #[derive(Clone, Copy, Debug, PartialEq, Eq)]
@@ -209,6 +221,8 @@ pub struct Told {
     pub textat: usize,
     /// How long the query's text is.
     pub textlen: usize,
+    /// The age of the query that a hit answers, or that a query repeats.
+    pub age: Age,
 }
 
 /// What bytes of a line came to.
@@ -221,6 +235,18 @@ pub struct Fed {
     pub within: bool,
     /// Whether it is not whole yet.
     pub waits: bool,
+}
+
+/// What a look-up came to.
+#[repr(C)]
+#[derive(Clone, Copy, Debug, PartialEq, Eq)]
+pub struct Finding {
+    /// 0, or the number of a [`crate::Refusal`]: 1 or 10.
+    pub answer: u8,
+    /// A line, [`ASKER_HERE`] or [`ASKER_GONE`]; [`ASKER_NOBODY`] where the answer is not 0.
+    pub asker: u8,
+    /// How many queries were remembered after it; 0 where the answer is not 0.
+    pub after: usize,
 }
 
 /// What [`lunozhar_message_lent`] hands back.
@@ -434,6 +460,17 @@ extern "C" {
         route: *const u8,
         route_len: usize,
     ) -> Told;
+    /// [`lunozhar_look_up`] on the parts of a station.
+    pub fn lunozhar_look_up_lent(
+        lo: *const u64,
+        hi: *const u64,
+        asker: *const u8,
+        count: usize,
+        next: usize,
+        room: usize,
+        lines: Lines,
+        number: Number,
+    ) -> Finding;
     /// [`lunozhar_in_order`] on the parts of a station.
     pub fn lunozhar_in_order_lent(
         lo: *const u64,
@@ -501,10 +538,12 @@ layout! {
     Station 10712 { room 0, lines 8, lo 1992, hi 6088, asker 10184, count 10696, next 10704 }
     Own 20 { port 0, address 2, files 8, kilobytes 12, calls 16 }
     Number 16 { bytes 0 }
-    Told 56 { answer 0, used 8, written 16, to 24, search 32, delivered 33, textat 40, textlen 48 }
-    Fed 64 { told 0, within 56, waits 57 }
-    Arrival 304 { line 0, told 248 }
-    Feeding 312 { line 0, fed 248 }
+    Age 16 { known 0, after 8 }
+    Told 72 { answer 0, used 8, written 16, to 24, search 32, delivered 33, textat 40, textlen 48, age 56 }
+    Fed 80 { told 0, within 72, waits 73 }
+    Finding 16 { answer 0, asker 1, after 8 }
+    Arrival 320 { line 0, told 248 }
+    Feeding 328 { line 0, fed 248 }
     LineChange 256 { answer 0, line 8 }
     Beginning 2000 { answer 0, room 8, lines 16 }
     Tally 80 { counts 0 }

@@ -1,5 +1,6 @@
 //! Why a call was refused.
 
+use crate::raw::{Age, Told};
 use std::error::Error;
 use std::fmt;
 
@@ -32,7 +33,7 @@ pub enum Refusal {
     BadTtlOrHops = 8,
     /// 9: the query's number is remembered.
     Repeated = 9,
-    /// 10: a hit for no remembered query; the handshake field is absent.
+    /// 10: a hit or a look-up for no remembered query; the handshake field is absent.
     NotFound = 10,
     /// 11: a hit for a query whose line has closed since, even if it is open again.
     AskerClosed = 11,
@@ -119,7 +120,7 @@ impl Refusal {
             Refusal::UnknownType => "unknown type of message",
             Refusal::BadTtlOrHops => "TTL or Hops is not allowed",
             Refusal::Repeated => "the query's number is remembered",
-            Refusal::NotFound => "a hit for no remembered query, or no such handshake field",
+            Refusal::NotFound => "no remembered query has the number, or no such handshake field",
             Refusal::AskerClosed => "the asker's line has closed",
             Refusal::HopsFull => "Hops is 255 and would have to rise",
             Refusal::PingTooSoon => "ping too soon after the last one",
@@ -141,27 +142,35 @@ impl fmt::Display for Refusal {
 
 impl Error for Refusal {}
 
-/// A refusal of bytes that arrived, with how many of them to skip.
+/// A refusal of bytes that arrived, with how many of them to skip, or of an own query. Where a query's number was looked
+/// up and found, it has the age of that query.
 ///
 /// ```
 /// use lunozhar::handshake;
 ///
 /// let refused = handshake::field(b"GNUTELLA/0.6 200 OK\r\n\r\n", "X-Try").unwrap_err();
-/// assert_eq!(refused.to_string(), "refused with 10: a hit for no remembered query, or no such handshake field (23 bytes used)");
+/// assert_eq!(refused.to_string(), "refused with 10: no remembered query has the number, or no such handshake field (23 bytes used)");
 /// ```
 #[derive(Clone, Copy, Debug, PartialEq, Eq, Hash)]
 pub struct Refused {
     /// Why.
     pub refusal: Refusal,
     /// How many bytes the message or handshake group took, which is what to skip before the next one. It is 0 where
-    /// the bytes don't tell that (numbers 1 to 5, 17 and 18) and for a line that is shut (19). Of
+    /// the bytes don't tell that (numbers 1 to 5, 17 and 18), for a line that is shut (19) and for an own query. Of
     /// [`Station::feed`](crate::Station::feed) it counts the bytes of that call, and for 5 has those of the header.
     pub used: usize,
+    /// How many queries were remembered after the one that a hit answers or that a query repeats, 0 for the newest;
+    /// `None` where no number was looked up, or none was found. It is there for 9, 11 and 12, and for the 8 of a hit
+    /// with TTL 1; one with TTL 0 is refused before its number is looked up.
+    pub after: Option<usize>,
 }
 
 impl fmt::Display for Refused {
     fn fmt(&self, f: &mut fmt::Formatter<'_>) -> fmt::Result {
-        write!(f, "{} ({} bytes used)", self.refusal, self.used)
+        match self.used {
+            0 => self.refusal.fmt(f),
+            used => write!(f, "{} ({used} bytes used)", self.refusal),
+        }
     }
 }
 
@@ -183,5 +192,15 @@ pub(crate) fn checked(answer: u8) -> Result<(), Refusal> {
 
 /// The same, with the bytes used.
 pub(crate) fn checked_using(answer: u8, used: usize) -> Result<(), Refused> {
-    checked(answer).map_err(|refusal| Refused { refusal, used })
+    checked(answer).map_err(|refusal| Refused { refusal, used, after: None })
+}
+
+/// The same of a message or an own query, with the age besides.
+pub(crate) fn checked_told(told: &Told) -> Result<(), Refused> {
+    checked_using(told.answer, told.used).map_err(|refused| Refused { after: after(told.age), ..refused })
+}
+
+/// An age that is known.
+pub(crate) fn after(age: Age) -> Option<usize> {
+    age.known.then_some(age.after)
 }

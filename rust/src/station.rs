@@ -1,11 +1,13 @@
-//! The station: its lines, the messages that arrive by them, and its own queries.
+//! The station: its lines, the messages that arrive by them, its own queries, and those that it remembers.
 
 mod feeding;
+mod looking;
 
 pub use feeding::Fed;
+pub use looking::{Asker, Remembered};
 
 use crate::raw::{self, Told};
-use crate::refusal::{checked, checked_using};
+use crate::refusal::{after, checked, checked_told};
 use crate::{boundary, Refusal, Refused, Tally};
 use std::fmt;
 use std::net::SocketAddrV4;
@@ -98,6 +100,16 @@ pub struct Outcome<'s, 'm> {
     /// What is for this station itself, as a part of the bytes that came, or, of a message that [`feed`](Station::feed)
     /// put together, of the station.
     pub local: Local<'m>,
+    /// Of a hit: how many queries were remembered after the one that it answers, 0 for the newest. Of other messages
+    /// there is none.
+    pub after: Option<usize>,
+}
+
+impl<'s, 'm> Outcome<'s, 'm> {
+    /// What a message came to that was done.
+    fn new(output: &'s [u8], told: &Told, message: &'m [u8]) -> Outcome<'s, 'm> {
+        Outcome { used: told.used, sent: Sent::new(output, told), local: local(told, message), after: after(told.age) }
+    }
 }
 
 /// What a message has for this station itself: a part of its bytes.
@@ -264,13 +276,14 @@ impl Station {
     /// assert_eq!((outcome.used, outcome.local), (query.len(), Local::Query(b"lake")));
     /// let refused = station.message(0, 1_000, &own, &bytes[query.len()..]).unwrap_err();
     /// assert_eq!((refused.refusal, refused.used), (Refusal::Repeated, query.len()));
+    /// assert_eq!(refused.after, Some(0), "none was remembered after it");
     /// # Ok::<(), Refusal>(())
     /// ```
     pub fn message<'m>(&mut self, line: u32, clock: u32, own: &Own, bytes: &'m [u8]) -> Result<Outcome<'_, 'm>, Refused> {
         let told = boundary::message(&mut self.state, line, clock, own.raw(), bytes, &mut self.output, &mut self.route);
         self.tally.count(told.answer);
-        checked_using(told.answer, told.used)?;
-        Ok(Outcome { used: told.used, sent: Sent::new(&self.output, &told), local: local(&told, &bytes[..told.used]) })
+        checked_told(&told)?;
+        Ok(Outcome::new(&self.output, &told, &bytes[..told.used]))
     }
 
     /// Asks a query of this station's own, under a number that no query had yet, such as 16 random bytes. The message is for each open line whose
@@ -278,8 +291,8 @@ impl Station {
     ///
     /// # Errors
     ///
-    /// [`Refusal::TooLong`] for a text over 4,093 bytes, [`Refusal::BadPayload`] for a zero byte in it, [`Refusal::Repeated`] for a number that is
-    /// remembered.
+    /// A [`Refused`] with [`Refusal::TooLong`] for a text over 4,093 bytes, [`Refusal::BadPayload`] for a zero byte in
+    /// it, or [`Refusal::Repeated`] for a number that is remembered, then with how many were remembered after it.
     ///
     /// ```
     /// use lunozhar::{Refusal, Station};
@@ -289,18 +302,20 @@ impl Station {
     /// let sent = station.ask([7; 16], b"mountain lake")?;
     /// assert!(sent.lines().eq([1]));
     /// assert_eq!(sent.bytes.len(), 23 + 2 + 13 + 1);
-    /// assert_eq!(station.ask([7; 16], b"river"), Err(Refusal::Repeated));
+    ///
+    /// let refused = station.ask([7; 16], b"river").unwrap_err();
+    /// assert_eq!((refused.refusal, refused.after), (Refusal::Repeated, Some(0)));
     /// # Ok::<(), Refusal>(())
     /// ```
-    pub fn ask(&mut self, number: [u8; 16], text: &[u8]) -> Result<Sent<'_>, Refusal> {
+    pub fn ask(&mut self, number: [u8; 16], text: &[u8]) -> Result<Sent<'_>, Refused> {
         let told = boundary::ask(&mut self.state, raw::Number { bytes: number }, text, &mut self.output, &self.route);
-        checked(told.answer)?;
+        checked_told(&told)?;
         Ok(Sent::new(&self.output, &told))
     }
 
     /// How many messages had each answer. Each call of [`message`](Station::message) counts as one, also where it was
-    /// refused for want of bytes, and each of [`feed`](Station::feed) but one that only waits; openings, closings and
-    /// own queries are not counted.
+    /// refused for want of bytes, and each of [`feed`](Station::feed) but one that only waits; openings, closings, own
+    /// queries and look-ups are not counted.
     ///
     /// ```
     /// use lunozhar::{Own, Refusal, Station};

@@ -12,6 +12,7 @@ fn main() {
         lunozhar_message as *const (),
         lunozhar_feed as *const (),
         lunozhar_ask as *const (),
+        lunozhar_look_up as *const (),
         lunozhar_in_order as *const (),
         lunozhar_count as *const (),
         lunozhar_write_table as *const (),

@@ -16,6 +16,7 @@ fn main() {
         State::message as *const (),
         State::feed as *const (),
         State::own_query as *const (),
+        State::look_up as *const (),
         State::in_order as *const (),
         Tally::count as *const (),
         write_table as *const (),

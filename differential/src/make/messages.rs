@@ -1,4 +1,4 @@
-//! Random messages and own queries.
+//! Random messages, own queries and look-ups.
 
 use super::start::{lengths, near, number, number_at};
 use super::{Maker, HALF, NO_LINES};
@@ -151,7 +151,7 @@ impl Maker {
     }
 
     fn query(&mut self, station: &Station) -> Framed {
-        let number = self.number(station, 3);
+        let number = self.number(station, 5);
         let mut payload = self.random.bytes(2);
         payload.extend(self.text().iter().filter(|&&byte| byte != 0));
         payload.truncate(PAYLOAD - 1);
@@ -283,6 +283,14 @@ impl Maker {
         } else {
             self.random.pick(&[step.clamp(least, most), least, most]) as u8
         }
+    }
+
+    /// A number to be looked up: mostly one that is remembered, now and then the newest or the oldest.
+    pub(super) fn look_up(&mut self, station: &Station) -> Call {
+        let ends = [0, station.count.clamp(1, 512) - 1];
+        let end = number_at(station, self.random.pick(&ends));
+        let number = if self.random.one_in(6) { end } else { self.number(station, 9) };
+        Call::LookUp { number }
     }
 
     /// An own query.

@@ -64,7 +64,7 @@ impl Maker {
             return call;
         }
         if self.damaged && self.random.one_in(2) {
-            return Call::InOrder {};
+            return if self.random.one_in(4) { self.look_up(station) } else { Call::InOrder {} };
         }
         if route.len() < 32 && self.random.one_in(4) {
             return Call::Fresh { route: start::fresh_route(&mut self.random) };
@@ -75,7 +75,7 @@ impl Maker {
         if let Some(call) = self.reopening(station) {
             return call;
         }
-        match self.random.below(240) {
+        match self.random.below(248) {
             0 | 1 => Call::Fresh { route: start::fresh_route(&mut self.random) },
             2..=12 => Call::Open { line: self.line(station, false) },
             13..=17 => Call::Close { line: self.line(station, true) },
@@ -88,6 +88,7 @@ impl Maker {
             68..=71 => Call::Hash { keyword: self.keyword() },
             72..=75 => Call::Place { keyword: self.keyword(), bits: self.bits() },
             76..=130 => self.feed(station, route),
+            131..=138 => self.look_up(station),
             _ => self.message(station, route),
         }
     }
@@ -171,6 +172,7 @@ mod tests {
     use crate::run::{Counts, Runner};
     use crate::second::Reference;
     use lunozhar::raw::HELD;
+    use std::array;
 
     /// Runs cases and hands each call to `each`, with the state it meets and the call before it.
     fn counted(cases: u64, mut each: impl FnMut(&Station, Option<&Call>, &Call)) -> Counts {
@@ -263,7 +265,7 @@ mod tests {
     #[test]
     fn scraps_meet_everything() {
         let mut times = std::collections::BTreeMap::new();
-        let counts = counted(2_000, |station, _, call| {
+        let counts = counted(3_000, |station, _, call| {
             rare_scraps(station, call).into_iter().for_each(|what| *times.entry(what).or_insert(0) += 1);
         });
         assert_eq!(times.len(), 13, "{times:?}");
@@ -297,7 +299,44 @@ mod tests {
         for (answer, times) in all.answers.iter().enumerate() {
             assert!(times * 20_000 > 100 * all.calls, "answer {answer}: {times} of {}", all.calls);
         }
-        assert!(kinds.len() >= 24, "{kinds:?}");
+        assert!(kinds.len() >= 25, "{kinds:?}");
+    }
+
+    /// Each call that looks a number up finds it with each of the answers that hand an age up, and look-ups meet all of
+    /// theirs, among them the newest of a ring and the oldest of a full one, and a number whose place is not kept.
+    #[test]
+    fn ages_are_met() {
+        let mut looked = std::collections::BTreeMap::new();
+        let counts = counted(4_000, |station, _, call| {
+            if let Call::LookUp { number } = call {
+                let kept = |age: &usize| start::number_at(station, *age) == *number;
+                let what = match (0..512).find(kept) {
+                    Some(0) if station.count > 0 => "the newest",
+                    Some(511) if station.count == 512 => "the oldest of 512",
+                    Some(age) if age < station.count => "another that is kept",
+                    Some(_) => "a place that is not kept",
+                    None => "none",
+                };
+                *looked.entry(what).or_insert(0) += 1;
+            }
+        });
+        assert_eq!(looked.len(), 5, "{looked:?}");
+        assert!(looked.values().all(|&times| times >= 3), "{looked:?}");
+        let met = |name: &str| {
+            let kinds = counts.kinds.iter().filter(|(kind, _)| kind.starts_with(name));
+            kinds.fold([0; 20], |sum, (_, count)| array::from_fn(|answer| sum[answer] + count.ages[answer]))
+        };
+        let hit = [0, 8, 11, 12];
+        for (name, answers) in [("message: hit", &hit[..]), ("message: query", &[9]), ("ask", &[9]), ("feed", &[0, 8, 9, 11, 12])] {
+            for (answer, times) in met(name).into_iter().enumerate() {
+                assert!(if answers.contains(&answer) { times > 10 } else { times == 0 }, "{name} {answer}: {times}");
+            }
+        }
+        // Of a hit's two reasons for 8 only one is met behind the look-up.
+        let hits = &counts.kinds["message: hit"];
+        assert!(hits.ages[8] < hits.answers[8]);
+        let look_ups = &counts.kinds["look-up"];
+        assert!([0, 1, 10].iter().all(|&answer| look_ups.answers[answer] > 50), "{look_ups:?}");
     }
 
     #[test]

@@ -3,7 +3,7 @@
 //! Every call files the kept places in an index, by the numbers that are kept at them: a table of chains, made anew on the stack from the state's
 //! fields alone. A number is then held against those of its own chain only, both to see that none is kept twice and to look one up.
 
-use super::{kept, Line, State, GONE, LINES, MEMORY};
+use super::{kept, Line, Remembered, State, GONE, LINES, MEMORY};
 use std::ops::Range;
 
 /// Chains of an index: eight for each place, so that of random numbers nearly all are alone in theirs.
@@ -122,10 +122,14 @@ impl State {
         None
     }
 
-    /// The kept place of a number. The kept places are filed.
+    /// The remembered query of a number. The kept places are filed.
+    ///
+    /// Its age is how far its place is behind the newest one's, going round.
     #[inline]
-    pub(super) fn find(&self, index: &Index, number: &[u8; 16]) -> Option<usize> {
-        self.in_chain(index, index.newest[chain(number)], number)
+    pub(super) fn find(&self, index: &Index, number: &[u8; 16]) -> Option<Remembered> {
+        let place = self.in_chain(index, index.newest[chain(number)], number)?;
+        let after = (usize::from(self.next) + MEMORY - 1 - place) % MEMORY;
+        Some(Remembered { asker: self.askers[place], after })
     }
 
     /// Remembers a query; the oldest of 512 makes way.

@@ -1,4 +1,5 @@
-//! The station: its state, opening and closing a line, an arriving message, bytes as they arrive, an own query.
+//! The station: its state, opening and closing a line, an arriving message, bytes as they arrive, an own query, a
+//! number looked up.
 //!
 //! A line is the connection to one neighbour. Every call tests first that the state is in order, in one pass over what the state keeps.
 
@@ -45,6 +46,8 @@ pub const PONG_AGE: u32 = 15_000;
 pub const HERE: u8 = 8;
 /// The asker's line has been closed since.
 pub const GONE: u8 = 9;
+/// What stands for the asker of a number that is not remembered.
+pub const NOBODY: u8 = 10;
 
 /// A stored pong: the first 14 payload bytes, the Hops it came with, the clock when it came.
 #[derive(Clone, Copy, Debug, PartialEq, Eq)]
@@ -110,14 +113,29 @@ pub struct Handled {
     pub text_length: usize,
     /// Whether the message is a hit for an own query.
     pub delivered: bool,
+    /// Where a query's number was looked up and found: how many were remembered after it.
+    pub after: Option<usize>,
+}
+
+/// A query that was found: a line, [`HERE`] or [`GONE`], and how many were remembered after it.
+#[derive(Clone, Copy, Debug, PartialEq, Eq)]
+pub struct Remembered {
+    pub asker: u8,
+    pub after: usize,
 }
 
 /// Nothing sent, nothing handed up.
-const QUIET: Handled = Handled { answer: 0, used: 0, written: 0, to: 0, search: false, text_start: 0, text_length: 0, delivered: false };
+const QUIET: Handled =
+    Handled { answer: 0, used: 0, written: 0, to: 0, search: false, text_start: 0, text_length: 0, delivered: false, after: None };
 
 /// The same, refused.
 fn refused(answer: u8) -> Handled {
     Handled { answer, ..QUIET }
+}
+
+/// The same with this answer, once the number was found.
+fn found(answer: u8, known: Remembered) -> Handled {
+    Handled { answer, after: Some(known.after), ..QUIET }
 }
 
 impl Line {
@@ -287,6 +305,8 @@ impl State {
     }
 
     /// What a whole message on an open line does, by its type. The kept places are filed.
+    ///
+    /// Each type has a function; its error is the number of a refusal that hands nothing up.
     #[inline]
     #[allow(clippy::too_many_arguments)]
     fn handled(
@@ -330,8 +350,8 @@ impl State {
         if text.contains(&0) {
             return refused(6);
         }
-        if self.find(&index, number).is_some() {
-            return refused(9);
+        if let Some(known) = self.find(&index, number) {
+            return found(9, known);
         }
         self.remember(number, HERE);
         let to = self.let_through(0xFF, REACH, text, route);
@@ -345,6 +365,15 @@ impl State {
         payload[2..2 + text.len()].copy_from_slice(text);
         payload[2 + text.len()] = 0;
         Handled { to, written, ..QUIET }
+    }
+
+    /// Looks a query's number up: who asked, and how many queries were remembered after it; else 1 or 10.
+    pub fn look_up(&self, number: &[u8; 16]) -> Result<Remembered, u8> {
+        let mut index = Index::new();
+        if !self.in_order_filed(&mut index) {
+            return Err(1);
+        }
+        self.find(&index, number).ok_or(10)
     }
 
     fn areas_fit(&self, out: &[u8], route: &[u8]) -> bool {
@@ -395,8 +424,8 @@ impl State {
         if ttl == 0 || ttl > QUERY_TTL || hops >= REACH {
             return Err(8);
         }
-        if self.find(index, number).is_some() {
-            return Err(9);
+        if let Some(known) = self.find(index, number) {
+            return Ok(found(9, known));
         }
         if hops == 255 {
             return Err(12);
@@ -422,20 +451,17 @@ impl State {
         if header.ttl == 0 {
             return Err(8);
         }
-        let place = self.find(index, &header.number).ok_or(10)?;
-        let asker = match self.askers[place] {
-            GONE => return Err(11),
-            HERE => return Ok(Handled { delivered: true, ..QUIET }),
-            line => line,
-        };
-        if header.ttl == 1 {
-            return Err(8);
-        }
-        if header.hops == 255 {
-            return Err(12);
-        }
-        let written = forward(header, header.ttl - 1, payload, out);
-        Ok(Handled { to: 1 << asker, written, ..QUIET })
+        let known = self.find(index, &header.number).ok_or(10)?;
+        Ok(match known.asker {
+            GONE => found(11, known),
+            HERE => Handled { delivered: true, ..found(0, known) },
+            _ if header.ttl == 1 => found(8, known),
+            _ if header.hops == 255 => found(12, known),
+            line => {
+                let written = forward(header, header.ttl - 1, payload, out);
+                Handled { to: 1 << line, written, ..found(0, known) }
+            }
+        })
     }
 
     fn update(&mut self, line: usize, header: &Header, payload: &[u8], route: &mut [u8]) -> Result<Handled, u8> {

@@ -1,3 +1,4 @@
+mod ages;
 mod feeding;
 
 use super::*;
@@ -5,6 +6,8 @@ use crate::table::{BROKEN, NONE, RUNNING, SETTLED, WAITING};
 
 const OWN: OwnPong = OwnPong { port: 6346, address: [127, 0, 0, 1], files: 3, kilobytes: 0x0102_0304, takes_calls: true };
 const OWN_DATA: [u8; 14] = [0xCA, 0x18, 127, 0, 0, 1, 3, 0, 0, 0, 4, 3, 2, 1];
+/// What stands for the answer of a call that only waits for more bytes.
+const WAITS: u8 = crate::station::WAITING;
 const P1: &[u8] = &[0, 4, 0, 0, 0, 8];
 const P2: &[u8] = &[1, 1, 1, 0, 4, 9, 9];
 const P3: &[u8] = &[1, 1, 1, 0, 8, 0, 0xF9, 0, 0xF9];
@@ -45,6 +48,27 @@ fn pong(mark: u8, hops: u8) -> Vec<u8> {
     message(0, PONG, 1, hops, &[mark; 14])
 }
 
+/// The numbers that a state in order remembers, the newest first.
+fn newest_first(state: &State) -> Vec<[u8; 16]> {
+    let (before, behind) = state.numbers.split_at(state.next.into());
+    [behind, before].concat().into_iter().rev().take(state.count.into()).collect()
+}
+
+/// How many were remembered after the query of this number.
+fn age(state: &State, number: &[u8]) -> Option<usize> {
+    newest_first(state).iter().position(|other| other == number)
+}
+
+/// The age that a message hands up which such a state answers so (document 02, R-2).
+fn age_of_message(state: &State, bytes: &[u8], answer: u8) -> Option<usize> {
+    let found = match (answer, bytes.get(16)) {
+        (9, Some(&QUERY)) | (0 | 11 | 12, Some(&HIT)) => true,
+        (8, Some(&HIT)) => bytes[17] != 0,
+        _ => false,
+    };
+    found.then(|| age(state, &bytes[..16]).expect("it is remembered"))
+}
+
 /// A state with its areas. Each call checks what holds of every call.
 struct Setting {
     state: State,
@@ -79,9 +103,10 @@ impl Setting {
         let (before, route) = (self.state.clone(), self.route.clone());
         let handled = self.state.message(line, self.clock, &self.own, bytes, &mut self.out, &mut self.route);
         self.check(&handled);
+        assert_eq!(handled.after, age_of_message(&before, bytes, handled.answer));
         if handled.answer != 0 {
             let used = if handled.answer <= 5 { 0 } else { header::BYTES + header::read(bytes).unwrap().payload as usize };
-            assert_eq!(handled, Handled { answer: handled.answer, used, ..QUIET });
+            assert_eq!(handled, Handled { answer: handled.answer, used, after: handled.after, ..QUIET });
             let mut expected = before;
             if (14..=16).contains(&handled.answer) {
                 expected.lines[line].table.mark = BROKEN;
@@ -96,6 +121,7 @@ impl Setting {
         let before = self.state.clone();
         let handled = self.state.own_query(&numbered(number), text, &mut self.out, &self.route);
         self.check(&handled);
+        assert_eq!(handled.after, if handled.answer == 9 { age(&before, &numbered(number)) } else { None });
         assert!(handled.answer == 0 || self.state == before);
         handled
     }
@@ -108,6 +134,12 @@ impl Setting {
 
     fn answer(&mut self, line: usize, bytes: &[u8]) -> u8 {
         self.send(line, bytes).answer
+    }
+
+    /// The answer and the age.
+    fn aged(&mut self, line: usize, bytes: &[u8]) -> (u8, Option<usize>) {
+        let handled = self.send(line, bytes);
+        (handled.answer, handled.after)
     }
 
     /// The answer and the lines sent to.
@@ -243,6 +275,7 @@ fn order() {
             let refused = Handled { answer: 1, ..QUIET };
             assert_eq!(state.message(9, 0, &OWN, b"", &mut out[..0], &mut route[..0]), refused);
             assert_eq!(state.own_query(&numbered(0), &[0; 9999], &mut out[..0], &route[..0]), refused);
+            assert_eq!((state.look_up(&numbered(0)), state.look_up(&numbered(99))), (Err(1), Err(1)));
         }
         assert!(state == before);
     };
@@ -331,6 +364,7 @@ fn order_of_a_full_state() {
             let before = state.clone();
             let mut called = state.clone();
             assert_eq!(called.open(8), if expected { 3 } else { 1 }, "{what}, next {next}");
+            assert_eq!(called.look_up(&numbered(1_000)), Err(if expected { 10 } else { 1 }), "{what}, next {next}");
             assert!(called == before, "{what}, next {next}");
         };
         check(true, "nothing", &|_| {});
@@ -433,13 +467,11 @@ fn keeping(numbers: &[[u8; 16]], from: usize) -> State {
 
 /// The state is in order, each of its kept numbers is found at its own place, and none of the others is found.
 fn check_found(state: &State, others: &[[u8; 16]]) {
-    let mut index = Index::new();
-    assert!(state.in_order_filed(&mut index));
-    for age in 1..=usize::from(state.count) {
-        let place = (usize::from(state.next) + 512 - age) % 512;
-        assert_eq!(state.find(&index, &state.numbers[place]), Some(place));
+    for (after, number) in newest_first(state).iter().enumerate() {
+        let place = (usize::from(state.next) + 511 - after) % 512;
+        assert_eq!(state.look_up(number), Ok(Remembered { asker: state.askers[place], after }));
     }
-    assert!(others.iter().all(|number| state.find(&index, number).is_none()));
+    assert!(others.iter().all(|number| state.look_up(number) == Err(10)));
 }
 
 /// Numbers that are unlike in one byte, in any of the sixteen, and a ring that goes round.
@@ -651,11 +683,11 @@ fn hits() {
     assert_eq!(setting.answer(1, &hit(9, 1, 0)), 10);
     assert_eq!(setting.answer(1, &hit(2, 1, 255)), 11);
     let before = setting.state.clone();
-    assert_eq!(setting.send(1, &hit(3, 1, 255)), Handled { used: 50, delivered: true, ..QUIET });
+    assert_eq!(setting.send(1, &hit(3, 1, 255)), Handled { used: 50, delivered: true, after: Some(0), ..QUIET });
     assert_eq!(setting.answer(1, &hit(1, 1, 255)), 8);
     assert_eq!(setting.answer(1, &hit(1, 2, 255)), 12);
     let bytes = hit(1, 200, 254);
-    assert_eq!(setting.send(1, &bytes), Handled { used: 50, written: 50, to: 1, ..QUIET });
+    assert_eq!(setting.send(1, &bytes), Handled { used: 50, written: 50, to: 1, after: Some(2), ..QUIET });
     assert_eq!(setting.out[16..23], [0x81, 199, 255, 27, 0, 0, 0]);
     assert_eq!((&setting.out[..16], &setting.out[23..50]), (&bytes[..16], &bytes[23..]));
     // C44: back over the line that it came by.

@@ -1,9 +1,9 @@
 //! Bytes as a line brings them.
 
-use super::{local, Outcome, Own, Sent, Station};
+use super::{Outcome, Own, Station};
 use crate::boundary::{self, Areas};
 use crate::raw;
-use crate::refusal::checked_using;
+use crate::refusal::checked_told;
 use crate::{Refusal, Refused};
 
 /// What bytes of a line came to.
@@ -59,10 +59,9 @@ impl Station {
             return Ok(Fed::Waiting);
         }
         self.tally.count(told.answer);
-        checked_using(told.answer, told.used)?;
+        checked_told(&told)?;
         let message = if within { &self.held[at * raw::HELD..][..before + told.used] } else { &bytes[..told.used] };
-        let (sent, local) = (Sent::new(&self.output, &told), local(&told, message));
-        Ok(Fed::Message(Outcome { used: told.used, sent, local }))
+        Ok(Fed::Message(Outcome::new(&self.output, &told, message)))
     }
 
     /// The call with the station's own areas.

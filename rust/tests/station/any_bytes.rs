@@ -73,6 +73,8 @@ fn a_station_stays_in_order() {
     for round in 0..20_000u32 {
         call(&mut station, &mut random, round.wrapping_mul(0x0400_0000));
         assert!(station.in_order());
+        let known = station.look_up([(round % 40) as u8; 16]);
+        assert!(known.map_or(true, |known| known.after < station.state().count));
     }
     assert!(station.tally().done() > 1_000, "{}", station.tally());
 }

@@ -19,7 +19,7 @@ fn fed(station: &mut Station, line: u32, bytes: &[u8]) -> (u8, usize) {
     match station.feed(line, 0, &own(), bytes) {
         Ok(Fed::Waiting) => (raw::WAITING, bytes.len()),
         Ok(Fed::Message(outcome)) => (0, outcome.used),
-        Err(Refused { refusal, used }) => (refusal.number(), used),
+        Err(Refused { refusal, used, .. }) => (refusal.number(), used),
     }
 }
 
@@ -250,10 +250,10 @@ fn a_buffer_is_taken_to_its_end() {
     assert_eq!(fed_all(&mut station, 0, &stream[..stream.len() - 5]), (vec![0, 0, 9, 10, 0], Ok(())));
     assert_eq!(pending(&station, 0), (25, false));
     let rest = [&stream[stream.len() - 5..], &over(QUERY, 4_097), &probe()].concat();
-    let too_long = Refused { refusal: Refusal::TooLong, used: 28 };
-    assert_eq!(fed_all(&mut station, 0, &rest), (vec![0], Err(too_long)));
-    assert_eq!(fed_all(&mut station, 0, &rest[28..]), (vec![], Err(Refused { refusal: Refusal::Shut, used: 0 })));
-    assert_eq!(fed_all(&mut station, 9, &rest), (vec![], Err(Refused { refusal: Refusal::BadLine, used: 0 })));
+    let ended = |refusal, used| Err(Refused { refusal, used, after: None });
+    assert_eq!(fed_all(&mut station, 0, &rest), (vec![0], ended(Refusal::TooLong, 28)));
+    assert_eq!(fed_all(&mut station, 0, &rest[28..]), (vec![], ended(Refusal::Shut, 0)));
+    assert_eq!(fed_all(&mut station, 9, &rest), (vec![], ended(Refusal::BadLine, 0)));
     assert_eq!(fed_all(&mut station, 0, b""), (vec![], Ok(())));
 }
 

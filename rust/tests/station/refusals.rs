@@ -47,7 +47,7 @@ fn refused_messages() -> Vec<(u32, Vec<u8>, Refusal)> {
 /// Ways to meet the refusals that no message gets.
 fn refused_otherwise() -> Vec<Refused> {
     let state = raw::Station { count: 513, ..raw::Station::default() };
-    let unused = |refusal| Refused { refusal, used: 0 };
+    let unused = |refusal| Refused { refusal, used: 0, after: None };
     vec![
         unused(Station::from_parts(state, vec![0; 32], vec![0; raw::LINES * raw::HELD]).unwrap_err()),
         unused(Station::new(31).unwrap_err()),
@@ -61,7 +61,7 @@ fn refused_otherwise() -> Vec<Refused> {
 fn shut_station() -> Station {
     let mut station = station(&[0, 1]);
     let header = [&message(1, QUERY, 3, 1, b"")[..19], &4_097u32.to_le_bytes()].concat();
-    let too_long = Refused { refusal: Refusal::TooLong, used: 23 };
+    let too_long = Refused { refusal: Refusal::TooLong, used: 23, after: None };
     assert_eq!(station.feed(1, 0, &own(), &header), Err(too_long));
     station
 }
@@ -109,9 +109,10 @@ fn a_refusal_changes_at_most_the_mark_of_the_table() {
 #[test]
 fn own_queries_are_refused() {
     let mut station = busy_station();
-    assert_eq!(station.ask([1; 16], &[b'x'; 4_094]), Err(Refusal::TooLong));
-    assert_eq!(station.ask([1; 16], b"e\0b"), Err(Refusal::BadPayload));
-    assert_eq!(station.ask([7; 16], b"eb"), Err(Refusal::Repeated));
+    let refused = |refusal, after| Err(Refused { refusal, used: 0, after });
+    assert_eq!(station.ask([1; 16], &[b'x'; 4_094]), refused(Refusal::TooLong, None));
+    assert_eq!(station.ask([1; 16], b"e\0b"), refused(Refusal::BadPayload, None));
+    assert_eq!(station.ask([7; 16], b"eb"), refused(Refusal::Repeated, Some(2)));
     assert_eq!(station.ask([1; 16], &[b'x'; 4_093]).unwrap().bytes.len(), 4_119);
 }
 
@@ -129,10 +130,10 @@ fn parts_of_another_room_are_refused() {
 
 #[test]
 fn handshakes_and_tables_are_refused() {
-    let bad = |refusal, used| Err(Refused { refusal, used });
-    assert_eq!(handshake::read_group(b"GNUTELLA CONNECT/0.6\r\n"), bad(Refusal::NotWhole, 0));
-    assert_eq!(handshake::field(b"GNUTELLA/0.6 200\r\n\r\n", "X-Try"), Err(Refused { refusal: Refusal::NotFound, used: 20 }));
-    assert_eq!(handshake::hosts(b"GNUTELLA/0.6 503\r\nX-Try: 1.2.3.4:0\r\n\r\n"), Err(Refused { refusal: Refusal::BadPayload, used: 38 }));
+    let bad = |refusal, used| Refused { refusal, used, after: None };
+    assert_eq!(handshake::read_group(b"GNUTELLA CONNECT/0.6\r\n"), Err(bad(Refusal::NotWhole, 0)));
+    assert_eq!(handshake::field(b"GNUTELLA/0.6 200\r\n\r\n", "X-Try"), Err(bad(Refusal::NotFound, 20)));
+    assert_eq!(handshake::hosts(b"GNUTELLA/0.6 503\r\nX-Try: 1.2.3.4:0\r\n\r\n"), Err(bad(Refusal::BadPayload, 38)));
     let host = "192.0.2.1:6346".parse().unwrap();
     assert_eq!(handshake::busy(&[host; 33]), Err(Refusal::BadPayload));
     assert_eq!(handshake::busy(&["192.0.2.1:0".parse().unwrap()]), Err(Refusal::BadPayload));

@@ -3,7 +3,7 @@
 use crate::words::Line;
 use crate::{hex, joined};
 use lunozhar_reference::session::{self, file};
-use lunozhar_reference::station::{Handled, Line as Record, OwnPong, State, HELD, LINES, OUTPUT, WAITING};
+use lunozhar_reference::station::{Handled, Line as Record, OwnPong, Remembered, State, HELD, LINES, NOBODY, OUTPUT, WAITING};
 use lunozhar_reference::table::Table;
 
 /// An event of a line.
@@ -61,6 +61,11 @@ fn small(number: u32) -> u16 {
     u16::try_from(number).expect("a number of two bytes")
 }
 
+/// The message number that a word stands for.
+fn sixteen(line: &Line, n: usize) -> [u8; 16] {
+    line.bytes(n).try_into().expect("a message's number")
+}
+
 /// The event whose name is this word, and how many words it takes.
 fn event_at(line: &Line, n: usize) -> (Event, usize) {
     let (number, byte, size) = (|k| line.number(n + k), |k| line.byte(n + k), |k| line.size(n + k));
@@ -70,10 +75,7 @@ fn event_at(line: &Line, n: usize) -> (Event, usize) {
         "close" => (Event::Close(number(1)), 2),
         "message" => (Event::Message { line: number(1), clock: number(2), bytes: line.bytes(n + 3) }, 4),
         "feed" => (Event::Feed { line: number(1), clock: number(2), bytes: line.bytes(n + 3) }, 4),
-        "ask" => {
-            let number = line.bytes(n + 1).try_into().expect("a message's number");
-            (Event::Ask { number, text: line.bytes(n + 2) }, 3)
-        }
+        "ask" => (Event::Ask { number: sixteen(line, n + 1), text: line.bytes(n + 2) }, 3),
         "terms" => (Event::Terms { output: size(1), route: size(2), calls: flag(3) }, 4),
         "held" => (Event::Held(size(1).min(HELD)), 2),
         "pending" => (Event::Set(Set::Pending { line: number(1), count: number(2) as u16, shut: flag(3) }), 4),
@@ -93,8 +95,9 @@ fn event_at(line: &Line, n: usize) -> (Event, usize) {
     }
 }
 
-fn events(line: &Line) -> Vec<Event> {
-    let (mut events, mut n) = (Vec::new(), 2);
+/// The events from this word on.
+fn events(line: &Line, mut n: usize) -> Vec<Event> {
+    let mut events = Vec::new();
     while n < line.count() {
         let (event, width) = event_at(line, n);
         events.push(event);
@@ -138,9 +141,10 @@ impl World {
         }
     }
 
-    fn after(line: &Line) -> World {
+    /// The station after the events from this word on.
+    fn after(line: &Line, n: usize) -> World {
         let mut world = World::new();
-        for event in events(line) {
+        for event in events(line, n) {
             world.bring(event);
         }
         world
@@ -236,7 +240,7 @@ fn answer(number: u8) -> String {
 }
 
 pub fn case(line: &Line) -> String {
-    let world = World::after(line);
+    let world = World::after(line, 2);
     let Handled { used, search, .. } = world.last;
     let answer = answer(world.last.answer);
     let (mark, entries) = (world.state.lines[1].table.mark, joined(&world.route[4..8]));
@@ -245,16 +249,25 @@ pub fn case(line: &Line) -> String {
 }
 
 pub fn calls(line: &Line) -> String {
-    let world = World::after(line);
-    let Handled { used, search, delivered, .. } = world.last;
+    let world = World::after(line, 2);
+    let Handled { used, search, delivered, after, .. } = world.last;
     let answers = joined(world.answers.iter().map(|&number| answer(number)));
-    let (search, delivered) = (u8::from(search), u8::from(delivered));
+    let (search, delivered, age) = (u8::from(search), u8::from(delivered), joined(after));
     let (label, to, written, pending) = (line.shown(1), world.to(), world.written(), world.pending());
-    format!("calls {label} {answers} {used} {to} {search} {delivered} {written}{pending}\n")
+    format!("calls {label} {answers} {used} {to} {search} {delivered} {age} {written}{pending}\n")
+}
+
+/// The number of the third word, looked up after the events from the fourth on.
+pub fn look(line: &Line) -> String {
+    let (answer, Remembered { asker, after }) = match World::after(line, 3).state.look_up(&sixteen(line, 2)) {
+        Ok(known) => (0, known),
+        Err(answer) => (answer, Remembered { asker: NOBODY, after: 0 }),
+    };
+    format!("look {} {answer} {asker} {after}\n", line.shown(1))
 }
 
 pub fn order(line: &Line) -> String {
-    format!("order {} {}\n", line.shown(1), answer(World::after(line).last.answer))
+    format!("order {} {}\n", line.shown(1), answer(World::after(line, 2).last.answer))
 }
 
 /// The text of a session file, a row for each of its lines.

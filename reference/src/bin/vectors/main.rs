@@ -45,6 +45,7 @@ fn row(text: &str) -> String {
         "session" => calls::session(line),
         "file" => calls::text(label, &line.bytes(2)),
         "calls" => calls::calls(line),
+        "look" => calls::look(line),
         "order" => calls::order(line),
         _ => format!("unread {text}\n"),
     }

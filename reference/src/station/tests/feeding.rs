@@ -2,8 +2,6 @@
 
 use super::*;
 
-const WAITS: u8 = crate::station::WAITING;
-
 /// The scene of most tests: lines 0 and 1 open, with a held area for each line. Each call checks what holds of all.
 struct Feeding {
     setting: Setting,
@@ -31,8 +29,11 @@ impl Feeding {
         let fed = state.feed(line, *clock, own, bytes, &mut self.held[at][..length], out, lent);
         let (expected, area) = expected(&fed, &before, at, bytes, &held[at]);
         assert!(self.held[at] == area, "the held area is as it was, or has the bytes behind those held");
+        let message = [&held[at][..HELD.min(before.lines[at].held.into())], bytes].concat();
+        assert_eq!(fed.handled.after, age_of_message(&before, &message, fed.handled.answer));
         if fed.handled.answer != 0 {
-            assert_eq!(fed.handled, Handled { answer: fed.handled.answer, used: fed.handled.used, ..QUIET });
+            let Handled { answer, used, after, .. } = fed.handled;
+            assert_eq!(fed.handled, Handled { answer, used, after, ..QUIET });
             assert!(self.setting.state == expected && self.setting.route == route);
         }
         for (now, then) in self.setting.state.lines.iter().zip(&expected.lines) {
