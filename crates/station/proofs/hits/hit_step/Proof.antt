@@ -39,8 +39,9 @@ sub-pass-on c = omega (arith, goes (c .before .before .before) .lives)
 add-pass-on : tie.Need-add-pass-on
 add-pass-on c =
     let at = c .before .before .before .before in
-    let known = at .before .before .before .before .before .before in
-    let hops = ap (λ (h : Header). h .hops) (known .before .pre .message .header) in
+    let told = at .before .before .before in
+    let known = told .before .before .before in
+    let hops = ap (λ (h : Header). h .hops) (start told .pre .message .header) in
     omega (arith, goes at .rises, hops, known .shared-slice-known .given 18)
 
 returns-3 : tie.Need-returns-3
@@ -58,6 +59,6 @@ returns-3 c =
 pub hit-step-spec : {M : Type 1} → statement M
 hit-step-spec =
     tie.close
-    (tie.spec (λ c κs. search needs) (λ c κs. search needs) (λ c κs. search needs) returns (λ c κs. search needs) returns-2
-    (λ c. search needs) (λ c. search needs) (λ c κs. search needs) sub-pass-on add-pass-on (λ c κs. search needs)
-    (λ c. search needs) returns-3)
+    (tie.spec (λ c κs. search needs) (λ c κs. search needs) (λ c κs. search needs) returns (λ c κs. search needs)
+    returns-2 (λ c. search needs) (λ c. search needs) (λ c κs. search needs) sub-pass-on add-pass-on
+    (λ c κs. search needs) (λ c. search needs) returns-3)
