@@ -2,6 +2,7 @@
 // and lends the parts of it that a call writes; what is lent to one call must not overlap.
 pub mod calls;
 pub mod handshakes;
+pub mod naming;
 pub mod routing;
 
 use protocol::Line;

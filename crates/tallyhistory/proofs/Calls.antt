@@ -8,8 +8,10 @@ use mathlib.Core.Bool.{Bool, true}
 use mathlib.Core.List.{List, [], _∷_, _++_}
 use lib.Dec.{ltb}
 use lib.ListN.{length, getD, getD-replicate}
+use borrow.Author.Tests.{lt-ltb, ltb-true}
 use Rattle.laws.specs.Tests.{all}
 use Rattle.laws.proofs.Refusals.{and-intro, answer-in}
+use Rattle.laws.proofs.Truth.{all-more}
 use Rattle.protocol.specs.State.{Station}
 use Rattle.protocol.specs.Outcomes.{Terms}
 use Rattle.protocol.specs.Calls.{messageOutcome}
@@ -19,25 +21,22 @@ use Rattle.protocol.proofs.Blind.{afterEarly, numbers, types-all}
 use Rattle.tally.specs.Counts.{answerCount, full, bumps, occurrences}
 use Rattle.tally.specs.History.{zeros}
 use Rattle.tally.proofs.History.{counts-exactly, zeros-sized, sum-is-messages}
-use Rattle.tallyhistory.specs.Calls.{answersOf, messages, TallyOfCalls}
-
-abbrev pub isAnswer : ℕ → Bool
-isAnswer n = ltb n answerCount
+use Rattle.tallyhistory.specs.Calls.{isMessageAnswer, answersOf, messages, TallyOfCalls}
 
 pub message-known : (s : Station) (l : ℕ) (m : List ℕ) (t : Terms) (route : List ℕ)
-    → isAnswer (messageOutcome s l m t route .answer) ≡ true
+    → isMessageAnswer (messageOutcome s l m t route .answer) ≡ true
 message-known s l m t route =
     rw (numbers s l m t route)
-    (answer-in isAnswer (earlyIn s l m (t .out) (length route) ++ afterEarly s l m t route) refl
-    (types-all s l m t route (λ c. isAnswer (c .1)) refl refl refl refl refl))
+    (answer-in isMessageAnswer (earlyIn s l m (t .out) (length route) ++ afterEarly s l m t route) refl
+    (types-all s l m t route (λ c. isMessageAnswer (c .1)) refl refl refl refl refl))
 
-all-known : (w : World) (cs : List Call) → all isAnswer (answersOf w cs) ≡ true
+all-known : (w : World) (cs : List Call) → all isMessageAnswer (answersOf w cs) ≡ true
 unfolding answersOf
 all-known w [] = refl
 all-known w (Open l ∷ cs) = all-known (step w (Open l)) cs
 all-known w (Close l ∷ cs) = all-known (step w (Close l)) cs
 all-known w (Message l m t a ∷ cs) =
-    and-intro (isAnswer (outcomeOf w (Message l m t a) .answer)) _
+    and-intro (isMessageAnswer (outcomeOf w (Message l m t a) .answer)) _
     (message-known (w .state) l m t (lent a (w .area)))
     (all-known (step w (Message l m t a)) cs)
 all-known w (Ask n text t a ∷ cs) = all-known (step w (Ask n text t a)) cs
@@ -51,6 +50,11 @@ how-many w (Close l ∷ cs) = how-many (step w (Close l)) cs
 how-many w (Message l m t a ∷ cs) = ap suc (how-many (step w (Message l m t a)) cs)
 how-many w (Ask n text t a ∷ cs) = how-many (step w (Ask n text t a)) cs
 
+-- each has a count
+pub all-counted : (ns : List ℕ) → all isMessageAnswer ns ≡ true → all (λ n. ltb n answerCount) ns ≡ true
+all-counted =
+    all-more isMessageAnswer (λ n. ltb n answerCount) (λ n e. lt-ltb n answerCount (omega (arith, ltb-true n 20 e)))
+
 -- the counts of any answers, from zero
 pub from-zero : (ns : List ℕ) (k : ℕ) → k < answerCount → getD (bumps zeros ns) k 0 ≡ min full (occurrences k ns)
 from-zero ns k h =
@@ -62,5 +66,6 @@ tally-of-calls w cs =
     record {
       known = all-known w cs;
       each = from-zero (answersOf w cs);
-      together = λ f. sum-is-messages (answersOf w cs) (all-known w cs) f ∙ how-many w cs;
+      together = λ f.
+          sum-is-messages (answersOf w cs) (all-counted (answersOf w cs) (all-known w cs)) f ∙ how-many w cs;
     }

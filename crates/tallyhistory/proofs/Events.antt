@@ -19,7 +19,7 @@ use Rattle.receiving.proofs.Cases.{FeedCase, Refused, Waits, Over, Whole, feed-
 use Rattle.tally.specs.Counts.{bump, bumps}
 use Rattle.tally.specs.History.{zeros}
 use Rattle.tally.proofs.History.{sum-is-messages}
-use Rattle.tallyhistory.specs.Calls.{isMessage}
+use Rattle.tallyhistory.specs.Calls.{isMessage, isMessageAnswer}
 use Rattle.tallyhistory.specs.Events.{
   isCounted,
   answersIn,
@@ -28,7 +28,7 @@ use Rattle.tallyhistory.specs.Events.{
   WaitingUncounted,
   TallyOfEvents,
 }
-use Rattle.tallyhistory.proofs.Calls.{isAnswer, message-known, from-zero}
+use Rattle.tallyhistory.proofs.Calls.{message-known, all-counted, from-zero}
 
 -- a call that brings bytes: it waits, and has no answer, or has one
 module _ (s : Station) (l : ℕ) (bytes held : List ℕ) (t : Terms) (route : List ℕ) where
@@ -36,23 +36,23 @@ module _ (s : Station) (l : ℕ) (bytes held : List ℕ) (t : Terms) (route : Li
   fed = feedOutcome s l bytes held t route
 
   pub record Answers : Type 0 where
-    pub known : fed .waits ≡ false → isAnswer (fed .result .answer) ≡ true
+    pub known : fed .waits ≡ false → isMessageAnswer (fed .result .answer) ≡ true
     pub none : fed .waits ≡ true → fed .result .answer ≡ waiting
 
   fed-answers : Answers
   fed-answers = by (feed-case s l bytes held t route)
     where
       -- it does not wait
-      answered : (f : Fed Station) → fed ≡ f → f .waits ≡ false → isAnswer (f .result .answer) ≡ true → Answers
+      answered : (f : Fed Station) → fed ≡ f → f .waits ≡ false → isMessageAnswer (f .result .answer) ≡ true → Answers
       answered f e w a =
           record {
-            known = λ _. ap (λ (x : Fed Station). isAnswer (x .result .answer)) e ∙ a;
+            known = λ _. ap (λ (x : Fed Station). isMessageAnswer (x .result .answer)) e ∙ a;
             none = λ z. absurd (clash z (ap (λ (x : Fed Station). x .waits) e ∙ w));
           }
 
       by : FeedCase s l bytes held t route → Answers
       by (Refused n e some u f) =
-          answered _ f refl (rw (← e) (answer-in isAnswer (before s l bytes held t route) refl refl))
+          answered _ f refl (rw (← e) (answer-in isMessageAnswer (before s l bytes held t route) refl refl))
       by (Waits p e x f) =
           record {
             known = λ z. absurd (clash (ap (λ (x : Fed Station). x .waits) f) z);
@@ -65,20 +65,20 @@ module _ (w : Receiver) (l : ℕ) (bytes : List ℕ) (t : Terms) (a : Area) (h :
   fed-event : Answers (w .state) l bytes (lentHeld h (w .held l)) t (lent a (w .area))
   fed-event = fed-answers (w .state) l bytes (lentHeld h (w .held l)) t (lent a (w .area))
 
-counted-known : (w : Receiver) (e : Event) → isCounted w e ≡ true → isAnswer (replyTo w e .answer) ≡ true
+counted-known : (w : Receiver) (e : Event) → isCounted w e ≡ true → isMessageAnswer (replyTo w e .answer) ≡ true
 counted-known w (Plain (Open l)) c = absurd (clash c refl)
 counted-known w (Plain (Close l)) c = absurd (clash c refl)
 counted-known w (Plain (Message l m t a)) c = message-known (w .state) l m t (lent a (w .area))
 counted-known w (Plain (Ask n text t a)) c = absurd (clash c refl)
 counted-known w (Feed l bytes t a h) c = fed-event w l bytes t a h .known (not-true (fedBy w l bytes t a h .waits) c)
 
-all-known : (w : Receiver) (es : List Event) → all isAnswer (answersIn w es) ≡ true
+all-known : (w : Receiver) (es : List Event) → all isMessageAnswer (answersIn w es) ≡ true
 unfolding answersIn
 all-known w [] = refl
 all-known w (e ∷ es) =
     let rest = all-known (handle w e) es in
-    of-choice (λ ns. all isAnswer ns ≡ true) (isCounted w e) _ _
-    (λ c. and-intro (isAnswer (replyTo w e .answer)) _ (counted-known w e c) rest) (λ _. rest)
+    of-choice (λ ns. all isMessageAnswer ns ≡ true) (isCounted w e) _ _
+    (λ c. and-intro (isMessageAnswer (replyTo w e .answer)) _ (counted-known w e c) rest) (λ _. rest)
 
 -- there is an answer for each that counts
 one-more : (b : Bool) (a n : ℕ) (ns : List ℕ) → length ns ≡ n → length (cond b (a ∷ ns) ns) ≡ cond b (suc n) n
@@ -128,6 +128,7 @@ tally-of-events w es =
     record {
       known = all-known w es;
       each = from-zero (answersIn w es);
-      together = λ f. sum-is-messages (answersIn w es) (all-known w es) f ∙ how-many w es;
+      together = λ f.
+          sum-is-messages (answersIn w es) (all-counted (answersIn w es) (all-known w es)) f ∙ how-many w es;
       every = every-reply w es zeros;
     }

@@ -17,6 +17,10 @@ isMessage (Close l) = false
 isMessage (Message l m t a) = true
 isMessage (Ask n text t a) = false
 
+-- an answer that a message can have: of the numbers that have a count, a list of names alone gives 20 (RULES 22.7)
+abbrev pub isMessageAnswer : ℕ → Bool
+isMessageAnswer n = ltb n 20
+
 -- the answers of the messages among these calls, in their order
 unfoldable pub answersOf : World → List Call → List ℕ
 answersOf w [] = []
@@ -31,9 +35,10 @@ messages (c ∷ cs) = cond (isMessage c) (suc (messages cs)) (messages cs)
 abbrev pub tallyOf : World → List Call → List ℕ
 tallyOf w cs = bumps zeros (answersOf w cs)
 
--- from any world, whatever the calls: every message is answered by one of the answer numbers, each count is how many
--- messages had its answer, or full where that is more, and while none is full they sum up to the number of messages
+-- from any world, whatever the calls: every message is answered by a number that a message can have, each count is how
+-- many messages had its answer, or full where that is more, and while none is full they sum up to the number of
+-- messages
 pub record TallyOfCalls (w : World) (cs : List Call) : Type 0 where
-  pub known : all (λ n. ltb n answerCount) (answersOf w cs) ≡ true
+  pub known : all isMessageAnswer (answersOf w cs) ≡ true
   pub each : (k : ℕ) → k < answerCount → getD (tallyOf w cs) k 0 ≡ min full (occurrences k (answersOf w cs))
   pub together : NoneFull (tallyOf w cs) → sum (tallyOf w cs) ≡ messages cs

@@ -12,7 +12,7 @@ use Rattle.receiving.specs.Feeding.{waiting}
 use Rattle.receiving.specs.Events.{Event, Plain, Feed, Receiver, fedBy, replyTo, handle}
 use Rattle.tally.specs.Counts.{answerCount, full, bump, bumps, occurrences, sum}
 use Rattle.tally.specs.History.{NoneFull, zeros}
-use Rattle.tallyhistory.specs.Calls.{isMessage}
+use Rattle.tallyhistory.specs.Calls.{isMessage, isMessageAnswer}
 
 -- it brings a message, or bytes of one
 abbrev pub brings : Event → Bool
@@ -47,11 +47,11 @@ tallyIn w es = bumps zeros (answersIn w es)
 abbrev pub WaitingUncounted : Type 0
 WaitingUncounted = (counts : List ℕ) → bump counts waiting ≡ counts
 
--- from any state with any areas, whatever the calls: what counts is answered by one of the answer numbers, each count
--- is how often its answer was given, or full where that is more, and while none is full they sum up to how many calls
--- count. A caller that counts after every call that brings something has the same counts
+-- from any state with any areas, whatever the calls: what counts is answered by a number that a message can have, each
+-- count is how often its answer was given, or full where that is more, and while none is full they sum up to how many
+-- calls count. A caller that counts after every call that brings something has the same counts
 pub record TallyOfEvents (w : Receiver) (es : List Event) : Type 0 where
-  pub known : all (λ n. ltb n answerCount) (answersIn w es) ≡ true
+  pub known : all isMessageAnswer (answersIn w es) ≡ true
   pub each : (k : ℕ) → k < answerCount → getD (tallyIn w es) k 0 ≡ min full (occurrences k (answersIn w es))
   pub together : NoneFull (tallyIn w es) → sum (tallyIn w es) ≡ countedIn w es
   pub every : bumps zeros (repliesIn w es) ≡ tallyIn w es

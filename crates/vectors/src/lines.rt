@@ -3,6 +3,7 @@ ghost use mathlib.Core.Path.{_≡_};
 ghost use lib.ListN.{length};
 use crate::calls;
 use crate::keyword;
+use crate::lists;
 use crate::pairs;
 use crate::print;
 use crate::sessions;
@@ -73,6 +74,7 @@ fn values(kind: usize, label: &[u8], row: &[u8], out: &mut [u8]) {
         6 | 7 | 8 | 9 => pairs::values(kind, row, out),
         12 | 13 => sessions::values(kind, label, row, out),
         16 => calls::look(row, out),
+        17 => lists::values(row),
         _ => calls::values(kind, row, out),
     }
 }
@@ -109,7 +111,7 @@ fn unread(line: &[u8]) {
 
 fn kind_of(name: &[u8]) -> usize {
     words::index(
-        b"place keywords update withheld table run group field try written case casehash session file calls order look",
+        b"place keywords update withheld table run group field try written case casehash session file calls order look names",
         name,
     )
 }
@@ -117,7 +119,7 @@ fn kind_of(name: &[u8]) -> usize {
 fn one(line: &[u8]) {
     let end = bytes::scan::find(line, 0, line.len(), b' ');
     let kind = kind_of(words::part(line, 0, end));
-    if kind < 17 {
+    if kind < 18 {
         row(kind, line, end);
     } else {
         unread(line);

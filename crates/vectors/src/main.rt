@@ -2,6 +2,7 @@
 mod calls;
 mod keyword;
 mod lines;
+mod lists;
 mod pairs;
 mod print;
 mod sessions;
