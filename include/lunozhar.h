@@ -29,7 +29,7 @@ extern "C" {
 #define LUNOZHAR_MEMORY 512
 #define LUNOZHAR_PONGS 10
 #define LUNOZHAR_PAIRS 32
-#define LUNOZHAR_ANSWERS 20
+#define LUNOZHAR_ANSWERS 21
 
 /* The shortest output area of a message or an own query: a header of 23 bytes and a payload of 4,096. */
 #define LUNOZHAR_OUTPUT 4119
@@ -41,28 +41,36 @@ extern "C" {
  * can send has 65,536. */
 #define LUNOZHAR_ROUTE 32
 
+/* The shortest area of a list of names (lunozhar_name_add): what it has more than that is room for the names' text. */
+#define LUNOZHAR_NAMES 4100
+
 /* The answers: done, or the first reason to refuse. */
 enum lunozhar_answer {
     LUNOZHAR_DONE = 0,
-    LUNOZHAR_NOT_IN_ORDER = 1,        /* the station's state is not in order; the held bytes start no message */
+    LUNOZHAR_NOT_IN_ORDER = 1,        /* the station's state or a list of names is not in order; the held bytes start
+                                       * no message */
     LUNOZHAR_BAD_AREA = 2,            /* an area is too short, or the route area gives another room than the state's */
     LUNOZHAR_BAD_LINE = 3,            /* the line is over 7, or not open; for opening: already open */
     LUNOZHAR_NOT_WHOLE = 4,           /* the message or handshake group does not end in the bytes that are there */
     LUNOZHAR_TOO_LONG = 5,            /* the payload is over 4,096 bytes, or an own query's text over 4,093 */
-    LUNOZHAR_BAD_PAYLOAD = 6,         /* the payload is wrong for its type; an own query's text or a host is wrong */
+    LUNOZHAR_BAD_PAYLOAD = 6,         /* the payload is wrong for its type; an own query's text, a host or a file name
+                                       * is wrong */
     LUNOZHAR_UNKNOWN_TYPE = 7,        /* the message is no ping, pong, query, query hit or route update */
     LUNOZHAR_BAD_TTL_OR_HOPS = 8,     /* TTL or Hops is not allowed */
-    LUNOZHAR_REPEATED = 9,            /* the query's number is remembered */
-    LUNOZHAR_NOT_FOUND = 10,          /* a hit or a look-up for no remembered query; the handshake field is absent */
+    LUNOZHAR_REPEATED = 9,            /* the query's number is remembered; the file name is in the list */
+    LUNOZHAR_NOT_FOUND = 10,          /* a hit or a look-up for no remembered query; the handshake field or the file
+                                       * name is absent */
     LUNOZHAR_ASKER_CLOSED = 11,       /* a hit for a query whose line has closed since */
     LUNOZHAR_HOPS_FULL = 12,          /* Hops is 255 and would have to rise */
     LUNOZHAR_PING_TOO_SOON = 13,      /* less than 1,000 ms since the line's last accepted ping */
-    LUNOZHAR_BAD_UPDATE = 14,         /* a field of a route update or an argument of the table writer is wrong */
+    LUNOZHAR_BAD_UPDATE = 14,         /* a field of a route update or an argument of the table writer is wrong; no
+                                       * table has this length or Infinity */
     LUNOZHAR_OUT_OF_TURN = 15,        /* a PATCH that is not the next of its run, or does not fit the table */
     LUNOZHAR_ENTRY_OUT_OF_RANGE = 16, /* a PATCH leads an entry outside 1 to Infinity */
     LUNOZHAR_BAD_HANDSHAKE = 17,      /* the handshake group is not understood */
     LUNOZHAR_NO_GROUP_END = 18,       /* no handshake group ends in the first 4,096 bytes */
-    LUNOZHAR_SHUT = 19                /* the line brought a payload that was too long, and is to be closed */
+    LUNOZHAR_SHUT = 19,               /* the line brought a payload that was too long, and is to be closed */
+    LUNOZHAR_LIST_FULL = 20           /* the list has 512 names, or its text has no room for the new one */
 };
 
 /* What stands where the answer would be while a message is not whole (lunozhar_feed): no answer has this number, and
@@ -229,6 +237,12 @@ typedef struct lunozhar_written {
     uint8_t answer;
     size_t written;
 } lunozhar_written;
+
+/* What the search for a name came to. */
+typedef struct lunozhar_name_found {
+    uint8_t answer; /* 0, 2, 1, 6 or 10 */
+    size_t place;   /* the name's place in the list, from 0; 0 where the answer is not 0 */
+} lunozhar_name_found;
 
 /* A handshake group that was read. When refused, all but the answer is 0. */
 typedef struct lunozhar_group {
@@ -417,7 +431,7 @@ static inline bool lunozhar_in_order(const lunozhar_station *station) {
                                   station->room, *lunozhar_lines_of(station));
 }
 
-/* Counts one more message with this answer. A number over 19 counts nothing, LUNOZHAR_WAITING among them. */
+/* Counts one more message with this answer. A number over 20 counts nothing, LUNOZHAR_WAITING among them. */
 void lunozhar_count(lunozhar_tally *tally, uint8_t answer);
 
 /* Writes the messages that turn a neighbour's copy of the old table into the new one: a RESET where there was none
@@ -428,6 +442,40 @@ void lunozhar_count(lunozhar_tally *tally, uint8_t answer);
 lunozhar_written lunozhar_write_table(lunozhar_number number, bool had, const uint8_t *old_entries, size_t old_len,
                                       uint8_t old_infinity, const uint8_t *new_entries, size_t new_len,
                                       uint8_t infinity, size_t size, uint8_t *out, size_t out_len);
+
+/* The station's own file names, up to 512 of them, are a list in one area that the caller lends. Numbers in it have 4
+ * bytes, little-endian:
+ *
+ *   bytes 0 to 3          how many names
+ *   from byte 4 + 8 * i   of the name at place i, from 0: its offset from the area's start, and its length
+ *   from byte 4100        the text: the bytes of the names, anywhere up to the area's end, with or without gaps
+ *
+ * Any area of at least LUNOZHAR_NAMES bytes whose first four are zero is an empty list; no call is needed to make one.
+ * A name has 1 to 255 bytes, none of them zero. The same bytes are the same name: the case of letters counts here.
+ *
+ * The four functions below first answer 2 for an area under LUNOZHAR_NAMES, then 1 for a list that is not in order:
+ * with more than 512 names, or with one that is no name as just said, does not lie wholly in the text, shares a byte
+ * with another or is the same as another. A list that only these functions wrote is in order. Pairs past the count, and
+ * text that belongs to no name, may be anything.
+ *
+ * Adds a name as the last. The room of names that were removed is used again: where it is needed, the texts of the
+ * others are moved together, and keep their order. Answers 0, 2, 1, 6 for a bad name, 9 for one that is in the list, or
+ * 20 where 512 are in it, or where their lengths and the new one's together are over area_len - LUNOZHAR_NAMES. */
+uint8_t lunozhar_name_add(uint8_t *area, size_t area_len, const uint8_t *name, size_t name_len);
+
+/* Removes a name: the place of each behind it becomes one less. Answers 0, 2, 1, 6 for a bad name, or 10 for one that
+ * is not in the list. */
+uint8_t lunozhar_name_remove(uint8_t *area, size_t area_len, const uint8_t *name, size_t name_len);
+
+/* Finds the place of a name. The area is only read. Answers as lunozhar_name_remove. */
+lunozhar_name_found lunozhar_name_find(const uint8_t *area, size_t area_len, const uint8_t *name, size_t name_len);
+
+/* Makes the station's own table, to be handed to lunozhar_write_table: `length` entries at the front of the output, 1
+ * where a keyword of some name falls, and Infinity elsewhere. The area is only read. Answers 0, 2, 1, 14 for a length
+ * that is no power of two from 4 to 65,536 or an Infinity outside 2 to 127, or 2 for an output shorter than the
+ * length. */
+uint8_t lunozhar_name_table(const uint8_t *area, size_t area_len, uint32_t length, uint8_t infinity, uint8_t *out,
+                            size_t out_len);
 
 /* Reads the handshake group at the front of the bytes. Answers 0, 4, 17 or 18. */
 lunozhar_group lunozhar_read_group(const uint8_t *bytes, size_t len);
@@ -554,12 +602,16 @@ LUNOZHAR_AT(lunozhar_beginning, answer, 0);
 LUNOZHAR_AT(lunozhar_beginning, room, 8);
 LUNOZHAR_AT(lunozhar_beginning, lines, 16);
 
-LUNOZHAR_SIZE(lunozhar_tally, 80);
+LUNOZHAR_SIZE(lunozhar_tally, 84);
 LUNOZHAR_AT(lunozhar_tally, counts, 0);
 
 LUNOZHAR_SIZE(lunozhar_written, 16);
 LUNOZHAR_AT(lunozhar_written, answer, 0);
 LUNOZHAR_AT(lunozhar_written, written, 8);
+
+LUNOZHAR_SIZE(lunozhar_name_found, 16);
+LUNOZHAR_AT(lunozhar_name_found, answer, 0);
+LUNOZHAR_AT(lunozhar_name_found, place, 8);
 
 LUNOZHAR_SIZE(lunozhar_group, 32);
 LUNOZHAR_AT(lunozhar_group, answer, 0);

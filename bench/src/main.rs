@@ -6,6 +6,7 @@
 mod growth;
 mod inputs;
 mod measure;
+mod names;
 mod proved;
 mod rows;
 mod sessions;
@@ -60,6 +61,11 @@ fn main() {
     for (name, measure) in rows::FUNCTIONS {
         if wanted(name) {
             print_row(measure(name, effort, &mut areas));
+        }
+    }
+    for (name, measure) in names::ROWS {
+        if wanted(name) {
+            print_row(measure(name, effort));
         }
     }
     print_head("How cost grows", "ns");

@@ -107,6 +107,31 @@ impl Side for Proved {
     }
 
     #[inline]
+    fn name_add(area: &mut [u8], name: &[u8]) -> u8 {
+        // SAFETY: two areas apart from each other, each with its length.
+        unsafe { raw::lunozhar_name_add(area.as_mut_ptr(), area.len(), name.as_ptr(), name.len()) }
+    }
+
+    #[inline]
+    fn name_remove(area: &mut [u8], name: &[u8]) -> u8 {
+        // SAFETY: two areas apart from each other, each with its length.
+        unsafe { raw::lunozhar_name_remove(area.as_mut_ptr(), area.len(), name.as_ptr(), name.len()) }
+    }
+
+    #[inline]
+    fn name_find(area: &[u8], name: &[u8]) -> (u8, usize) {
+        // SAFETY: slices with their lengths, which are only read.
+        let found = unsafe { raw::lunozhar_name_find(area.as_ptr(), area.len(), name.as_ptr(), name.len()) };
+        (found.answer, found.place)
+    }
+
+    #[inline]
+    fn name_table(area: &[u8], length: u32, infinity: u8, out: &mut [u8]) -> u8 {
+        // SAFETY: two areas apart from each other, each with its length.
+        unsafe { raw::lunozhar_name_table(area.as_ptr(), area.len(), length, infinity, out.as_mut_ptr(), out.len()) }
+    }
+
+    #[inline]
     fn write_table(writing: &Writing, out: &mut [u8]) -> (u8, usize) {
         let Writing { old, new, infinity, number, size } = writing;
         // SAFETY: three areas apart from each other, each with its length.

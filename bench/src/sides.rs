@@ -2,6 +2,7 @@
 
 use lunozhar_reference::handshake::{self, Kind};
 use lunozhar_reference::hash;
+use lunozhar_reference::names;
 use lunozhar_reference::station::{Fed, Handled, OwnPong, State, HELD, NOBODY, OUTPUT};
 use lunozhar_reference::writer::{write_table, Entries};
 
@@ -96,6 +97,11 @@ pub trait Side: Clone {
     fn look_up(&self, number: &[u8; 16]) -> Found;
     fn in_order(&self) -> bool;
     fn hash(keyword: &[u8]) -> u32;
+    fn name_add(area: &mut [u8], name: &[u8]) -> u8;
+    fn name_remove(area: &mut [u8], name: &[u8]) -> u8;
+    /// The answer and the place.
+    fn name_find(area: &[u8], name: &[u8]) -> (u8, usize);
+    fn name_table(area: &[u8], length: u32, infinity: u8, out: &mut [u8]) -> u8;
     /// The answer and how many bytes were written.
     fn write_table(writing: &Writing, out: &mut [u8]) -> (u8, usize);
     fn read_group(bytes: &[u8]) -> Greeted;
@@ -163,6 +169,26 @@ impl Side for Reference {
     #[inline]
     fn hash(keyword: &[u8]) -> u32 {
         hash::product(keyword)
+    }
+
+    #[inline]
+    fn name_add(area: &mut [u8], name: &[u8]) -> u8 {
+        names::add(area, name)
+    }
+
+    #[inline]
+    fn name_remove(area: &mut [u8], name: &[u8]) -> u8 {
+        names::remove(area, name)
+    }
+
+    #[inline]
+    fn name_find(area: &[u8], name: &[u8]) -> (u8, usize) {
+        names::find(area, name)
+    }
+
+    #[inline]
+    fn name_table(area: &[u8], length: u32, infinity: u8, out: &mut [u8]) -> u8 {
+        names::table(area, length, infinity, out)
     }
 
     #[inline]

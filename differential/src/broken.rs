@@ -10,8 +10,9 @@ pub struct Broken<const FAULT: usize>(Reference);
 
 /// How each fault is named: an answer, a line sent to, a byte past what is written, a place of the state that is not
 /// kept, a route byte, a writer's byte, the tally, and a panic; of bytes as they come those used, where the message
-/// stands, what is held and a shut mark; an age that is handed up, and one that is looked up.
-pub const FAULTS: [&str; 14] = [
+/// stands, what is held and a shut mark; an age that is handed up, and one that is looked up; of names a place, their order after a remove,
+/// a byte that a refused add does not leave, and a table's entry.
+pub const FAULTS: [&str; 18] = [
     "answer",
     "to",
     "output byte 4118",
@@ -26,10 +27,14 @@ pub const FAULTS: [&str; 14] = [
     "state: line 1 pending shut",
     "age",
     "after",
+    "place",
+    "names",
+    "area that is to stay byte 4099",
+    "output byte 5",
 ];
 
 /// A writer whose tables do not stand when they are read.
-pub const BAD_WRITER: usize = 14;
+pub const BAD_WRITER: usize = FAULTS.len();
 
 impl<const FAULT: usize> Side for Broken<FAULT> {
     fn begin(start: &Start) -> Self {
@@ -37,8 +42,8 @@ impl<const FAULT: usize> Side for Broken<FAULT> {
     }
 
     fn run(&mut self, call: &Call, lent: Lent<'_>) -> Outcome {
-        let Lent { out, route, held } = lent;
-        let mut outcome = self.0.run(call, Lent { out: &mut *out, route: &mut *route, held: &mut *held });
+        let Lent { out, route, held, names } = lent;
+        let mut outcome = self.0.run(call, Lent { out: &mut *out, route: &mut *route, held: &mut *held, names: &mut *names });
         match (FAULT, &mut outcome) {
             (0, Outcome::Told(told)) if told.answer == 9 => told.answer = 10,
             (1, Outcome::Told(told)) if told.to[5] && told.written > 60 => told.to[5] = false,
@@ -51,6 +56,10 @@ impl<const FAULT: usize> Side for Broken<FAULT> {
             (10, Outcome::Fed(fed)) if fed.waits && fed.told.used > 20 => held[25] ^= 1,
             (12, Outcome::Told(told)) if told.answer == 8 && told.age.known => told.age = Age::default(),
             (13, Outcome::Finding(finding)) if finding.after > 3 => finding.after -= 1,
+            (14, Outcome::Place(found)) if found.place > 1 => found.place -= 1,
+            (15, Outcome::Answer(0)) if matches!(call, Call::NameRemove { .. }) && names[0] > 1 => names[4..20].rotate_left(8),
+            (16, Outcome::Answer(20)) if names[1] < 2 => names[4_099] ^= 1,
+            (17, Outcome::Answer(0)) if matches!(call, Call::NameTable { .. }) && out.len() > 5 => out[5] ^= 1,
             (BAD_WRITER, Outcome::Written(written)) if written.written > 0 => out[written.written - 1] ^= 1,
             _ => {}
         }

@@ -1,6 +1,7 @@
 //! The calls that are compared.
 
 use crate::field::{attempt, drop_runs, part, Area, Field};
+use crate::listing::Listing;
 use lunozhar::raw::{Own, Pair};
 
 /// Bytes of a message's header; the last four are the payload's length.
@@ -88,6 +89,14 @@ calls! {
     WriteOk "write-ok" { out: Area }
     /// At most 32 pairs, of which the first `count` are to be written.
     WriteBusy "write-busy" { count: usize, pairs: Vec<Pair>, out: Area }
+    /// Another area of names, which is the case's own from then on.
+    NameArea "name-area" { area: Listing }
+    /// On the case's area of names. Where texts lie may differ then: each side goes on with its own bytes, or both with those of the side
+    /// `with`, 1 or 2.
+    NameAdd "name-add" { name: Vec<u8>, with: u8 }
+    NameRemove "name-remove" { name: Vec<u8>, with: u8 }
+    NameFind "name-find" { name: Vec<u8> }
+    NameTable "name-table" { length: u32, infinity: u8, out: Area }
     Hash "hash" { keyword: Vec<u8> }
     Place "place" { keyword: Vec<u8>, bits: u32 }
 }
@@ -119,7 +128,7 @@ impl Call {
     pub fn output(&self) -> Option<&Area> {
         match self {
             Call::Message { out, .. } | Call::Feed { out, .. } | Call::Ask { out, .. } => Some(out),
-            Call::WriteTable { out, .. } | Call::WriteBusy { out, .. } => Some(out),
+            Call::WriteTable { out, .. } | Call::WriteBusy { out, .. } | Call::NameTable { out, .. } => Some(out),
             Call::WriteGreeting { out } | Call::WriteOk { out } => Some(out),
             Call::ReadField { value, .. } => Some(value),
             _ => None,
@@ -146,6 +155,19 @@ impl Call {
     pub fn held_line(&self) -> usize {
         match self {
             Call::Feed { line, .. } => *line as usize % 8,
+            _ => 0,
+        }
+    }
+
+    /// Whether the area of names is lent to the call.
+    pub fn on_names(&self) -> bool {
+        matches!(self, Call::NameAdd { .. } | Call::NameRemove { .. } | Call::NameFind { .. } | Call::NameTable { .. })
+    }
+
+    /// The side whose area of names both go on with, 1 or 2.
+    pub fn goes_on_with(&self) -> u8 {
+        match self {
+            Call::NameAdd { with, .. } | Call::NameRemove { with, .. } => *with,
             _ => 0,
         }
     }

@@ -3,6 +3,7 @@
 use crate::call::Call;
 use crate::convert::{number_of, station_from_raw};
 use crate::field::{attempt, drop_runs, part, plain_runs, Area, Field};
+use crate::listing::Listing;
 use lunozhar::raw::{Line, Pending, Pong, Station, Table, Tally, ANSWERS, HELD, LINES};
 use std::array;
 use std::fmt::Write;
@@ -56,6 +57,7 @@ pub struct Start {
     pub tally: Tally,
     pub route: Area,
     pub held: [Held; LINES],
+    pub names: Listing,
 }
 
 impl Start {
@@ -63,7 +65,7 @@ impl Start {
     pub fn zero(route: Area) -> Start {
         let room = if route.length < 32 { 0 } else { route.length / 8 };
         let held = array::from_fn(|_| ZERO_HELD);
-        Start { station: Box::new(Station { room, ..ZERO }), tally: Tally { counts: [0; ANSWERS] }, route, held }
+        Start { station: Box::new(Station { room, ..ZERO }), tally: Tally { counts: [0; ANSWERS] }, route, held, names: Listing::EMPTY }
     }
 }
 
@@ -95,6 +97,9 @@ impl Start {
         }
         for (at, held) in self.held.iter().enumerate().filter(|(_, held)| **held != ZERO_HELD) {
             let _ = writeln!(text, "held {at} area={} front={}", held.area.text(), held.front.text());
+        }
+        if self.names != Listing::EMPTY {
+            let _ = writeln!(text, "names area={}", self.names.text());
         }
         for place in 0..asker.len() {
             if (lo[place], hi[place], asker[place]) != (0, 0, 0) {
@@ -151,6 +156,7 @@ impl Start {
             ["held", at, area, front] => {
                 *self.held.get_mut(usize::read(at)?)? = Held { area: Field::read(area)?, front: Field::read(front)? };
             }
+            ["names", area] => self.names = Field::read(area)?,
             ["query", place, number, asker] => {
                 let place = usize::read(place).filter(|&place| place < station.asker.len())?;
                 let number = u128::from_le_bytes(Field::read(number)?);
@@ -179,6 +185,7 @@ impl Start {
         for line in 0..self.held.len() {
             part(self, |start| &mut start.held[line], Held::simplify, still);
         }
+        part(self, |start| &mut start.names, Field::simplify, still);
         part(self, |start| &mut start.tally.counts, |counts, still| plain_array(counts, &0, still), still);
         part(self, |start| &mut start.station.lines, |lines, still| plain_array(lines, &ZERO_LINE, still), still);
         for at in 0..self.station.lines.len() {
@@ -317,8 +324,8 @@ mod tests {
         for case in 0..100 {
             let mut maker = Maker::of_case(3, case);
             let start = maker.start();
-            let route = start.route.bytes();
-            let calls = (0..20).map(|_| maker.call(&start.station, &route)).collect();
+            let (route, names) = (start.route.bytes(), start.names.bytes());
+            let calls = (0..20).map(|_| maker.call(&start.station, &route, &names)).collect();
             let case = Case { start, calls };
             assert_eq!(Case::read(&format!("# about\n{}", case.text())), Ok(case));
         }

@@ -10,7 +10,9 @@ mod case;
 mod compare;
 mod convert;
 mod field;
+mod listing;
 mod make;
+mod names;
 mod proved;
 mod random;
 mod run;
@@ -46,7 +48,7 @@ fn compare(calls: u64, seed: u64, counts: &mut Counts) -> Option<Case> {
         let mut case = Case { start: maker.start(), calls: Vec::new() };
         let mut runner = Runner::<Proved, Reference>::begin(&case.start);
         for _ in 0..maker.length() {
-            case.calls.push(maker.call(runner.station(), runner.route()));
+            case.calls.push(maker.call(runner.station(), runner.route(), runner.names()));
             if runner.step(&case.calls[case.calls.len() - 1], counts).is_err() {
                 return Some(case);
             }

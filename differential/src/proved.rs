@@ -21,6 +21,7 @@ impl Side for Proved {
             Call::LookUp { .. } | Call::InOrder {} => self.read(call),
             Call::Message { .. } | Call::Ask { .. } => self.handle(call, lent.out, lent.route),
             Call::Feed { .. } => self.feed(call, lent),
+            _ if call.on_names() => on_names(call, lent.names, lent.out),
             _ => pure(call, lent.out),
         }
     }
@@ -87,7 +88,7 @@ impl Proved {
 
 impl Proved {
     /// Bytes as they come.
-    fn feed(&mut self, call: &Call, Lent { out, route, held }: Lent<'_>) -> Outcome {
+    fn feed(&mut self, call: &Call, Lent { out, route, held, .. }: Lent<'_>) -> Outcome {
         let (line, clock, own, bytes) = match call {
             Call::Feed { line, clock, own, bytes, .. } => (*line, *clock, *own, bytes),
             _ => return Outcome::Nothing,
@@ -111,6 +112,23 @@ impl Proved {
                 route.len(),
             )
         })
+    }
+}
+
+/// The calls on an area of names.
+fn on_names(call: &Call, area: &mut [u8], out: &mut [u8]) -> Outcome {
+    let (at, length) = (area.as_mut_ptr(), area.len());
+    // SAFETY: each pointer goes with the length of its own slice, and the areas do not overlap.
+    unsafe {
+        match call {
+            Call::NameAdd { name, .. } => Outcome::Answer(raw::lunozhar_name_add(at, length, name.as_ptr(), name.len())),
+            Call::NameRemove { name, .. } => Outcome::Answer(raw::lunozhar_name_remove(at, length, name.as_ptr(), name.len())),
+            Call::NameFind { name } => Outcome::Place(raw::lunozhar_name_find(at, length, name.as_ptr(), name.len())),
+            Call::NameTable { length: entries, infinity, .. } => {
+                Outcome::Answer(raw::lunozhar_name_table(at, length, *entries, *infinity, out.as_mut_ptr(), out.len()))
+            }
+            _ => Outcome::Nothing,
+        }
     }
 }
 

@@ -4,6 +4,7 @@ use crate::call::Call;
 use crate::case::{Case, Start};
 use crate::compare::{self, Difference};
 use crate::field::Area;
+use crate::names;
 use crate::side::{Lent, Outcome, Side};
 use lunozhar::raw::{Own, Station, ANSWERS, LINES, WAITING};
 use std::collections::BTreeMap;
@@ -79,6 +80,9 @@ struct Half<S> {
     side: S,
     route: Vec<u8>,
     held: [Vec<u8>; LINES],
+    /// The area of names, and what it was before the call.
+    names: Vec<u8>,
+    before: Vec<u8>,
     passing: Passing,
     outcome: Outcome,
     station: Box<Station>,
@@ -88,7 +92,8 @@ impl<S: Side> Half<S> {
     fn begin(start: &Start) -> Half<S> {
         let (route, held) = (start.route.bytes(), std::array::from_fn(|line| start.held[line].bytes()));
         let (passing, station) = (Passing::default(), start.station.clone());
-        Half { side: S::begin(start), route, held, passing, outcome: Outcome::Nothing, station }
+        let (side, names, before, outcome) = (S::begin(start), start.names.bytes(), Vec::new(), Outcome::Nothing);
+        Half { side, route, held, names, before, passing, outcome, station }
     }
 
     fn run(&mut self, call: &Call, passing: &Passing) {
@@ -96,11 +101,22 @@ impl<S: Side> Half<S> {
         if let Call::Fresh { route } = call {
             route.fill(&mut self.route);
         }
+        if let Call::NameArea { area } = call {
+            area.fill(&mut self.names);
+        }
+        if call.on_names() {
+            self.before.clone_from(&self.names);
+        }
         let Passing { out, route, held } = &mut self.passing;
         let route = if call.other_route().is_some() { route } else { &mut self.route };
         let held = if call.other_held().is_some() { held } else { &mut self.held[call.held_line()] };
-        self.outcome = self.side.run(call, Lent { out, route, held });
+        self.outcome = self.side.run(call, Lent { out, route, held, names: &mut self.names });
         *self.station = self.side.station();
+    }
+
+    /// What is wrong with the area of names that the call left.
+    fn left(&self, call: &Call) -> Option<Difference> {
+        names::left(call, &self.outcome, &self.before, &self.names)
     }
 }
 
@@ -124,6 +140,10 @@ impl<A: Side, B: Side> Runner<A, B> {
         &self.first.route
     }
 
+    pub fn names(&self) -> &[u8] {
+        &self.first.names
+    }
+
     /// Does the next call on both and compares everything.
     pub fn step(&mut self, call: &Call, counts: &mut Counts) -> Result<(), Difference> {
         if let Call::RoundTrip { .. } = call {
@@ -134,20 +154,40 @@ impl<A: Side, B: Side> Runner<A, B> {
         self.first.run(call, &self.passing);
         self.second.run(call, &self.passing);
         counts.count(call, &self.first.outcome);
-        self.compare(call.held_line()).map_or(Ok(()), Err)
+        self.compare(call).map_or(Ok(()), Err)?;
+        match call.goes_on_with() {
+            1 => self.second.names.clone_from(&self.first.names),
+            2 => self.first.names.clone_from(&self.second.names),
+            _ => {}
+        }
+        Ok(())
     }
 
     /// Compares everything but the held areas of other lines, which no call is lent.
-    fn compare(&self, line: usize) -> Option<Difference> {
-        let (first, second) = (&self.first, &self.second);
+    fn compare(&self, call: &Call) -> Option<Difference> {
+        let (first, second, line) = (&self.first, &self.second, call.held_line());
         compare::outcomes(&first.outcome, &second.outcome)
             .or_else(|| compare::areas("output", &first.passing.out, &second.passing.out))
+            .or_else(|| self.compare_names(call))
             .or_else(|| compare::areas("held", &first.held[line], &second.held[line]))
             .or_else(|| compare::areas("other held", &first.passing.held, &second.passing.held))
             .or_else(|| compare::stations(&first.station, &second.station))
             .or_else(|| compare::areas("route", &first.route, &second.route))
             .or_else(|| compare::areas("other route", &first.passing.route, &second.passing.route))
             .or_else(|| compare::tallies(&first.side.tally(), &second.side.tally()))
+    }
+
+    /// Compares the names that a call on them left, and sees that each side left what the call says.
+    fn compare_names(&self, call: &Call) -> Option<Difference> {
+        if !call.on_names() {
+            return None;
+        }
+        let (first, second) = (&self.first, &self.second);
+        let wrong = |of: &Difference| format!("{}, where {} is right", of.second, of.first);
+        let (one, two, none) = (first.left(call), second.left(call), "-".to_string());
+        names::lists(&first.names, &second.names)
+            .or_else(|| one.map(|of| Difference { first: wrong(&of), second: none.clone(), what: of.what }))
+            .or_else(|| two.map(|of| Difference { first: none.clone(), second: wrong(&of), what: of.what }))
     }
 
     /// Hands over messages that stand one behind the other, up to the first that is refused.

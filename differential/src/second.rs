@@ -4,11 +4,11 @@ use crate::call::Call;
 use crate::case::Start;
 use crate::convert;
 use crate::side::{Lent, Outcome, Side};
-use lunozhar::raw::{Station, Tally};
+use lunozhar::raw::{NameFound, Station, Tally};
 use lunozhar_reference::handshake::{self, Pair};
 use lunozhar_reference::station::State;
 use lunozhar_reference::writer::{self, Entries};
-use lunozhar_reference::{hash, tally};
+use lunozhar_reference::{hash, names, tally};
 use std::panic::{self, AssertUnwindSafe};
 
 pub struct Reference {
@@ -40,7 +40,11 @@ impl Side for Reference {
 }
 
 impl Reference {
-    fn done(&mut self, call: &Call, Lent { out, route, held }: Lent<'_>) -> Outcome {
+    fn done(&mut self, call: &Call, lent: Lent<'_>) -> Outcome {
+        if call.on_names() {
+            return on_names(call, lent.names, lent.out);
+        }
+        let Lent { out, route, held, .. } = lent;
         match call {
             Call::Fresh { .. } => {
                 let (answer, state) = State::fresh(route);
@@ -66,6 +70,20 @@ impl Reference {
             }
             _ => pure(call, out),
         }
+    }
+}
+
+/// The calls on an area of names.
+fn on_names(call: &Call, area: &mut [u8], out: &mut [u8]) -> Outcome {
+    match call {
+        Call::NameAdd { name, .. } => Outcome::Answer(names::add(area, name)),
+        Call::NameRemove { name, .. } => Outcome::Answer(names::remove(area, name)),
+        Call::NameFind { name } => {
+            let (answer, place) = names::find(area, name);
+            Outcome::Place(NameFound { answer, place })
+        }
+        Call::NameTable { length, infinity, .. } => Outcome::Answer(names::table(area, *length, *infinity, out)),
+        _ => Outcome::Nothing,
     }
 }
 

@@ -42,7 +42,7 @@ mod tests {
             let mut case = Case { start: maker.start(), calls: Vec::new() };
             let mut runner = Runner::<A, B>::begin(&case.start);
             for _ in 0..30 {
-                case.calls.push(maker.call(runner.station(), runner.route()));
+                case.calls.push(maker.call(runner.station(), runner.route(), runner.names()));
                 if let Err(difference) = runner.step(&case.calls[case.calls.len() - 1], &mut Counts::default()) {
                     return (case, difference);
                 }
@@ -78,5 +78,9 @@ mod tests {
         found_and_small::<11>();
         found_and_small::<12>();
         found_and_small::<13>();
+        found_and_small::<14>();
+        found_and_small::<15>();
+        found_and_small::<16>();
+        found_and_small::<17>();
     }
 }

@@ -2,14 +2,15 @@
 
 use crate::call::Call;
 use crate::case::Start;
-use lunozhar::raw::{Asked, Fed, Finding, Group, Hosts, Station, Tally, Told, Written};
+use lunozhar::raw::{Asked, Fed, Finding, Group, Hosts, NameFound, Station, Tally, Told, Written};
 
-/// The areas that are lent to a call: for output, the route area, and of a call that brings bytes the held area of its
-/// line.
+/// The areas that are lent to a call: for output, the route area, of a call that brings bytes the held area of its line, and the area of
+/// names.
 pub struct Lent<'a> {
     pub out: &'a mut [u8],
     pub route: &'a mut [u8],
     pub held: &'a mut [u8],
+    pub names: &'a mut [u8],
 }
 
 /// An implementation with a state and a tally of its own.
@@ -31,6 +32,7 @@ pub enum Outcome {
     Told(Told),
     Fed(Fed),
     Finding(Finding),
+    Place(NameFound),
     Written(Written),
     Group(Group),
     Asked(Asked),
@@ -46,6 +48,7 @@ impl Outcome {
             Outcome::Answer(answer) => Some(*answer),
             Outcome::Told(told) | Outcome::Fed(Fed { told, .. }) => Some(told.answer),
             Outcome::Finding(finding) => Some(finding.answer),
+            Outcome::Place(found) => Some(found.answer),
             Outcome::Written(written) => Some(written.answer),
             Outcome::Group(group) => Some(group.answer),
             Outcome::Asked(asked) => Some(asked.answer),
@@ -75,6 +78,7 @@ impl Outcome {
                 fields
             }
             Outcome::Finding(finding) => named!(finding; answer asker after),
+            Outcome::Place(found) => named!(found; answer place),
             Outcome::Written(written) => named!(written; answer written),
             Outcome::Group(group) => named!(group; answer used kind major minor code),
             Outcome::Asked(asked) => named!(asked; answer used written),

@@ -22,9 +22,13 @@
 //!   read from where its bytes stand, and what is brought is copied behind what is held.
 //! - Hash: four bytes of a keyword at a time. There it goes byte by byte. A handshake field: one pass over the group. There it takes three: for its end, over its lines, and up to the
 //!   last byte of the value.
+//! - Own names: names stand in one table of slots, each at its own slot or the next that was free; where offsets do not
+//!   rise the pairs are sorted; gaps are closed by writing all texts anew from a vector, in the list's order. There names
+//!   of one bucket are chained, every pair is held to every other, and texts are moved down in place, the lowest first.
+//!   A zero byte is met where a name's bytes are mixed. There one pass over the text looks for zeros.
 //!
 //! Both go the same way, the plain one, in this: the kept places of a ring are taken as two straight stretches; a query's keywords are cut and
-//! hashed once for all lines; a place is the top bits of the hash, moved down; a table's state has the same seven fields; and every update is
+//! hashed once for all lines; a place is the top bits of the hash, moved down; a list's names are told apart by mixing words of eight bytes, the last of which may overlap, and by some more bits of the mix before their bytes are compared; a table's state has the same seven fields; and every update is
 //! tested in the order 14, 15, 16.
 //!
 //! No promise of this crate is proved. It has unit tests for document 01's own examples and for errors that are easily made.
@@ -36,11 +40,13 @@
 //! - [`handshake`]: the groups that are exchanged before the first message.
 //! - [`header`]: the message header.
 //! - [`station`]: the state of a station and the calls on it.
+//! - [`names`]: the station's own file names and their table.
 //! - [`tally`]: counts of the answers given.
 //! - [`session`]: the text of a session file.
 //!
-//! Answers are document 01's numbers, 0 to 18, and 19 for a line that is shut (document 02, R-1). A call that looks a
-//! query's number up and finds it hands its age up (document 02, R-2): how many were remembered after it.
+//! Answers are document 01's numbers, 0 to 18, 19 for a line that is shut (document 02, R-1), and 20 for a list of names
+//! that is full. A call that looks a query's number up and finds it hands its age up: how many were
+//! remembered after it.
 
 #![forbid(unsafe_code)]
 
@@ -48,6 +54,7 @@ pub mod handshake;
 pub mod hash;
 pub mod header;
 pub mod keywords;
+pub mod names;
 pub mod session;
 pub mod station;
 pub mod table;

@@ -5,7 +5,7 @@
 //! write overlaps nothing else. Slices and references are so, empty ones too, and `&mut` borrows of one call are apart. It keeps no pointer.
 #![allow(unsafe_code)]
 
-use crate::raw::{self, Asked, Fed, Finding, Group, Hosts, Lines, Number, Own, Pairs, Station, Tally, Told, Written, LINES};
+use crate::raw::{self, Asked, Fed, Finding, Group, Hosts, Lines, NameFound, Number, Own, Pairs, Station, Tally, Told, Written, LINES};
 
 /// Makes a station over a route area of so many bytes.
 ///
@@ -292,6 +292,29 @@ pub(crate) fn write_table(number: Number, old: Option<(&[u8], u8)>, new: (&[u8],
             out_len,
         )
     }
+}
+
+pub(crate) fn name_add(area: &mut [u8], name: &[u8]) -> u8 {
+    let area_len = area.len();
+    // SAFETY: each pointer goes with the length of its slice; the area is borrowed apart from the name.
+    unsafe { raw::lunozhar_name_add(area.as_mut_ptr(), area_len, name.as_ptr(), name.len()) }
+}
+
+pub(crate) fn name_remove(area: &mut [u8], name: &[u8]) -> u8 {
+    let area_len = area.len();
+    // SAFETY: each pointer goes with the length of its slice; the area is borrowed apart from the name.
+    unsafe { raw::lunozhar_name_remove(area.as_mut_ptr(), area_len, name.as_ptr(), name.len()) }
+}
+
+pub(crate) fn name_find(area: &[u8], name: &[u8]) -> NameFound {
+    // SAFETY: each pointer goes with the length of its slice, which is only read.
+    unsafe { raw::lunozhar_name_find(area.as_ptr(), area.len(), name.as_ptr(), name.len()) }
+}
+
+pub(crate) fn name_table(area: &[u8], length: u32, infinity: u8, out: &mut [u8]) -> u8 {
+    let out_len = out.len();
+    // SAFETY: each pointer goes with the length of its slice; the output is borrowed apart from the area.
+    unsafe { raw::lunozhar_name_table(area.as_ptr(), area.len(), length, infinity, out.as_mut_ptr(), out_len) }
 }
 
 pub(crate) fn read_group(bytes: &[u8]) -> Group {

@@ -25,7 +25,7 @@
 //!
 //! // The same query once more is refused. None was remembered after it.
 //! let refused = second.message(0, 1_100, &own, asked.bytes).unwrap_err();
-//! assert_eq!(refused.to_string(), "refused with 9: the query's number is remembered (39 bytes used)");
+//! assert_eq!(refused.to_string(), "refused with 9: the query's number is remembered, or the file name is listed (39 bytes used)");
 //! assert_eq!(refused.after, Some(0));
 //! # Ok::<(), Box<dyn std::error::Error>>(())
 //! ```
@@ -33,8 +33,8 @@
 //! [`Station`] has the calls; what a line brings in scraps goes to [`Station::feed`] or [`Station::feed_all`];
 //! [`Station::look_up`] tells who asked a query, and how many were remembered after it.
 //! [`handshake`] reads and writes the groups of lines that open a connection; [`table`] writes the updates of a route
-//! table for a neighbour; [`keyword`] has a keyword's hash and place. A refusal is a [`Refusal`], with its number.
-//! [`raw`] is what C sees.
+//! table for a neighbour; [`Names`] are the station's own file names, and make its own table; [`keyword`] has a keyword's
+//! hash and place. A refusal is a [`Refusal`], with its number. [`raw`] is what C sees.
 //!
 //! The core is linked from `target/staticlib/liblunozhar.a` of the repository, which `rt staticlib lunozhar` proves and writes for x86-64; the
 //! variable `LUNOZHAR_LIB` names another folder that holds it.
@@ -43,12 +43,14 @@
 mod boundary;
 pub mod handshake;
 pub mod keyword;
+mod names;
 pub mod raw;
 mod refusal;
 mod station;
 pub mod table;
 mod tally;
 
-pub use refusal::{Refusal, Refused};
+pub use names::Names;
+pub use refusal::{Refusal, Refused, RefusedBytes};
 pub use station::{Asker, Fed, Local, Outcome, Own, Remembered, Sent, Station};
 pub use tally::Tally;

@@ -30,14 +30,16 @@ pub const MEMORY: usize = 512;
 pub const PONGS: usize = 10;
 /// Hosts of an X-Try field that are read, and that can be written.
 pub const PAIRS: usize = 32;
-/// Answer numbers: 0 for done, and 19 refusals.
-pub const ANSWERS: usize = 20;
+/// Answer numbers: 0 for done, and 20 refusals.
+pub const ANSWERS: usize = 21;
 /// The shortest output area of a message or an own query.
 pub const OUTPUT: usize = 4_119;
 /// The shortest held area of a line.
 pub const HELD: usize = 4_119;
 /// The shortest route area.
 pub const ROUTE: usize = 32;
+/// The shortest area of a list of names.
+pub const NAMES: usize = 4_100;
 
 /// What stands where the answer would be while a message is not whole. It is no answer number.
 pub const WAITING: u8 = 255;
@@ -309,6 +311,16 @@ pub struct Written {
     pub written: usize,
 }
 
+/// What the search for a name came to.
+#[repr(C)]
+#[derive(Clone, Copy, Debug, PartialEq, Eq)]
+pub struct NameFound {
+    /// 0, or the number of a [`crate::Refusal`].
+    pub answer: u8,
+    /// The name's place in the list, from 0; 0 where the answer is not 0.
+    pub place: usize,
+}
+
 /// A handshake group that was read. When refused, all but the answer is 0.
 #[repr(C)]
 #[derive(Clone, Copy, Debug, PartialEq, Eq)]
@@ -497,6 +509,14 @@ extern "C" {
         out: *mut u8,
         out_len: usize,
     ) -> Written;
+    /// Adds a name to a list as the last.
+    pub fn lunozhar_name_add(area: *mut u8, area_len: usize, name: *const u8, name_len: usize) -> u8;
+    /// Removes a name from a list.
+    pub fn lunozhar_name_remove(area: *mut u8, area_len: usize, name: *const u8, name_len: usize) -> u8;
+    /// Finds the place of a name in a list.
+    pub fn lunozhar_name_find(area: *const u8, area_len: usize, name: *const u8, name_len: usize) -> NameFound;
+    /// Makes the table of a list of names.
+    pub fn lunozhar_name_table(area: *const u8, area_len: usize, length: u32, infinity: u8, out: *mut u8, out_len: usize) -> u8;
     /// Reads a handshake group.
     pub fn lunozhar_read_group(bytes: *const u8, len: usize) -> Group;
     /// Writes the value of a handshake group's field to an area.
@@ -546,8 +566,9 @@ layout! {
     Feeding 328 { line 0, fed 248 }
     LineChange 256 { answer 0, line 8 }
     Beginning 2000 { answer 0, room 8, lines 16 }
-    Tally 80 { counts 0 }
+    Tally 84 { counts 0 }
     Written 16 { answer 0, written 8 }
+    NameFound 16 { answer 0, place 8 }
     Group 32 { answer 0, used 8, kind 16, major 20, minor 24, code 28 }
     Asked 24 { answer 0, used 8, written 16 }
     Pair 6 { address 0, port 4 }

@@ -4,7 +4,7 @@ use crate::raw::{Age, Told};
 use std::error::Error;
 use std::fmt;
 
-/// Why a call was refused: one variant for each of the core's answer numbers 1 to 19.
+/// Why a call was refused: one variant for each of the core's answer numbers 1 to 20.
 ///
 /// A refusal sends nothing and changes nothing, but that a route update refused by [`BadUpdate`](Refusal::BadUpdate),
 /// [`OutOfTurn`](Refusal::OutOfTurn) or [`EntryOutOfRange`](Refusal::EntryOutOfRange) marks its line's table as broken
@@ -14,8 +14,8 @@ use std::fmt;
 #[non_exhaustive]
 #[repr(u8)]
 pub enum Refusal {
-    /// 1: the station's state is not in order; of bytes that a line brings: what is held of the line starts no
-    /// message.
+    /// 1: the station's state or a list of names is not in order; of bytes that a line brings: what is held of the line
+    /// starts no message.
     NotInOrder = 1,
     /// 2: an area is too short, or the route area gives another room than the state's.
     BadArea = 2,
@@ -25,15 +25,15 @@ pub enum Refusal {
     NotWhole = 4,
     /// 5: the payload is over 4,096 bytes, or an own query's text over 4,093.
     TooLong = 5,
-    /// 6: the payload is wrong for its type; an own query's text or a host is wrong.
+    /// 6: the payload is wrong for its type; an own query's text, a host or a file name is wrong.
     BadPayload = 6,
     /// 7: the message is no ping, pong, query, query hit or route update.
     UnknownType = 7,
     /// 8: TTL or Hops is not allowed.
     BadTtlOrHops = 8,
-    /// 9: the query's number is remembered.
+    /// 9: the query's number is remembered; the file name is in the list.
     Repeated = 9,
-    /// 10: a hit or a look-up for no remembered query; the handshake field is absent.
+    /// 10: a hit or a look-up for no remembered query; the handshake field or the file name is absent.
     NotFound = 10,
     /// 11: a hit for a query whose line has closed since, even if it is open again.
     AskerClosed = 11,
@@ -41,7 +41,8 @@ pub enum Refusal {
     HopsFull = 12,
     /// 13: less than 1,000 ms since the line's last accepted ping.
     PingTooSoon = 13,
-    /// 14: a field of a route update is not allowed; the table writer's arguments are wrong.
+    /// 14: a field of a route update is not allowed; the table writer's arguments are wrong; no table has this length or
+    /// Infinity.
     BadUpdate = 14,
     /// 15: a PATCH that is not the next of its run, or does not fit the table.
     OutOfTurn = 15,
@@ -53,6 +54,8 @@ pub enum Refusal {
     NoGroupEnd = 18,
     /// 19: the line brought a payload that was too long, and is to be closed.
     Shut = 19,
+    /// 20: the list has 512 names, or its text has no room for the new one.
+    ListFull = 20,
 }
 
 impl Refusal {
@@ -60,9 +63,9 @@ impl Refusal {
     ///
     /// ```
     /// use lunozhar::Refusal;
-    /// assert!(Refusal::ALL.iter().map(|refusal| refusal.number()).eq(1..=19));
+    /// assert!(Refusal::ALL.iter().map(|refusal| refusal.number()).eq(1..=20));
     /// ```
-    pub const ALL: [Refusal; 19] = [
+    pub const ALL: [Refusal; 20] = [
         Refusal::NotInOrder,
         Refusal::BadArea,
         Refusal::BadLine,
@@ -82,9 +85,10 @@ impl Refusal {
         Refusal::BadHandshake,
         Refusal::NoGroupEnd,
         Refusal::Shut,
+        Refusal::ListFull,
     ];
 
-    /// The answer number, 1 to 19.
+    /// The answer number, 1 to 20.
     ///
     /// ```
     /// assert_eq!(lunozhar::Refusal::AskerClosed.number(), 11);
@@ -111,25 +115,26 @@ impl Refusal {
     /// ```
     pub fn meaning(self) -> &'static str {
         match self {
-            Refusal::NotInOrder => "the station's state or a line's held area is not in order",
+            Refusal::NotInOrder => "the station's state, a line's held area or a list of names is not in order",
             Refusal::BadArea => "an area is too short, or the route area gives another room",
             Refusal::BadLine => "no such line, or it is not open, or open already",
             Refusal::NotWhole => "the message or handshake group is not whole",
             Refusal::TooLong => "the payload or the query's text is too long",
-            Refusal::BadPayload => "the payload, the query's text or a host is wrong",
+            Refusal::BadPayload => "the payload, the query's text, a host or a file name is wrong",
             Refusal::UnknownType => "unknown type of message",
             Refusal::BadTtlOrHops => "TTL or Hops is not allowed",
-            Refusal::Repeated => "the query's number is remembered",
-            Refusal::NotFound => "no remembered query has the number, or no such handshake field",
+            Refusal::Repeated => "the query's number is remembered, or the file name is listed",
+            Refusal::NotFound => "no remembered query has the number, or no such handshake field or file name",
             Refusal::AskerClosed => "the asker's line has closed",
             Refusal::HopsFull => "Hops is 255 and would have to rise",
             Refusal::PingTooSoon => "ping too soon after the last one",
-            Refusal::BadUpdate => "a field of the route update is not allowed",
+            Refusal::BadUpdate => "a field of the route update or table is not allowed",
             Refusal::OutOfTurn => "route update out of turn",
             Refusal::EntryOutOfRange => "a patch leads an entry outside 1 to Infinity",
             Refusal::BadHandshake => "handshake not understood",
             Refusal::NoGroupEnd => "no handshake group ends in 4,096 bytes",
             Refusal::Shut => "the line is shut until it is closed and opened",
+            Refusal::ListFull => "the list of names is full, or has no room for the name",
         }
     }
 }
@@ -149,7 +154,7 @@ impl Error for Refusal {}
 /// use lunozhar::handshake;
 ///
 /// let refused = handshake::field(b"GNUTELLA/0.6 200 OK\r\n\r\n", "X-Try").unwrap_err();
-/// assert_eq!(refused.to_string(), "refused with 10: no remembered query has the number, or no such handshake field (23 bytes used)");
+/// assert_eq!(refused.to_string(), "refused with 10: no remembered query has the number, or no such handshake field or file name (23 bytes used)");
 /// ```
 #[derive(Clone, Copy, Debug, PartialEq, Eq, Hash)]
 pub struct Refused {
@@ -182,11 +187,42 @@ impl From<Refused> for Refusal {
     }
 }
 
+/// A refusal of bytes that were to be a list of names, with the bytes.
+///
+/// ```
+/// use lunozhar::{Names, Refusal};
+///
+/// let refused = Names::from_bytes(vec![7; 4_099]).unwrap_err();
+/// assert_eq!(refused.refusal, Refusal::BadArea);
+/// assert_eq!(refused.bytes, [7; 4_099]);
+/// ```
+#[derive(Clone, Debug, PartialEq, Eq)]
+pub struct RefusedBytes {
+    /// Why: [`Refusal::BadArea`] or [`Refusal::NotInOrder`].
+    pub refusal: Refusal,
+    /// The bytes, as they were handed over.
+    pub bytes: Vec<u8>,
+}
+
+impl fmt::Display for RefusedBytes {
+    fn fmt(&self, f: &mut fmt::Formatter<'_>) -> fmt::Result {
+        self.refusal.fmt(f)
+    }
+}
+
+impl Error for RefusedBytes {}
+
+impl From<RefusedBytes> for Refusal {
+    fn from(refused: RefusedBytes) -> Refusal {
+        refused.refusal
+    }
+}
+
 /// An answer of the core as a result.
 pub(crate) fn checked(answer: u8) -> Result<(), Refusal> {
     match answer {
         0 => Ok(()),
-        number => Err(Refusal::from_number(number).expect("the core's answers are 0 to 19")),
+        number => Err(Refusal::from_number(number).expect("the core's answers are 0 to 20")),
     }
 }
 

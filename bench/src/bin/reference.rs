@@ -2,6 +2,7 @@
 
 use lunozhar_reference::handshake::{field, read_group, try_pairs, write_busy, write_greeting, write_ok};
 use lunozhar_reference::hash::{place, product};
+use lunozhar_reference::names;
 use lunozhar_reference::station::State;
 use lunozhar_reference::tally::Tally;
 use lunozhar_reference::writer::write_table;
@@ -19,6 +20,10 @@ fn main() {
         State::look_up as *const (),
         State::in_order as *const (),
         Tally::count as *const (),
+        names::add as *const (),
+        names::remove as *const (),
+        names::find as *const (),
+        names::table as *const (),
         write_table as *const (),
         read_group as *const (),
         field as *const (),

@@ -3,6 +3,7 @@
 mod feeds;
 mod groups;
 mod messages;
+mod names;
 mod start;
 mod tables;
 
@@ -23,6 +24,8 @@ pub struct Maker {
     clock: u32,
     /// Whether the start is damaged; then few calls will do.
     damaged: bool,
+    /// Whether most calls are on the area of names.
+    listing: bool,
     /// A call that is to follow at once.
     next: Option<Call>,
     /// For each line the message that it is in the midst of, with what it brings behind it.
@@ -36,12 +39,13 @@ impl Maker {
         let before = 1 + random.below(20_000) as u32;
         let clock = random.number() as u32;
         let clock = random.pick(&[0, 1_000_000, 0u32.wrapping_sub(before), HALF - before, clock]);
-        Maker { clock, damaged: random.one_in(2), next: None, streams: Default::default(), random }
+        let (damaged, listing) = (random.one_in(2), random.one_in(10));
+        Maker { clock, damaged, listing, next: None, streams: Default::default(), random }
     }
 
     /// How many calls the case has.
     pub fn length(&mut self) -> usize {
-        let most = if self.damaged { 3 } else { self.random.pick(&[4, 10, 40, 80]) };
+        let most = if self.damaged && !self.listing { 3 } else { self.random.pick(&[4, 10, 40, 80]) };
         1 + self.random.below(most)
     }
 
@@ -58,10 +62,13 @@ impl Maker {
         start
     }
 
-    /// A call for this state and route area.
-    pub fn call(&mut self, station: &Station, route: &[u8]) -> Call {
+    /// A call for this state, route area and area of names.
+    pub fn call(&mut self, station: &Station, route: &[u8], names: &[u8]) -> Call {
         if let Some(call) = self.next.take() {
             return call;
+        }
+        if self.listing && !self.random.one_in(8) {
+            return self.name_call(names);
         }
         if self.damaged && self.random.one_in(2) {
             return if self.random.one_in(4) { self.look_up(station) } else { Call::InOrder {} };
@@ -75,7 +82,7 @@ impl Maker {
         if let Some(call) = self.reopening(station) {
             return call;
         }
-        match self.random.below(248) {
+        match self.random.below(258) {
             0 | 1 => Call::Fresh { route: start::fresh_route(&mut self.random) },
             2..=12 => Call::Open { line: self.line(station, false) },
             13..=17 => Call::Close { line: self.line(station, true) },
@@ -89,6 +96,7 @@ impl Maker {
             72..=75 => Call::Place { keyword: self.keyword(), bits: self.bits() },
             76..=130 => self.feed(station, route),
             131..=138 => self.look_up(station),
+            139..=148 => self.name_call(names),
             _ => self.message(station, route),
         }
     }
@@ -103,7 +111,7 @@ impl Maker {
 
     fn some_answer(&mut self) -> u8 {
         let any = self.random.byte();
-        self.random.pick(&[0, 1, 9, 17, 18, 19, 20, 255, any])
+        self.random.pick(&[0, 1, 9, 17, 18, 19, 20, 21, 255, any])
     }
 
     /// A line, mostly one that is open or not as asked for.
@@ -169,21 +177,27 @@ impl Maker {
 mod tests {
     use super::*;
     use crate::case::Case;
+    use crate::listing::{names_in, MOST, TEXT};
     use crate::run::{Counts, Runner};
     use crate::second::Reference;
-    use lunozhar::raw::HELD;
+    use lunozhar::raw::{ANSWERS, HELD};
     use std::array;
 
     /// Runs cases and hands each call to `each`, with the state it meets and the call before it.
     fn counted(cases: u64, mut each: impl FnMut(&Station, Option<&Call>, &Call)) -> Counts {
+        counted_with(cases, |station, _, before, call| each(station, before, call))
+    }
+
+    /// The same, with the area of names besides.
+    fn counted_with(cases: u64, mut each: impl FnMut(&Station, &[u8], Option<&Call>, &Call)) -> Counts {
         let mut counts = Counts::default();
         for case in 0..cases {
             let mut maker = Maker::of_case(2, case);
             let mut runner = Runner::<Reference, Reference>::begin(&maker.start());
             let mut before = None;
             for _ in 0..maker.length() {
-                let call = maker.call(runner.station(), runner.route());
-                each(runner.station(), before.as_ref(), &call);
+                let call = maker.call(runner.station(), runner.route(), runner.names());
+                each(runner.station(), runner.names(), before.as_ref(), &call);
                 runner.step(&call, &mut counts).expect("one implementation agrees with itself");
                 before = Some(call);
             }
@@ -280,11 +294,72 @@ mod tests {
         assert!(scraps.iter().map(|count| count.waits).sum::<u64>() > 500);
     }
 
+    /// What is odd about a call on an area of names, or about the area.
+    fn rare_names(area: &[u8], call: &Call) -> Vec<&'static str> {
+        let number = |at: usize| u32::from_le_bytes([area[at], area[at + 1], area[at + 2], area[at + 3]]) as usize;
+        if !call.on_names() || area.len() < TEXT {
+            return Vec::new();
+        }
+        let (count, room) = (number(0), area.len() - TEXT);
+        let pairs: Vec<(usize, usize)> = (0..count.min(MOST)).map(|place| (number(4 + 8 * place), number(8 + 8 * place))).collect();
+        let good = names_in(area).is_some();
+        let (adds, added) = match call {
+            Call::NameAdd { name, .. } => (good, name.len()),
+            _ => (false, 0),
+        };
+        let pair_513 = room > 8 && number(TEXT) >= TEXT && number(TEXT) + number(TEXT + 4) <= area.len();
+        let rises = pairs.windows(2).all(|two| two[0].0 < two[1].0);
+        let end = pairs.iter().map(|(offset, size)| offset + size).max().unwrap_or(TEXT);
+        let total = pairs.iter().map(|pair| pair.1).sum::<usize>();
+        let closes = adds && (1..=255).contains(&added) && count < MOST && total + added <= room && area.len() < end + added;
+        let things = [
+            (closes && rises, "gaps are closed"),
+            (closes && !rises, "gaps are closed, offsets do not rise"),
+            (closes && total + added == room, "a name that fills all room"),
+            (adds && total + added == room + 1, "a name one byte too long for the room"),
+            (adds && count == MOST, "a name more than 512"),
+            (adds && count == MOST - 1, "the 512th name"),
+            (adds && room == 0, "no room at all"),
+            (good && added == 255, "a name of 255 bytes"),
+            (good && added == 256, "a name of 256 bytes"),
+            (count == MOST + 1, "a count of 513"),
+            (count == MOST + 1 && pair_513, "a count of 513 and so many pairs"),
+            (!good && pairs.iter().any(|pair| pair.1 == 256), "256 bytes listed"),
+            (!good && pairs.iter().any(|pair| pair.1 == 0), "no bytes listed"),
+            (!good && pairs.iter().any(|pair| pair.0 + pair.1 > u32::MAX as usize), "an end over 2^32"),
+            (!good && pairs.iter().any(|pair| pair.0 < TEXT && pair.0 + pair.1 > TEXT), "an offset before the text"),
+            (!good && pairs.iter().any(|pair| pair.0 + pair.1 == area.len() + 1), "one byte past the area"),
+            (!good && (1..pairs.len()).any(|at| pairs[at].0 == pairs[at - 1].0), "an offset twice"),
+            (good && !rises && pairs.iter().any(|pair| pairs.iter().any(|other| other.0 == pair.0 + pair.1)), "texts that touch"),
+            (room > 0 && area.len() == TEXT + 1, "room for one byte"),
+        ];
+        things.into_iter().filter_map(|(is, what)| is.then_some(what)).collect()
+    }
+
+    /// Each call on names meets each of its answers, and what is odd about areas is met as well.
+    #[test]
+    fn names_meet_everything() {
+        let mut times = std::collections::BTreeMap::new();
+        let counts = counted_with(4_000, |_, names, _, call| {
+            rare_names(names, call).into_iter().for_each(|what| *times.entry(what).or_insert(0) += 1);
+        });
+        assert_eq!(times.len(), 19, "{times:?}");
+        assert!(times.values().all(|&times| times >= 3), "{times:?}");
+        let search = [0, 1, 2, 6, 10];
+        let all =
+            [("name-add", &[0, 1, 2, 6, 9, 20][..]), ("name-remove", &search), ("name-find", &search), ("name-table", &[0, 1, 2, 14])];
+        for (name, answers) in all {
+            for (answer, &times) in counts.kinds[name].answers.iter().enumerate() {
+                assert!(if answers.contains(&answer) { times > 5 } else { times == 0 }, "{name} {answer}: {times}");
+            }
+        }
+    }
+
     /// A generator that never meets what faults would be seen by is a poor one too.
     #[test]
     fn rare_things_are_met() {
         let mut times = std::collections::BTreeMap::new();
-        let calls = counted(2_000, |station, before, call| {
+        let calls = counted(5_000, |station, before, call| {
             rare_things(station, before, call).into_iter().for_each(|what| *times.entry(what).or_insert(0) += 1);
         });
         // Three kinds of calls with numbers that are near in any of sixteen bytes, and ten things besides.
@@ -295,11 +370,11 @@ mod tests {
     /// A generator that never meets an answer is a poor one.
     #[test]
     fn every_answer_is_met() {
-        let Counts { all, kinds } = counted(1_000, |_, _, _| ());
+        let Counts { all, kinds } = counted(2_000, |_, _, _| ());
         for (answer, times) in all.answers.iter().enumerate() {
-            assert!(times * 20_000 > 100 * all.calls, "answer {answer}: {times} of {}", all.calls);
+            assert!(times * 20_000 > 70 * all.calls, "answer {answer}: {times} of {}", all.calls);
         }
-        assert!(kinds.len() >= 25, "{kinds:?}");
+        assert!(kinds.len() >= 30, "{kinds:?}");
     }
 
     /// Each call that looks a number up finds it with each of the answers that hand an age up, and look-ups meet all of
@@ -324,7 +399,7 @@ mod tests {
         assert!(looked.values().all(|&times| times >= 3), "{looked:?}");
         let met = |name: &str| {
             let kinds = counts.kinds.iter().filter(|(kind, _)| kind.starts_with(name));
-            kinds.fold([0; 20], |sum, (_, count)| array::from_fn(|answer| sum[answer] + count.ages[answer]))
+            kinds.fold([0; ANSWERS], |sum, (_, count)| array::from_fn(|answer| sum[answer] + count.ages[answer]))
         };
         let hit = [0, 8, 11, 12];
         for (name, answers) in [("message: hit", &hit[..]), ("message: query", &[9]), ("ask", &[9]), ("feed", &[0, 8, 9, 11, 12])] {
@@ -344,8 +419,8 @@ mod tests {
         let made = |case| {
             let mut maker = Maker::of_case(4, case);
             let start = maker.start();
-            let route = start.route.bytes();
-            let calls = (0..maker.length()).map(|_| maker.call(&start.station, &route)).collect();
+            let (route, names) = (start.route.bytes(), start.names.bytes());
+            let calls = (0..maker.length()).map(|_| maker.call(&start.station, &route, &names)).collect();
             Case { start, calls }
         };
         assert_eq!(made(9), made(9));

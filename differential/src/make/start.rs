@@ -1,6 +1,6 @@
 //! Random states, in order and not, and their route areas.
 
-use super::HALF;
+use super::{names, HALF};
 use crate::call::HEADER;
 use crate::case::{Held, Start, ZERO};
 use crate::convert::number_of;
@@ -41,7 +41,8 @@ pub fn lengths(room: usize) -> &'static [u32] {
 pub fn start(random: &mut Random, clock: u32) -> (Start, [Vec<u8>; 8]) {
     let route = route(random);
     let held = array::from_fn(|_| Held { area: held_area(random), front: Vec::new() });
-    let mut start = Start { station: Box::new(ZERO), tally: tally(random), route, held };
+    let names = names::area(random);
+    let mut start = Start { station: Box::new(ZERO), tally: tally(random), route, held, names };
     let station = &mut *start.station;
     station.room = room(random, route.length);
     for line in &mut station.lines {

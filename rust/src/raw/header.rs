@@ -127,7 +127,7 @@ fn the_structs_are_the_same() {
 #[test]
 fn the_functions_are_the_same() {
     assert_eq!(functions_of_c(), functions_of_rust());
-    assert_eq!(functions_of_rust().len(), 18);
+    assert_eq!(functions_of_rust().len(), 22);
     assert_eq!(wrappers_of_c(), wrappers_of_rust());
     assert_eq!(wrappers_of_rust().len(), 8);
 }
@@ -175,7 +175,7 @@ fn constants_of_rust() -> Vec<String> {
         let (name, value) = line.split_once(": ").unwrap();
         let value = value.split_once("= ").unwrap().1.trim_end_matches(';').replace('_', "");
         constants.push(format!("{name} {value}"));
-        if name == "ROUTE" {
+        if name == "NAMES" {
             constants.push("DONE 0".to_string());
             constants.extend(Refusal::ALL.map(|refusal| format!("{} {}", in_capitals(&format!("{refusal:?}")), refusal.number())));
         }

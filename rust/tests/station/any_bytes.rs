@@ -4,17 +4,17 @@ use crate::{own, station, HIT, PING, PONG, QUERY, UPDATE};
 use lunozhar::{handshake, Fed, Station};
 
 /// Seeded random numbers, by xorshift.
-struct Random(u64);
+pub(crate) struct Random(pub(crate) u64);
 
 impl Random {
-    fn below(&mut self, end: u64) -> u64 {
+    pub(crate) fn below(&mut self, end: u64) -> u64 {
         self.0 ^= self.0 << 13;
         self.0 ^= self.0 >> 7;
         self.0 ^= self.0 << 17;
         (self.0 >> 11) % end
     }
 
-    fn bytes(&mut self, most: u64) -> Vec<u8> {
+    pub(crate) fn bytes(&mut self, most: u64) -> Vec<u8> {
         let bound = [3, 16, 256][self.below(3) as usize];
         (0..self.below(most + 1)).map(|_| self.below(bound) as u8).collect()
     }

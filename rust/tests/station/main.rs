@@ -7,6 +7,7 @@ mod handshakes;
 mod held_areas;
 mod late_hit;
 mod messages;
+mod names;
 mod readme;
 mod refusals;
 mod session;

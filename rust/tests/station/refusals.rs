@@ -2,7 +2,7 @@
 
 use crate::{hit, message, own, query, station, HIT, PING, PONG, QUERY, UPDATE};
 use lunozhar::table::{self, Table};
-use lunozhar::{handshake, raw, Refusal, Refused, Station};
+use lunozhar::{handshake, raw, Names, Refusal, Refused, Station};
 
 /// A station in the middle of its work: lines 0 and 1 are open, line 0 has asked query 7 and pinged at 0, line 2 has asked query 9 and closed,
 /// query 8 is an own one, and the table of line 1 has four entries of 8.
@@ -54,6 +54,7 @@ fn refused_otherwise() -> Vec<Refused> {
         handshake::read_group(b"GNUTELLA CONNECT/0.5\r\n\r\n").unwrap_err(),
         handshake::read_group(&[b'x'; 4_096]).unwrap_err(),
         shut_station().feed(1, 0, &own(), &query(1, "eb")).unwrap_err(),
+        unused(Names::new(1).add(b"eb").unwrap_err()),
     ]
 }
 

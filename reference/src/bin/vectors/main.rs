@@ -2,6 +2,7 @@
 
 mod calls;
 mod handshake;
+mod names;
 mod words;
 
 use lunozhar_reference::hash::place;
@@ -47,6 +48,7 @@ fn row(text: &str) -> String {
         "calls" => calls::calls(line),
         "look" => calls::look(line),
         "order" => calls::order(line),
+        "names" => names::names(line),
         _ => format!("unread {text}\n"),
     }
 }
