@@ -1,11 +1,9 @@
 -- Laws of the hash: the chunks joined at once and byte by byte.
 use mathlib.Core.Path.{_≡_, refl, sym, ap, ap₂, _∙_}
 use mathlib.Core.List.{List, [], _∷_, map}
-use Prim.Native.Nat.{ℕ, zero, suc, _+_, _*_, _%_, _^_, _≤_, _<_}
-use native.Mathlib.Numerals.{add-one}
+use Prim.Native.Nat.{ℕ, zero, suc, _+_, _*_, _%_, _^_, _<_}
 use native.Mathlib.Omega.{arith}
-use lib.ListN.{length, getD, drop}
-use lib.Seq.{drop-cons}
+use lib.ListN.{getD}
 use lib.Bits.{bitXor}
 use Rattle.laws.specs.Bytes.{xor}
 use Rattle.laws.proofs.Bits.{xor-below, xor-regroup, xor-is, xor-none, xor-above, xor-swap}
@@ -106,26 +104,6 @@ word-below (a ∷ []) h = let ga = h 0 in omega arith
 word-below (a ∷ b ∷ []) h = let ga = h 0 in let gb = h 1 in omega arith
 word-below (a ∷ b ∷ c ∷ []) h = let ga = h 0 in let gb = h 1 in let gc = h 2 in omega arith
 word-below (a ∷ b ∷ c ∷ d ∷ rest) h = xor32-below (a + 256 * (b + 256 * (c + 256 * (d + 256 * 0)))) (word rest)
-
--- a byte moved up within a chunk loses nothing
-pub moved-whole : (b j : ℕ) → b < 256 → j < 4 → b * 2 ^ (8 * j) % 2 ^ 32 ≡ b * 256 ^ j
-moved-whole b zero h l = omega arith
-moved-whole b (suc zero) h l = omega arith
-moved-whole b (suc (suc zero)) h l = omega arith
-moved-whole b (suc (suc (suc zero))) h l = omega arith
-moved-whole b (suc (suc (suc (suc j)))) h l = absurd (omega arith)
-
--- the byte at place i of a keyword is joined next
-pub rolling-next : (k : List ℕ) (i n x : ℕ) → i < length k → n < 2 ^ 32 → x < 2 ^ 32
-    → x ≡ lower (getD k i 0) * 256 ^ (i % 4)
-    → rolling (bitXor n x) ((i + 1) % 4) (map lower (drop (i + 1) k)) ≡ rolling n (i % 4) (map lower (drop i k))
-unfolding rolling
-rolling-next k i n x l hn hx e =
-    sym
-    (ap (λ (t : List ℕ). rolling n (i % 4) (map lower t)) (drop-cons k i 0 l)
-    ∙ ap₂ (λ (y j : ℕ). rolling y j (map lower (drop (suc i) k))) (ap (xor32 n) (sym e) ∙ xor32-is n x hn hx)
-    (omega arith)
-    ∙ ap (λ (m : ℕ). rolling (bitXor n x) ((i + 1) % 4) (map lower (drop m k))) (sym (add-one i)))
 
 -- ---- the hash
 

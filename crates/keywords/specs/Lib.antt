@@ -1,4 +1,5 @@
 -- Keywords of a text, and the place of a keyword in a table.
 pub mod Keywords
 pub mod Hash
+pub mod Folding
 pub mod Cutting
