@@ -41,7 +41,28 @@ fn print_sizes() {
     }
 }
 
+/// Moves the code behind it, that of both sides, by 48 bytes and those of the feature. A short loop may take twice the
+/// time where it lies across two lines of the cache, and where it lies is the linker's choice, which any other change may
+/// change. With 48 bytes neither side's loops over a text lay so when this was written.
+#[inline(never)]
+fn further_on() {
+    unsafe { std::arch::asm!(".skip 48, 0x90") }
+    #[cfg(feature = "on16")]
+    unsafe {
+        std::arch::asm!(".skip 16, 0x90")
+    }
+    #[cfg(feature = "on32")]
+    unsafe {
+        std::arch::asm!(".skip 32, 0x90")
+    }
+    #[cfg(feature = "on48")]
+    unsafe {
+        std::arch::asm!(".skip 48, 0x90")
+    }
+}
+
 fn main() {
+    further_on();
     if let [flag, side, levels] = &env::args().skip(1).collect::<Vec<_>>()[..] {
         if flag == "--stack" {
             return sizes::try_stack(side, levels);

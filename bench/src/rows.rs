@@ -223,13 +223,14 @@ fn field(name: &str, effort: Effort) -> Row {
 type Function = fn(&str, Effort, &mut Areas) -> Row;
 
 /// Rows of the other functions, with what measures each.
-pub const FUNCTIONS: [(&str, Function); 10] = [
+pub const FUNCTIONS: [(&str, Function); 11] = [
     ("in order, 512 remembered", in_order),
     ("look-up, the newest of 512", |name, effort, areas| look_up(name, effort, areas, Some(0))),
     ("look-up, the oldest of 512", |name, effort, areas| look_up(name, effort, areas, Some(MEMORY - 1))),
     ("look-up, none of 512 (10)", |name, effort, areas| look_up(name, effort, areas, None)),
     ("table writer, 65,536 entries, 4 bits", |name, effort, _| writer(name, effort, 4, INFINITY)),
     ("table writer, 65,536 entries, 8 bits", |name, effort, _| writer(name, effort, 8, 100)),
+    ("hash of 3 bytes", |name, effort, _| hash(name, effort, 3)),
     ("hash of 8 bytes", |name, effort, _| hash(name, effort, 8)),
     ("hash of 200 bytes", |name, effort, _| hash(name, effort, 200)),
     ("handshake group of 400 bytes read", |name, effort, _| group(name, effort)),

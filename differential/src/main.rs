@@ -10,6 +10,8 @@ mod case;
 mod compare;
 mod convert;
 mod field;
+#[cfg(test)]
+mod hashes;
 mod listing;
 mod make;
 mod names;

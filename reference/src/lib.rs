@@ -20,15 +20,21 @@
 //! - Bytes as they come: those that are held and those that are brought now are joined in a vector, the message at its
 //!   front is read, and what is to stay is put back into the held area whole. There nothing is joined: the header is
 //!   read from where its bytes stand, and what is brought is copied behind what is held.
-//! - Hash: four bytes of a keyword at a time. There it goes byte by byte. A handshake field: one pass over the group. There it takes three: for its end, over its lines, and up to the
-//!   last byte of the value.
+//! - Hash: each chunk of four bytes is put into lower case by itself, letters told by sums that do not carry, and then
+//!   joined. There chunks are joined as they are, and beside them what marks their capitals, told by differences that do
+//!   not borrow; both are put together once, after the loop.
+//! - A handshake field: one pass over the group. There it takes three: for its end, over its lines, and up to the last
+//!   byte of the value.
 //! - Own names: names stand in one table of slots, each at its own slot or the next that was free; where offsets do not
 //!   rise the pairs are sorted; gaps are closed by writing all texts anew from a vector, in the list's order. There names
 //!   of one bucket are chained, every pair is held to every other, and texts are moved down in place, the lowest first.
 //!   A zero byte is met where a name's bytes are mixed. There one pass over the text looks for zeros.
 //!
-//! Both go the same way, the plain one, in this: the kept places of a ring are taken as two straight stretches; a query's keywords are cut and
-//! hashed once for all lines; a place is the top bits of the hash, moved down; a list's names are told apart by mixing words of eight bytes, the last of which may overlap, and by some more bits of the mix before their bytes are compared; a table's state has the same seven fields; and every update is
+//! Both go the same way, the plain one, in this: the kept places of a ring are taken as two straight stretches; a
+//! query's keywords are cut and hashed once for all lines, four bytes at a time, with letters told by the highest bit of
+//! their bytes (`differential/` holds both to the appendix's way, byte by byte); a place is the top bits of the hash,
+//! moved down; a list's names are told apart by mixing words of eight bytes, the last of which may overlap, and by some
+//! more bits of the mix before their bytes are compared; a table's state has the same seven fields; and every update is
 //! tested in the order 14, 15, 16.
 //!
 //! No promise of this crate is proved. It has unit tests for document 01's own examples and for errors that are easily made.

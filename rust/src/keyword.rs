@@ -4,12 +4,16 @@
 
 use crate::boundary;
 
-/// The 32-bit hash of a keyword. Letters A to Z count as a to z.
+/// The 32-bit hash of a keyword of any length and any bytes. Letters A to Z count as a to z; every other byte counts as it is.
 ///
 /// ```
 /// use lunozhar::keyword;
 /// assert_eq!(keyword::hash(b"Lake"), keyword::hash(b"lake"));
 /// assert_eq!(keyword::hash(b""), 0);
+///
+/// let name = format!("LX-04417-{}.JPG", "Spruce".repeat(30));
+/// assert_eq!(keyword::hash(name.as_bytes()), keyword::hash(name.to_lowercase().as_bytes()));
+/// assert_ne!(keyword::hash(b"\xC1"), keyword::hash(b"\xE1"));
 /// ```
 pub fn hash(keyword: &[u8]) -> u32 {
     boundary::hash(keyword)

@@ -1,7 +1,7 @@
 //! Random messages, own queries and look-ups.
 
 use super::start::{lengths, near, number, number_at};
-use super::{Maker, HALF, NO_LINES};
+use super::{Maker, HALF, LONGEST, NO_LINES};
 use crate::call::{Call, HEADER};
 use crate::field::Area;
 use lunozhar::raw::{Station, Table};
@@ -138,7 +138,8 @@ impl Maker {
         }
         let mut text = Vec::new();
         for _ in 0..self.random.pick(&[0, 1, 1, 1, 2, 2, 3]) {
-            text.extend(self.keyword().iter().take(9));
+            let longest = if self.random.one_in(12) { LONGEST } else { 9 };
+            text.extend(self.keyword(longest));
             text.extend(vec![b' '; self.random.pick(&[0, 1, 1, 2])]);
             if self.random.one_in(8) {
                 text.push(self.random.pick(b"\t\t\x0B\x1F\xA0\r"));

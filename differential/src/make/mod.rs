@@ -13,6 +13,9 @@ use crate::field::Area;
 use crate::random::Random;
 use lunozhar::raw::{Own, Station};
 
+/// The longest keyword that is made on its own.
+pub const LONGEST: usize = 300;
+
 /// Half of the clock's round.
 const HALF: u32 = 0x8000_0000;
 
@@ -92,8 +95,8 @@ impl Maker {
             39..=43 => tables::write_table(&mut self.random),
             44 => tables::round_trip(&mut self.random),
             45..=67 => groups::call(&mut self.random),
-            68..=71 => Call::Hash { keyword: self.keyword() },
-            72..=75 => Call::Place { keyword: self.keyword(), bits: self.bits() },
+            68..=71 => Call::Hash { keyword: self.keyword(LONGEST) },
+            72..=75 => Call::Place { keyword: self.keyword(LONGEST), bits: self.bits() },
             76..=130 => self.feed(station, route),
             131..=138 => self.look_up(station),
             139..=148 => self.name_call(names),
@@ -163,8 +166,10 @@ impl Maker {
         Some(Area { length, seed: self.random.number(), top: self.random.pick(&[0, 8]) })
     }
 
-    fn keyword(&mut self) -> Vec<u8> {
-        let length = self.random.pick(&[0, 1, 2, 3, 4, 5, 7, 8, 9, 31, 200]);
+    /// A keyword of up to so many bytes, nine or more; half of them are short.
+    fn keyword(&mut self, longest: usize) -> Vec<u8> {
+        let short = self.random.pick(&[0, 1, 2, 3, 4, 5, 7, 8, 9]);
+        let length = if self.random.one_in(2) { self.random.below(longest + 1) } else { short };
         if self.random.one_in(2) {
             self.random.bytes(length)
         } else {
@@ -279,7 +284,8 @@ mod tests {
     #[test]
     fn scraps_meet_everything() {
         let mut times = std::collections::BTreeMap::new();
-        let counts = counted(3_000, |station, _, call| {
+        // Answer 16 is the rarest: some seven times in a thousand lists.
+        let counts = counted(5_000, |station, _, call| {
             rare_scraps(station, call).into_iter().for_each(|what| *times.entry(what).or_insert(0) += 1);
         });
         assert_eq!(times.len(), 13, "{times:?}");
