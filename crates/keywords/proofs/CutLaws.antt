@@ -4,21 +4,24 @@ use mathlib.Core.Path.{_≡_, refl, sym, ap, ap₂, _∙_}
 use mathlib.Core.Bool.{Bool, true, false, cond, not, _||_, _&&_, Bool·beq}
 use mathlib.Core.List.{List, [], _∷_, map}
 use mathlib.Core.Logic.{_↔_}
-use Prim.Native.Nat.{ℕ, suc, _+_, _-_, _≤_, _<_}
+use Prim.Native.Nat.{ℕ, zero, suc, _+_, _-_, _≤_, _<_}
 use native.Mathlib.Numerals.{add-one}
 use native.Mathlib.Decide.{decLe}
 use native.Mathlib.Omega.{arith}
 use lib.Dec.{ltb}
 use lib.ListN.{length, getD, take, drop, length-take, length-drop, drop-of-length-le}
-use lib.Seq.{drop-cons, drop-drop}
+use lib.Seq.{take-nil, length-take-le, drop-cons, drop-drop}
 use borrow.Author.Tests.{lt-ltb, le-ltb}
 use Rattle.laws.specs.Tests.{any, all}
 use Rattle.laws.proofs.Parts.{part-tail}
+use Rattle.laws.proofs.Refusals.{and-fst, and-snd}
 use Rattle.keywords.specs.declared.cut.Cut.{Cut}
 use Rattle.ascii.specs.Text.{lower, onto}
+use Rattle.ascii.proofs.TextLaws.{run-length}
 use Rattle.keywords.specs.Keywords.{isSeparator, filled, leading, matching, pieces, startBy, endBy, keywordsOf}
 use Rattle.keywords.specs.Keywords.{cutStart, cutEnd}
 use Rattle.keywords.specs.Keywords.{cutOf, keywordAt, textBehind}
+use Rattle.keywords.specs.Blocks.{near, Reaching}
 use Rattle.keywords.specs.Hash.{hashOf}
 use Rattle.keywords.proofs.HashLaws.{hash-lower}
 
@@ -26,20 +29,12 @@ use Rattle.keywords.proofs.HashLaws.{hash-lower}
 
 module _ (f : ℕ → Bool) where
   pub leading-within : (l : List ℕ) → leading f l ≤ length l
-  unfolding leading
-  leading-within [] = omega arith
-  leading-within (x ∷ xs) = by (f x) (leading-within xs)
-    where
-      by : (t : Bool) → leading f xs ≤ length xs → cond t (suc (leading f xs)) 0 ≤ suc (length xs)
-      by true h = omega arith
-      by false h = omega arith
+  leading-within = run-length (λ t. f (getD t 0 0))
 
   on : (x : ℕ) (xs : List ℕ) → f x ≡ true → leading f (x ∷ xs) ≡ suc (leading f xs)
-  unfolding leading
   on x xs e = rw e
 
   off : (x : ℕ) (xs : List ℕ) → f x ≡ false → leading f (x ∷ xs) ≡ 0
-  unfolding leading
   off x xs e = rw e
 
   -- a run goes on by an element that meets the test, and stops at one that does not
@@ -52,6 +47,48 @@ module _ (f : ℕ → Bool) where
 
   pub leading-off : (l : List ℕ) (i : ℕ) → i < length l → f (getD l i 0) ≡ false → leading f (drop i l) ≡ 0
   leading-off l i h e = ap (leading f) (drop-cons l i 0 h) ∙ off (getD l i 0) (drop (suc i) l) e
+
+  -- a run that stops within the front of a list is that of the list
+  pub leading-front : (n : ℕ) (l : List ℕ) → leading f (take n l) < n → leading f (take n l) ≡ leading f l
+  leading-front zero l h = absurd (omega arith)
+  leading-front (suc n) [] h = refl
+  leading-front (suc n) (x ∷ xs) h = by (f x) (leading-front n xs) h
+    where
+      by : (t : Bool) → (leading f (take n xs) < n → leading f (take n xs) ≡ leading f xs)
+          → cond t (suc (leading f (take n xs))) 0 < suc n
+          → cond t (suc (leading f (take n xs))) 0 ≡ cond t (suc (leading f xs)) 0
+      by true rest h = ap suc (rest (omega arith))
+      by false rest h = refl
+
+  -- and one that reaches the end of the front goes on behind it
+  pub leading-past : (n : ℕ) (l : List ℕ) → leading f (take n l) ≡ n → leading f l ≡ n + leading f (drop n l)
+  leading-past zero l h = omega arith
+  leading-past (suc n) [] h = absurd (omega arith)
+  leading-past (suc n) (x ∷ xs) h = by (f x) (leading-past n xs) h
+    where
+      by : (t : Bool) → (leading f (take n xs) ≡ n → leading f xs ≡ n + leading f (drop n xs))
+          → cond t (suc (leading f (take n xs))) 0 ≡ suc n
+          → cond t (suc (leading f xs)) 0 ≡ suc n + leading f (drop n xs)
+      by true rest h = let e = rest (omega arith) in omega arith
+      by false rest h = absurd (omega arith)
+
+  -- a list whose elements all meet the test is one run; so a run passes a block of such elements
+  whole-run : (l : List ℕ) → all f l ≡ true → leading f l ≡ length l
+  whole-run [] e = refl
+  whole-run (x ∷ xs) e =
+      on x xs (and-fst (f x) (all f xs) e) ∙ ap suc (whole-run xs (and-snd (f x) (all f xs) e))
+
+  pub leading-block : (n : ℕ) (l : List ℕ) → n ≤ length l → all f (take n l) ≡ true
+      → leading f l ≡ n + leading f (drop n l)
+  leading-block n l h e = leading-past n l (whole-run (take n l) e ∙ length-take-le n l h)
+
+drop-take : (k n : ℕ) (l : List ℕ) → drop k (take n l) ≡ take (n - k) (drop k l)
+drop-take zero n l = let e : n ≡ n - 0 = omega arith in ap (λ m. take m l) e
+drop-take (suc k) zero l = let e : 0 ≡ 0 - suc k = omega arith in ap (λ m. take m (drop (suc k) l)) e
+drop-take (suc k) (suc n) [] = sym (take-nil (suc n - suc k))
+drop-take (suc k) (suc n) (x ∷ xs) =
+    let e : n - k ≡ suc n - suc k = omega arith in
+    drop-take k n xs ∙ ap (λ m. take m (drop k xs)) e
 
 -- ---- the pieces of a text, for any test of a separator
 
@@ -72,7 +109,7 @@ module _ (s : ℕ → Bool) where
 
   -- separators at the front part empty pieces only
   skip : (l : List ℕ) → filled (pieces s l) ≡ filled (pieces s (drop (leading s l) l))
-  unfolding filled pieces leading
+  unfolding filled pieces
   skip [] = refl
   skip (b ∷ bs) = by (s b) refl (skip bs)
     where
@@ -88,7 +125,7 @@ module _ (s : ℕ → Bool) where
 
   -- the first piece is what stands before the first separator
   first : (l : List ℕ) → pieces s l ≡ take (leading other l) l ∷ behind (drop (leading other l) l)
-  unfolding pieces leading behind
+  unfolding pieces behind
   first [] = refl
   first (b ∷ bs) = by (s b) refl (first bs)
     where
@@ -99,7 +136,7 @@ module _ (s : ℕ → Bool) where
 
   -- the separator behind a piece adds an empty piece at most
   rest : (l : List ℕ) → filled (behind (drop (leading other l) l)) ≡ filled (pieces s (drop (leading other l) l))
-  unfolding filled pieces leading behind
+  unfolding filled pieces behind
   rest [] = refl
   rest (b ∷ bs) = by (s b) refl (rest bs)
     where
@@ -112,7 +149,6 @@ module _ (s : ℕ → Bool) where
 
   -- where separators are followed by nothing else, the text ends
   ends : (l : List ℕ) → leading other (drop (leading s l) l) ≡ 0 → leading s l ≡ length l
-  unfolding leading
   ends [] h = refl
   ends (b ∷ bs) h = by (s b) refl (ends bs) h
     where
@@ -128,6 +164,36 @@ module _ (s : ℕ → Bool) where
       let m = leading-within other (drop (leading s l) l) in
       let d = length-drop (leading s l) l in
       omega arith
+
+  -- a piece that starts within the front of a text starts there in the text; so much of it as the front has
+  front-start : (n : ℕ) (l : List ℕ) → startBy s (take n l) < n
+      → (startBy s (take n l) ≡ startBy s l)
+      × (endBy s (take n l) ≡ startBy s l + leading other (take (n - startBy s l) (drop (startBy s l) l)))
+  front-start n l h =
+      let start = leading-front s n l h in
+      let behind = ap (λ k. drop k (take n l)) start ∙ drop-take (startBy s l) n l in
+      (start, ap₂ (λ a r. a + leading other r) start behind)
+
+  -- where it ends within the front, it ends there in the text
+  pub cut-front : (n : ℕ) (l : List ℕ) → endBy s (take n l) < n
+      → (startBy s (take n l) ≡ startBy s l) × (endBy s (take n l) ≡ endBy s l)
+  cut-front n l h =
+      let a = startBy s l in
+      let e = front-start n l (omega arith) in
+      (e .0, omega (arith, e .1, leading-front other (n - a) (drop a l) (omega (arith, e .0, e .1))))
+
+  -- where it reaches the end of the front, it goes on behind it
+  pub cut-past : (n : ℕ) (l : List ℕ) → startBy s (take n l) < n → n ≤ endBy s (take n l)
+      → (startBy s (take n l) ≡ startBy s l) × (n + leading other (drop n l) ≡ endBy s l) × (n ≤ length l)
+  cut-past n l h g =
+      let a = startBy s l in
+      let e = front-start n l h in
+      let most = end-within (take n l) in
+      let long = length-take n l in
+      let full = leading-past other (n - a) (drop a l) (omega (arith, e .0, e .1)) in
+      let at : a + (n - a) ≡ n = omega (arith, e .0) in
+      let rest = ap (leading other) (drop-drop (n - a) a l ∙ ap (λ k. drop k l) at) in
+      (e .0, omega arith, omega arith)
 
   -- the first piece that is not empty, and the pieces of what is left
   pub pieces-cut : (l : List ℕ) → startBy s l < endBy s l
@@ -171,6 +237,44 @@ cut-end = pieces-end isSeparator
 
 pub cut-within : (text : List ℕ) → (cutStart text ≤ cutEnd text) × (cutEnd text ≤ length text)
 cut-within text = (omega arith, end-within isSeparator text)
+
+-- a run of separators, and the run of other bytes in `&text[start..]`, are the first cut
+module _ (text : List ℕ) (start size : ℕ) (a : start ≡ leading (matching true) text)
+    (b : size ≡ leading (matching false) (take (length text - start) (drop start text))) where
+  pub runs-end : start + size ≡ cutEnd text
+  runs-end =
+      ap₂ (λ x y. x + y) a
+      (b ∙ ap (leading (matching false)) (part-tail start text) ∙ ap (λ x. leading (matching false) (drop x text)) a)
+
+  pub runs-cut : _≡_ {A = Cut} (record { start = start; end = start + size }) (cutOf text)
+  runs-cut = ap₂ {C = Cut} (λ x y. record { start = x; end = y }) a runs-end
+
+-- a keyword that starts at `begin`, and goes on for sure up to `from`
+pub record Onward (text : List ℕ) (begin from : ℕ) : Type 0 where
+  pub start : begin ≡ cutStart text
+  pub inside : from ≤ length text
+  pub end : from + leading (matching false) (drop from text) ≡ cutEnd text
+
+module _ (text : List ℕ) (begin from : ℕ) where
+  pub onward-near : (start : ℕ) → Reaching start text → start < near → begin ≡ start → from ≡ near
+      → Onward text begin from
+  onward-near start h g b f =
+      let on = cut-past isSeparator near text (omega arith) (h .1) in
+      record {
+        start = b ∙ h .0 ∙ on .0;
+        inside = rw f (on .2);
+        end = ap (λ k. k + leading (matching false) (drop k text)) f ∙ on .1;
+      }
+
+  pub onward-far : (start : ℕ) → start ≡ leading (matching true) text → begin ≡ start → from ≡ begin
+      → Onward text begin from
+  onward-far start e b f =
+      let at = f ∙ b ∙ e in
+      record {
+        start = b ∙ e;
+        inside = rw at (leading-within isSeparator text);
+        end = ap (λ k. k + leading (matching false) (drop k text)) at;
+      }
 
 -- a cut is empty exactly where the text has no keyword
 pub cut-empty : (text : List ℕ) → (cutStart text ≡ cutEnd text) ↔ (keywordsOf text ≡ [])

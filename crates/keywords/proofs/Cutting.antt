@@ -1,16 +1,31 @@
--- The keywords of a text from outside, proved.
-use Prim.Native.Nat.{ℕ, _<_}
+-- The bytes that part keywords, and the keywords of a text, from outside, proved.
+use Prim.Native.Nat.{ℕ, suc, _≤_, _<_}
 use native.Mathlib.Omega.{arith}
 use mathlib.Core.Path.{_≡_, refl, sym, ap, _∙_}
 use mathlib.Core.Bool.{Bool, true, false, cond, _||_}
+use mathlib.Core.Logic.{_↔_}
 use mathlib.Core.List.{List, [], _∷_, _++_, map, map-append}
-use lib.Dec.{eqb}
+use lib.Dec.{leb}
 use lib.ListN.{length}
-use borrow.Author.Tests.{eqb-false, ne-eqb}
-use Rattle.laws.specs.Tests.{any}
-use Rattle.laws.proofs.Refusals.{or-fst, or-snd}
-use Rattle.keywords.specs.Keywords.{isSeparator, lower, onto, filled, pieces, keywordsOf}
-use Rattle.keywords.specs.Cutting.{CutAtSpaces}
+use Rattle.laws.proofs.Words.{and-iff, or-iff, none-iff, some-iff, most-iff}
+use Rattle.keywords.specs.Keywords.{within, isSeparator, lower, onto, filled, pieces, keywordsOf}
+use Rattle.keywords.specs.Cutting.{Kept, SeparatorExactly, Throughout, CutAtSeparators}
+
+-- ---- which bytes part keywords
+
+within-iff : (low high b : ℕ) → (within low high b ≡ true) ↔ ((low ≤ b) × (b ≤ high))
+within-iff low high b = and-iff (leb low b) (leb b high) (most-iff low b) (most-iff b high)
+
+kept-iff : (b : ℕ) → ((within 0x30 0x39 b || (within 0x41 0x5A b || within 0x61 0x7A b)) ≡ true) ↔ Kept b
+kept-iff b =
+    or-iff (within 0x30 0x39 b) (within 0x41 0x5A b || within 0x61 0x7A b) (within-iff 0x30 0x39 b)
+    (or-iff (within 0x41 0x5A b) (within 0x61 0x7A b) (within-iff 0x41 0x5A b) (within-iff 0x61 0x7A b))
+
+pub separator-exactly : SeparatorExactly
+unfolding isSeparator
+separator-exactly b = record { kept = some-iff _ (kept-iff b); separates = none-iff _ (kept-iff b) }
+
+-- ---- the keywords
 
 filled-append : (ps qs : List (List ℕ)) → filled (ps ++ qs) ≡ filled ps ++ filled qs
 unfolding filled
@@ -41,43 +56,44 @@ onto-append : (b : ℕ) (ps qs : List (List ℕ)) → Some ps → onto b (ps ++ 
 onto-append b ps qs s = ap (λ (x : List (List ℕ)). onto b (x ++ qs)) (s .is)
     ∙ ap (λ (x : List (List ℕ)). onto b x ++ qs) (sym (s .is))
 
-pieces-append : (a b : List ℕ) → pieces isSeparator (a ++ (0x20 ∷ b)) ≡ pieces isSeparator a ++ pieces isSeparator b
-unfolding pieces isSeparator
-pieces-append [] b = refl
-pieces-append (x ∷ xs) b =
-    ap (λ (ps : List (List ℕ)). cond (isSeparator x) ([] ∷ ps) (onto x ps)) (pieces-append xs b)
+pieces-append : (a : List ℕ) (b : ℕ) (c : List ℕ) → isSeparator b ≡ true
+    → pieces isSeparator (a ++ (b ∷ c)) ≡ pieces isSeparator a ++ pieces isSeparator c
+unfolding pieces
+pieces-append [] b c h = rw h
+pieces-append (x ∷ xs) b c h =
+    ap (λ (ps : List (List ℕ)). cond (isSeparator x) ([] ∷ ps) (onto x ps)) (pieces-append xs b c h)
     ∙ by (isSeparator x)
   where
     by : (t : Bool)
-        → cond t ([] ∷ (pieces isSeparator xs ++ pieces isSeparator b))
-        (onto x (pieces isSeparator xs ++ pieces isSeparator b))
-        ≡ cond t ([] ∷ pieces isSeparator xs) (onto x (pieces isSeparator xs)) ++ pieces isSeparator b
+        → cond t ([] ∷ (pieces isSeparator xs ++ pieces isSeparator c))
+        (onto x (pieces isSeparator xs ++ pieces isSeparator c))
+        ≡ cond t ([] ∷ pieces isSeparator xs) (onto x (pieces isSeparator xs)) ++ pieces isSeparator c
     by true = refl
-    by false = onto-append x (pieces isSeparator xs) (pieces isSeparator b) (some-piece xs)
+    by false = onto-append x (pieces isSeparator xs) (pieces isSeparator c) (some-piece xs)
 
 -- a text without a separator is one piece
-whole : (text : List ℕ) → any (eqb 0x20) text ≡ false → pieces isSeparator text ≡ text ∷ []
-unfolding pieces isSeparator
+whole : (text : List ℕ) → Throughout Kept text → pieces isSeparator text ≡ text ∷ []
+unfolding pieces
 whole [] h = refl
 whole (b ∷ bs) h =
-    let no : eqb b 0x20 ≡ false = ne-eqb b 0x20 (λ e. eqb-false 0x20 b (or-fst (eqb 0x20 b) (any (eqb 0x20) bs) h)
-    (sym e)) in
-    ap (λ (t : Bool). cond t ([] ∷ pieces isSeparator bs) (onto b (pieces isSeparator bs))) no
-    ∙ ap (onto b) (whole bs (or-snd (eqb 0x20 b) (any (eqb 0x20) bs) h))
+    ap (λ (t : Bool). cond t ([] ∷ pieces isSeparator bs) (onto b (pieces isSeparator bs)))
+    (separator-exactly b .kept .1 (h 0 (omega arith)))
+    ∙ ap (onto b) (whole bs (λ i l. h (suc i) (omega arith)))
 
 one-piece : (text : List ℕ) → 0 < length text → map (map lower) (filled (text ∷ [])) ≡ map lower text ∷ []
 unfolding filled
 one-piece [] h = absurd (omega arith)
 one-piece (b ∷ bs) h = refl
 
-pub cut-at-spaces : CutAtSpaces
-unfolding keywordsOf pieces filled isSeparator
-cut-at-spaces =
+pub cut-at-separators : CutAtSeparators
+unfolding keywordsOf pieces filled
+cut-at-separators =
     record {
       none = refl;
-      one = λ text h none. ap (λ (ps : List (List ℕ)). map (map lower) (filled ps)) (whole text none)
+      one = λ text h kept. ap (λ (ps : List (List ℕ)). map (map lower) (filled ps)) (whole text kept)
           ∙ one-piece text h;
-      both = λ a b. ap (λ (ps : List (List ℕ)). map (map lower) (filled ps)) (pieces-append a b)
-          ∙ ap (map (map lower)) (filled-append (pieces isSeparator a) (pieces isSeparator b))
-          ∙ map-append (map lower) (filled (pieces isSeparator a)) (filled (pieces isSeparator b));
+      both = λ a b c h. ap (λ (ps : List (List ℕ)). map (map lower) (filled ps))
+          (pieces-append a b c (separator-exactly b .separates .1 h))
+          ∙ ap (map (map lower)) (filled-append (pieces isSeparator a) (pieces isSeparator c))
+          ∙ map-append (map lower) (filled (pieces isSeparator a)) (filled (pieces isSeparator c));
     }

@@ -4,7 +4,7 @@ use mathlib.Core.Path.{_≡_, refl}
 use mathlib.Core.List.{List, [], _∷_, map}
 use lib.ListN.{take}
 use Rattle.ascii.specs.Text.{lower}
-use Rattle.keywords.specs.Keywords.{keywordsOf, pieces, filled, isSeparator, leading, cutOf}
+use Rattle.keywords.specs.Keywords.{keywordsOf, pieces, filled, isSeparator, cutOf}
 use Rattle.keywords.specs.Hash.{xor32, word, hashOf, placeOf, placeIn}
 
 -- ebcklmenq
@@ -26,5 +26,5 @@ unfolding text letters lower isSeparator word xor32 hashOf keywordsOf pieces fil
 two = refl
 
 cut : cutOf text ≡ record { start = 1; end = 3 }
-unfolding text letters isSeparator leading
+unfolding text letters isSeparator
 cut = refl

@@ -1,23 +1,22 @@
 -- Keywords of a text (RULES 11.1, 11.2).
-use Prim.Native.Nat.{ℕ, suc, _+_, _-_}
-use mathlib.Core.Bool.{Bool, true, false, cond, not, _&&_}
-use mathlib.Core.List.{List, [], _∷_, map}
-use lib.Dec.{eqb, leb}
+use Prim.Native.Nat.{ℕ, _+_, _-_}
+use mathlib.Core.Bool.{Bool, true, false, not, _&&_, _||_}
+use mathlib.Core.List.{List, map}
+use lib.Dec.{leb}
 use lib.ListN.{take, drop}
 use Rattle.keywords.specs.declared.cut.Cut.{Cut}
 -- letters A to Z in lower case, every other byte as it is (RULES 11.2); a text cut into pieces, of which empty ones
--- vanish
+-- vanish; how many bytes at the front meet a test
 unfoldable pub use Rattle.ascii.specs.Text.{lower, pieces, filled}
-pub use Rattle.ascii.specs.Text.{onto}
+pub use Rattle.ascii.specs.Text.{onto, leading}
 
--- the bytes that part keywords
+-- in a range, both ends of which belong to it
+abbrev pub within : ℕ → ℕ → ℕ → Bool
+within low high b = leb low b && leb b high
+
+-- the bytes that part keywords: all but the digits and the letters A to Z and a to z
 unfoldable pub isSeparator : ℕ → Bool
-isSeparator b = eqb b 0x20
-
--- how many elements at the front meet the test
-unfoldable pub leading : (ℕ → Bool) → List ℕ → ℕ
-leading f [] = 0
-leading f (x ∷ xs) = cond (f x) (suc (leading f xs)) 0
+isSeparator b = not (within 0x30 0x39 b || (within 0x41 0x5A b || within 0x61 0x7A b))
 
 -- the bytes that are separators; or, where this is false, the others
 abbrev pub matching : Bool → ℕ → Bool

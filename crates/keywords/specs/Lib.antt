@@ -3,3 +3,4 @@ pub mod Keywords
 pub mod Hash
 pub mod Folding
 pub mod Cutting
+pub mod Blocks

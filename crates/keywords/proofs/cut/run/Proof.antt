@@ -58,7 +58,6 @@ loop-again c =
     (search needs, omega arith)
 
 returns-2 : tie.Need-returns-2 Inv-loop μ-loop
-unfolding leading
 returns-2 c =
     let h = rw (drop-of-length-le (c .before .before .before .args .text .now) (c .loop-test .left))
     at (c .before .loop .inv .1) in
