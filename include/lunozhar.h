@@ -407,10 +407,10 @@ static inline lunozhar_fed lunozhar_feed(lunozhar_station *station, uint32_t lin
 }
 
 /* Asks a query of this station's own, with a number that no query had yet. The message goes to each open line
- * whose table does not withhold it, and is written to the front of the output area (lengths as for
- * lunozhar_message). The route area is only read. Answers 0, 1, 2, 5 for a text over 4,093 bytes, 6 for a zero
- * byte in it, or 9 for a number that is remembered, which hands up told.age. Held bytes and shut marks are neither
- * read nor changed. */
+ * whose table does not withhold it by a keyword of the text (for what that is see lunozhar_name_table), and is
+ * written to the front of the output area (lengths as for lunozhar_message). The route area is only read. Answers
+ * 0, 1, 2, 5 for a text over 4,093 bytes, 6 for a zero byte in it, or 9 for a number that is remembered, which hands
+ * up told.age. Held bytes and shut marks are neither read nor changed. */
 static inline lunozhar_told lunozhar_ask(lunozhar_station *station, lunozhar_number number, const uint8_t *text,
                                          size_t text_len, uint8_t *out, size_t out_len, const uint8_t *route,
                                          size_t route_len) {
@@ -471,8 +471,9 @@ uint8_t lunozhar_name_remove(uint8_t *area, size_t area_len, const uint8_t *name
 lunozhar_name_found lunozhar_name_find(const uint8_t *area, size_t area_len, const uint8_t *name, size_t name_len);
 
 /* Makes the station's own table, to be handed to lunozhar_write_table: `length` entries at the front of the output, 1
- * where a keyword of some name falls, and Infinity elsewhere. The area is only read. Answers 0, 2, 1, 14 for a length
- * that is no power of two from 4 to 65,536 or an Infinity outside 2 to 127, or 2 for an output shorter than the
+ * where a keyword of some name falls, and Infinity elsewhere. Keywords are the runs of digits and letters A to Z and a
+ * to z, whatever their case; all other bytes only stand between them. The area is only read. Answers 0, 2, 1, 14 for a
+ * length that is no power of two from 4 to 65,536 or an Infinity outside 2 to 127, or 2 for an output shorter than the
  * length. */
 uint8_t lunozhar_name_table(const uint8_t *area, size_t area_len, uint32_t length, uint8_t infinity, uint8_t *out,
                             size_t out_len);

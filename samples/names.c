@@ -118,5 +118,7 @@ int main(void) {
     ask(3, "River");
     ask(4, "lake");
     ask(5, "mountain");
+    ask(6, "JPG/bank"); /* every byte but digits and letters parts keywords */
+    ask(7, "---");      /* no keyword: no table keeps it back */
     return 0;
 }

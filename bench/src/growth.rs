@@ -31,6 +31,16 @@ pub fn keywords() -> Vec<Session> {
     (0..7).map(|power| more(1 << power)).collect()
 }
 
+/// Queries of 4,000 bytes or a few less, of keywords of so many letters, with a space between; of no letters: spaces alone.
+pub fn texts() -> Vec<Session> {
+    let mut random = Random(14);
+    let mut of = |letters: usize| {
+        let keywords = (0..4_000 / (letters + 1)).map(|_| random.word(letters)).collect();
+        queries(format!("query, 4000 bytes, keywords of {letters} letters"), keywords)
+    };
+    [0, 1, 3, 7, 15, 31, 63].map(&mut of).into()
+}
+
 /// A run for a longer table.
 pub fn entries() -> Vec<Session> {
     (10..17).map(|power| rows::run(&format!("PATCH run, {} entries, 4 bits", 1 << power), 1 << power, INFINITY)).collect()

@@ -90,7 +90,7 @@ fn main() {
         }
     }
     print_head("How cost grows", "ns");
-    for list in [growth::payloads(), growth::keywords(), growth::entries(), growth::remembered()] {
+    for list in [growth::payloads(), growth::keywords(), growth::texts(), growth::entries(), growth::remembered()] {
         for session in list {
             if wanted(&session.name) {
                 print_row(session.row(effort, &mut areas));

@@ -9,6 +9,8 @@ mod call;
 mod case;
 mod compare;
 mod convert;
+#[cfg(test)]
+mod cuts;
 mod field;
 #[cfg(test)]
 mod hashes;

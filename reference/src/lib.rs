@@ -23,6 +23,8 @@
 //! - Hash: each chunk of four bytes is put into lower case by itself, letters told by sums that do not carry, and then
 //!   joined. There chunks are joined as they are, and beside them what marks their capitals, told by differences that do
 //!   not borrow; both are put together once, after the loop.
+//! - Keywords: byte by byte, each asked whether it is a letter or a digit of ASCII. There it is held to three ranges, and
+//!   what goes on behind the first 32 bytes of a text is taken in blocks of sixteen.
 //! - A handshake field: one pass over the group. There it takes three: for its end, over its lines, and up to the last
 //!   byte of the value.
 //! - Own names: names stand in one table of slots, each at its own slot or the next that was free; where offsets do not
@@ -40,7 +42,7 @@
 //! No promise of this crate is proved. It has unit tests for document 01's own examples and for errors that are easily made.
 //!
 //! - [`hash`]: a keyword's place in a route table.
-//! - [`keywords`]: the keywords of a query's text.
+//! - [`keywords`]: the keywords of a query's text or of a name.
 //! - [`table`]: route tables, RESET and PATCH, withholding.
 //! - [`writer`]: the updates from one table to the next.
 //! - [`handshake`]: the groups that are exchanged before the first message.

@@ -159,8 +159,8 @@ impl Names {
         checked(found.answer).map(|()| found.place)
     }
 
-    /// The station's own table: 1 where a keyword of some name falls, Infinity elsewhere. It is what [`table::write`](crate::table::write)
-    /// takes.
+    /// The station's own table: 1 where a [`keyword`](crate::keyword) of some name falls, Infinity elsewhere. It is what
+    /// [`table::write`](crate::table::write) takes.
     ///
     /// # Errors
     ///
@@ -170,11 +170,12 @@ impl Names {
     /// use lunozhar::{keyword, Names, Refusal};
     ///
     /// let mut names = Names::new(100);
-    /// names.add(b"Mountain lake")?;
+    /// names.add(b"LX-04417.jpg")?;
     /// let entries = names.table(1024, 8)?;
-    /// assert_eq!(entries[keyword::place(b"mountain", 10) as usize], 1);
-    /// assert_eq!(entries[keyword::place(b"lake", 10) as usize], 1);
-    /// assert_eq!(entries.iter().filter(|&&entry| entry == 8).count(), 1022);
+    /// for word in ["lx", "04417", "JPG"] {
+    ///     assert_eq!(entries[keyword::place(word.as_bytes(), 10) as usize], 1);
+    /// }
+    /// assert_eq!(entries.iter().filter(|&&entry| entry == 8).count(), 1021);
     /// assert_eq!(names.table(1000, 8), Err(Refusal::BadUpdate));
     /// # Ok::<(), Refusal>(())
     /// ```

@@ -6,6 +6,9 @@ use crate::call::{Call, HEADER};
 use crate::field::Area;
 use lunozhar::raw::{Station, Table};
 
+/// Bytes that part keywords: spaces and hyphens more often than others, those beside the digits and the letters, and some above 127.
+const PARTING: &[u8] = b"      ----._/:@[`{\t\x0B\x1F\r\x7F\x80\xA0\xC3\xFF";
+
 const PING: u8 = 0x00;
 const PONG: u8 = 0x01;
 const UPDATE: u8 = 0x30;
@@ -130,25 +133,29 @@ impl Maker {
         }
     }
 
-    /// A text of keywords, also of any bytes. What is near to a space may stand in its place.
+    /// A text of keywords and what parts them, also of any bytes. Keywords may be long, and what parts them too.
     fn text(&mut self) -> Vec<u8> {
         if self.random.one_in(60) {
             let length = self.random.pick(&[500, 4_000, 4_092, 4_093]);
-            return (0..length).map(|_| self.random.pick(b"  abcdefgh")).collect();
+            let bytes = self.random.pick(&[&b"  abcdefgh"[..], b"0123456789abcdefghijklmnopqrstuvwxyzABCDEFGHIJ-", b"----  ..__//~~a"]);
+            return (0..length).map(|_| self.random.pick(bytes)).collect();
         }
         let mut text = Vec::new();
+        if self.random.one_in(6) {
+            text.push(self.random.pick(PARTING));
+        }
         for _ in 0..self.random.pick(&[0, 1, 1, 1, 2, 2, 3]) {
             let longest = if self.random.one_in(12) { LONGEST } else { 9 };
-            text.extend(self.keyword(longest));
-            text.extend(vec![b' '; self.random.pick(&[0, 1, 1, 2])]);
-            if self.random.one_in(8) {
-                text.push(self.random.pick(b"\t\t\x0B\x1F\xA0\r"));
-            }
-        }
-        if self.random.one_in(6) {
-            text.insert(0, b' ');
+            text.extend(if self.random.one_in(2) { self.keyword(longest) } else { self.word(longest) });
+            let parts = self.random.pick(&[0, 1, 1, 1, 2, 2, 15, 16, 17, 40]);
+            text.extend((0..parts).map(|_| self.random.pick(PARTING)));
         }
         text
+    }
+
+    /// Digits and letters, of which the ends of their ranges are many.
+    fn word(&mut self, longest: usize) -> Vec<u8> {
+        (0..=self.random.below(longest)).map(|_| self.random.pick(b"abcxyzABCXYZ0599")).collect()
     }
 
     fn query(&mut self, station: &Station) -> Framed {

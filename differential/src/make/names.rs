@@ -7,7 +7,7 @@ use crate::listing::{names_in, Listing, Text, MOST, TEXT};
 use crate::random::Random;
 
 /// The letters of names: few, so that names meet again, are alike but for the case of a letter, or have no keyword.
-const LETTERS: &[u8] = b"aaabbAB  c\t\xFF";
+const LETTERS: &[u8] = b"aaabbAB  c0-_\t\xFF";
 
 /// A name that may be listed: mostly short, also around the ends of eights of bytes and of the longest.
 fn good_name(random: &mut Random) -> Vec<u8> {

@@ -83,7 +83,8 @@ impl Maker {
             self.asked.push(number);
             number
         };
-        let text = self.random.pick(&["eb", "eb ebckl", "ebcklmen", "", " ", "EB  EBCKL ", "log", "a b c d"]);
+        let texts = ["eb", "eb ebckl", "ebcklmen", "", " ", "EB  EBCKL ", "log", "a b c d", "---", "eb-EBCKL.jpg", "_ebcklmen/", "\u{c9}eb"];
+        let text = self.random.pick(&texts);
         let mut payload = vec![0, 0];
         payload.extend(text.bytes());
         if plain || !self.random.one_in(12) {

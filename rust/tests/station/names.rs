@@ -258,3 +258,35 @@ fn any_bytes_get_an_answer() {
     }
     assert!(lists > 300, "{lists}");
 }
+
+/// The lines that a query for a text goes to at a station whose neighbour by line 0 has sent the table of one name.
+fn asked(name: &str, length: u32, text: &[u8]) -> Vec<u32> {
+    let entries = listed(300, &[name]).table(length, 8).unwrap();
+    let updates = table::write([3; 16], None, Table { entries: &entries, infinity: 8 }, 100).unwrap();
+    let mut station = Station::new(8 * length as usize).unwrap();
+    station.open(0).unwrap();
+    station.feed_all(0, 0, &own(), &updates, |message| assert!(message.is_ok())).unwrap();
+    let lines = station.ask([9; 16], text).unwrap().lines().collect();
+    lines
+}
+
+/// Every byte but digits and letters parts keywords, in names as in queries; at a short and at a long table.
+#[test]
+fn a_name_is_found_by_the_parts_of_its_tags() {
+    for length in [64, 4096] {
+        for text in ["04417", "lx", "JPG", "jpg 04417", "LX-04417.jpg", "lx_jpg", "\u{e9}04417", "---", ""] {
+            assert_eq!(asked("LX-04417.jpg", length, text.as_bytes()), [0], "{text}");
+        }
+        for text in ["04418", "lx04417", "0441", "04417x", "lx 04418", "lx-o4417"] {
+            assert_eq!(asked("LX-04417.jpg", length, text.as_bytes()), [], "{text}");
+        }
+    }
+}
+
+/// Each of the 255 bytes that a text may have, between the two keywords of a name: 62 make one keyword of it all.
+#[test]
+fn every_byte_parts_or_does_not() {
+    let whole = |byte: &u8| asked("0 8", 4096, &[b'0', *byte, b'8']).is_empty();
+    let kept: Vec<u8> = (1..=255).filter(whole).collect();
+    assert_eq!(kept, b"0123456789ABCDEFGHIJKLMNOPQRSTUVWXYZabcdefghijklmnopqrstuvwxyz");
+}
