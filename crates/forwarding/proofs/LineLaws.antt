@@ -4,13 +4,10 @@ use Prim.Native.Nat.{ℕ, _+_, _*_, _-_, _≤_, _<_, min}
 use mathlib.Core.Path.{_≡_, refl, sym, ap, ap₂, _∙_}
 use mathlib.Core.Bool.{Bool, false, not, _&&_, and-true, and-false, and-assoc}
 use mathlib.Core.List.{List, _++_, map}
-use native.Mathlib.Nat.{suc-mul}
-use native.Mathlib.Numerals.{add-one}
 use native.Mathlib.Omega.{arith}
 use lib.ListN.{length, getD, set, take, drop}
-use lib.Seq.{drop-drop, ext-getD}
+use lib.Seq.{ext-getD}
 use borrow.Author.Tests.{le-leb, lt-leb}
-use Rattle.laws.proofs.Parts.{part-tail}
 use Rattle.laws.proofs.Rings.{map-getD}
 use Rattle.keywords.specs.declared.cut.Cut.{Cut}
 use Rattle.keywords.specs.Keywords.{keywordsOf, cutOf}
@@ -19,12 +16,12 @@ use Rattle.tables.specs.declared.Table.{Table}
 use Rattle.tables.specs.Tables.{Held, heldIn, noTable}
 use Rattle.tables.specs.Admission.{stops, withholds}
 use Rattle.tables.proofs.AdmissionLaws.{withholds-end, withholds-on}
-use Rattle.protocol.specs.Lines.{lineNumbers, partOf, eachLine, isOther}
+use Rattle.protocol.specs.Lines.{lineNumbers, eachLine, isOther}
 use Rattle.protocol.specs.Outcomes.{nobody}
 use Rattle.protocol.proofs.Outcomes.{numbers-at, eachLine-at}
 use Rattle.protocol.specs.Queries.{passes, goesOn, ownTo, queryTo}
 use Rattle.forwarding.specs.Passing.{heldOf, leftBy}
-use Rattle.laws.proofs.Passing.{take-within, drop-within, and-neither, element-next, element-last}
+use Rattle.laws.proofs.Passing.{part-front, and-neither, element-next, element-last}
 
 -- ---- what is made for each of the eight lines
 
@@ -94,22 +91,13 @@ abbrev pub leftAt : List Bool → (ℕ → Held) → ℕ → ℕ → ℕ → Boo
 leftAt flags tables ttl hash k = getD flags k false && not (stops (tables k) ttl hash)
 
 -- line k, whose part stands at the front of what is left of the area
-module _ (flags : List Bool) (tables : List Table) (room : ℕ) (route : List ℕ) (k n : ℕ) (area : List ℕ) (b : k < 8)
-    (ea : area ≡ drop (k * room) route) (en : n ≡ min room (length area)) where
-  pub flag-left : (ttl hash : ℕ)
-      → (getD flags k false && not (stops (heldIn (getD tables k noTable) (take n area)) ttl hash))
-      ≡ leftAt flags (heldOf tables room route) ttl hash k
-  flag-left ttl hash =
-      let part : take n area ≡ partOf room k route = rw en (take-within room area ∙ ap (take room) ea) in
-      ap (λ p. getD flags k false && not (stops (heldIn (getD tables k noTable) p) ttl hash)) part
-
-  pub area-next : take (length area - n) (drop n area) ≡ drop ((k + 1) * room) route
-  area-next =
-      part-tail n area
-      ∙ (rw en (drop-within room area))
-      ∙ ap (drop room) ea
-      ∙ drop-drop room (k * room) route
-      ∙ ap (λ m. drop m route) (sym (ap (λ j. j * room) (add-one k) ∙ suc-mul k room))
+pub flag-left : (flags : List Bool) (tables : List Table) (room : ℕ) (route : List ℕ) (k n : ℕ) (area : List ℕ)
+    → area ≡ drop (k * room) route → n ≡ min room (length area) → (ttl hash : ℕ)
+    → (getD flags k false && not (stops (heldIn (getD tables k noTable) (take n area)) ttl hash))
+    ≡ leftAt flags (heldOf tables room route) ttl hash k
+flag-left flags tables room route k n area ea en ttl hash =
+    ap (λ p. getD flags k false && not (stops (heldIn (getD tables k noTable) p) ttl hash))
+    (part-front room route k n area ea en)
 
 -- a query that came by line l with this life: to the other open lines that let it pass, where the life is 2 or more,
 -- and else to nobody

@@ -9,6 +9,7 @@ pub mod Decimal
 pub mod Refusals
 pub mod Words
 pub mod Overlay
+pub mod Fronts
 pub mod Rings
 pub mod RingScan
 pub mod InPlace

@@ -1,17 +1,19 @@
--- Stores in what was written at the front of a list, numbers read as bytes again, parts that may be short, and tests of
--- elements.
-use Prim.Native.Nat.{ℕ, zero, suc, _+_, _*_, _/_, _%_, _≤_, _<_, min}
+-- Stores in what was written at the front of a list, numbers read as bytes again, parts that may be short, parts of one
+-- area, and tests of elements.
+use Prim.Native.Nat.{ℕ, zero, suc, _+_, _-_, _*_, _/_, _%_, _≤_, _<_, min}
 use mathlib.Core.Path.{_≡_, refl, sym, ap, ap₂, _∙_}
 use mathlib.Core.Bool.{Bool, true, false, not, _&&_, _||_}
 use mathlib.Core.List.{List, [], _∷_, _++_, append-nil}
 use native.Mathlib.Decide.{decLe}
+use native.Mathlib.Nat.{suc-mul}
 use native.Mathlib.Numerals.{add-one}
 use native.Mathlib.Omega.{arith}
 use lib.ListN.{length, getD, take, drop, set, length-set, drop-of-length-le}
-use lib.Seq.{set-append-left, set-at, take-suc, drop-cons, append-snoc, take-all, length-take-le}
+use lib.Seq.{set-append-left, set-at, take-suc, drop-cons, drop-drop, append-snoc, take-all, length-take-le}
 use Rattle.laws.specs.Tests.{any}
 use Rattle.laws.specs.Bytes.{little, littleBytes}
 use Rattle.laws.specs.Parts.{over}
+use Rattle.laws.proofs.Parts.{part-tail}
 
 -- a store inside of what was written
 pub store-inside : (l area : List ℕ) (i v : ℕ) → i < length l → set (over 0 l area) i v ≡ over 0 (set l i v) area
@@ -71,6 +73,21 @@ module _ {A : Type 0} where
   and-any true f l = refl
   and-any false f [] = refl
   and-any false f (x ∷ l) = and-any false f l
+
+-- the parts of an area, so many bytes each, the last of which may be short or missing: part k at the front of what is
+-- left of the area, and what is left behind it
+module _ (room : ℕ) (area : List ℕ) (k n : ℕ) (rest : List ℕ) (er : rest ≡ drop (k * room) area)
+    (en : n ≡ min room (length rest)) where
+  pub part-front : take n rest ≡ take room (drop (k * room) area)
+  part-front = rw en (take-within room rest ∙ ap (take room) er)
+
+  pub part-next : take (length rest - n) (drop n rest) ≡ drop ((k + 1) * room) area
+  part-next =
+      part-tail n rest
+      ∙ rw en (drop-within room rest)
+      ∙ ap (drop room) er
+      ∙ drop-drop room (k * room) area
+      ∙ ap (λ m. drop m area) (sym (ap (λ j. j * room) (add-one k) ∙ suc-mul k room))
 
 -- neither of two
 pub and-neither : (a b c : Bool) → (a && not (b || c)) ≡ ((a && not b) && not c)

@@ -6,6 +6,7 @@ use mathlib.Core.List.{List, [], _∷_, _++_, map}
 use native.Mathlib.Omega.{arith}
 use native.Mathlib.Nat.{add-mod-right, mod-eq-of-lt}
 use lib.ListN.{length, getD}
+use Rattle.laws.specs.Numbers.{counting}
 use Rattle.laws.specs.Ring.{back, placesBefore}
 
 -- the place before, by comparison
@@ -37,12 +38,7 @@ place-high c (suc n) (suc r) (suc q) hp hr hc hn =
     ap (λ b. getD (placesBefore c b n) r 0) (back-other c q hp) ∙ place-high c n r q (omega arith) (omega arith)
     (omega arith) (omega arith) ∙ omega arith
 
--- n numbers, counted up from `from`
-abbrev pub counting : ℕ → ℕ → List ℕ
-counting zero from = []
-counting (suc n) from = from ∷ counting n (suc from)
-
--- what f makes of each: at place k stands what it makes of the number k
+-- what f makes of the numbers from 0 on: at place k stands what it makes of k
 module _ {A : Type 0} (f : ℕ → A) (d : A) where
   each-from : (n from k : ℕ) → k < n → getD (map f (counting n from)) k d ≡ f (from + k)
   each-from zero from k h = absurd (omega arith)

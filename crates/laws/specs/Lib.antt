@@ -3,4 +3,5 @@ pub mod Tests
 pub mod Bytes
 pub mod Parts
 pub mod Ring
+pub mod Numbers
 pub mod Text

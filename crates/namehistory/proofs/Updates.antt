@@ -65,7 +65,7 @@ module _ (had : Bool) (old new : List ℕ) (infinity size : ℕ) (good : goodTab
           rw (o refl .0, eq-eqb (length old) (length new) (o refl .1), eq-eqb infinity infinity refl)
       go false rest o = refl
 
-  only-by-length : OnlyByLength had old new infinity size
+  pub only-by-length : OnlyByLength had old new infinity size
   only-by-length number room = rw (the-run number room) (run-refuses _ _ room)
 
 pub writer-takes : WriterTakes

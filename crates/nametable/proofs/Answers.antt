@@ -6,13 +6,12 @@ use mathlib.Core.Logic.{_↔_, _⊎_, inl, inr, ⊎-elim, Iff·rfl, Iff·trans}
 use mathlib.Core.List.{List, [], _∷_}
 use native.Mathlib.Omega.{arith}
 use lib.Dec.{eqb, leb, ltb}
-use lib.ListN.{length, getD, take, drop}
+use lib.ListN.{length, getD}
 use lib.Seq.{getD-take}
-use borrow.Author.Tests.{eqb-true, eqb-false, eq-eqb, ne-eqb}
+use borrow.Author.Tests.{eqb-true, eqb-false, eq-eqb}
 use Rattle.laws.specs.Tests.{any, firstOf}
-use Rattle.laws.specs.Parts.{over}
 use Rattle.laws.proofs.Refusals.{and-fst, and-snd, or-split, or-left, or-right}
-use Rattle.laws.proofs.Over.{over-front, over-behind, over-length}
+use Rattle.laws.proofs.Fronts.{front-refused, front-read, front-behind, front-long}
 use Rattle.laws.proofs.Words.{and-iff, none-iff, some-iff, no-iff, yes-iff, most-iff, less-iff, not-less-iff}
 use Rattle.laws.proofs.Words.{first-iff, past-iff}
 use Rattle.tables.specs.Tables.{lengths, goodLength, goodInfinity}
@@ -159,51 +158,18 @@ table-refusals a n infinity out =
 
 -- ---- the output
 
-module _ (a : List ℕ) (n infinity : ℕ) (out : List ℕ) where
-  abbrev entries : List ℕ
-  entries = ownEntries n infinity (namesIn a)
-
-  size : length entries ≡ n
-  size = entries-length n infinity (namesIn a)
-
-  same : (tableAnswer a n infinity (length out) ≡ 0 → ⊥) → tableOut a n infinity out ≡ out
-  unfolding tableOut
-  same h = rw (ne-eqb (tableAnswer a n infinity (length out)) 0 h)
-
-  module _ (e : tableAnswer a n infinity (length out) ≡ 0) where
-    written : tableOut a n infinity out ≡ over 0 entries out
-    unfolding tableOut
-    written = rw e
-
-    front : take n (tableOut a n infinity out) ≡ entries
-    front = ap (take n) written ∙ ap (λ m. take m (over 0 entries out)) (sym size) ∙ over-front entries out
-
-    back : drop n (tableOut a n infinity out) ≡ drop n out
-    back =
-        ap (drop n) written ∙ ap (λ m. drop m (over 0 entries out)) (sym size) ∙ over-behind entries out
-        ∙ ap (λ m. drop m out) size
-
-    fits : length (tableOut a n infinity out) ≡ length out
-    fits =
-        let room = made-iff a n infinity (length out) .0 e .2 in
-        let long = size in
-        ap length written ∙ over-length 0 entries out (omega arith)
-
-  still : length (tableOut a n infinity out) ≡ length out
-  still = by (eqb (tableAnswer a n infinity (length out)) 0) refl
-    where
-      by : (t : Bool) → eqb (tableAnswer a n infinity (length out)) 0 ≡ t
-          → length (tableOut a n infinity out) ≡ length out
-      by true q = fits (eqb-true (tableAnswer a n infinity (length out)) 0 q)
-      by false q = ap length (same (eqb-false (tableAnswer a n infinity (length out)) 0 q))
-
 pub table-leaves : TableLeaves
+unfolding tableOut
 table-leaves a n infinity out =
+    let answer = tableAnswer a n infinity (length out) in
+    let entries = ownEntries n infinity (namesIn a) in
+    let after = tableOut a n infinity out in
+    let size = entries-length n infinity (namesIn a) in
     record {
-      refused = same a n infinity out;
-      table = front a n infinity out;
-      behind = back a n infinity out;
-      long = still a n infinity out;
+      refused = front-refused answer n entries out after size refl;
+      table = front-read answer n entries out after size refl;
+      behind = front-behind answer n entries out after size refl;
+      long = front-long answer n entries out after size refl (λ e. made-iff a n infinity (length out) .0 e .2);
     }
 
 pub table-told : TableTold
@@ -225,7 +191,7 @@ table-told a n infinity out e = record { bits = b; power = v .0 .3; near = near;
     entry i h =
         let most = v .0 .2 in
         let here : getD (ownEntries n infinity (namesIn a)) i 0 ≡ getD after i 0 =
-        ap (λ l. getD l i 0) (sym (front a n infinity out e)) ∙ getD-take n after i 0 h in
+        ap (λ l. getD l i 0) (sym (table-leaves a n infinity out .table e)) ∙ getD-take n after i 0 h in
         rw here at (table-exactly n b (v .0 .3) (omega arith) infinity (namesIn a) i h)
 
     near : (i : ℕ) → i < n → (getD after i 0 ≡ 1) ↔ FallsOn b (namesIn a) i

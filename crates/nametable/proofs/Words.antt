@@ -38,20 +38,20 @@ module _ (i : ℕ) where
       by true q = here es p h (eqb-true i p q)
       by false q = getD-set-other es p i 1 0 (eqb-false i p q) ∙ e
 
-  on : (ps es : List ℕ) → i < length es → List·Memᴰ i ps → getD (withOnes ps es) i 0 ≡ 1
+  pub on : (ps es : List ℕ) → i < length es → List·Memᴰ i ps → getD (withOnes ps es) i 0 ≡ 1
   unfolding withOnes
   on [] es h m = absurd (List·Memᴰ·not-nil m)
   on (p ∷ ps) es h m =
       let g = lt-length-set es p 1 h in
       ⊎-elim (λ e. stays ps (set es p 1) g (here es p h e)) (λ t. on ps (set es p 1) g t) (List·Memᴰ·cases-cons m)
 
-  off : (ps es : List ℕ) → (List·Memᴰ i ps → ⊥) → getD (withOnes ps es) i 0 ≡ getD es i 0
+  pub off : (ps es : List ℕ) → (List·Memᴰ i ps → ⊥) → getD (withOnes ps es) i 0 ≡ getD es i 0
   unfolding withOnes
   off [] es n = refl
   off (p ∷ ps) es n = off ps (set es p 1) (λ m. n (List·Memᴰ·tail m))
       ∙ getD-set-other es p i 1 0 (λ e. n (List·Memᴰ·head e))
 
-  among : (ps : List ℕ) → List·Memᴰ i ps ⊎ (List·Memᴰ i ps → ⊥)
+  pub among : (ps : List ℕ) → List·Memᴰ i ps ⊎ (List·Memᴰ i ps → ⊥)
   among [] = inr List·Memᴰ·not-nil
   among (p ∷ ps) = by (eqb i p) refl (among ps)
     where
@@ -85,7 +85,7 @@ module _ (f : List ℕ → ℕ) (i : ℕ) where
       (List·Memᴰ·cases-cons m)
 
 module _ (n b : ℕ) (same : (k : List ℕ) → placeIn n k ≡ placeOf b k) (i : ℕ) where
-  falls : (names : List (List ℕ)) → List·Memᴰ i (ownPlaces n names) → FallsOn b names i
+  pub falls : (names : List (List ℕ)) → List·Memᴰ i (ownPlaces n names) → FallsOn b names i
   unfolding ownPlaces
   falls [] m = absurd (List·Memᴰ·not-nil m)
   falls (x ∷ xs) m =
@@ -95,7 +95,7 @@ module _ (n b : ℕ) (same : (k : List ℕ) → placeIn n k ≡ placeOf b k) (i 
       (λ t. let r = falls xs t in (r .0, List·Memᴰ·tail (r .1), r .2))
       (List·Memᴰ·append-cases (placesOf n x) m)
 
-  marked : (names : List (List ℕ)) (x : List ℕ) → List·Memᴰ x names
+  pub marked : (names : List (List ℕ)) (x : List ℕ) → List·Memᴰ x names
       → (k : List ℕ) → List·Memᴰ k (keywordsOf x) → placeOf b k ≡ i → List·Memᴰ i (ownPlaces n names)
   unfolding ownPlaces
   marked [] x m k mk e = absurd (List·Memᴰ·not-nil m)
@@ -116,7 +116,7 @@ table-exactly n b e l infinity names i h =
 pub table-long : TableLong
 table-long = entries-length
 
-within-ones : (infinity : ℕ) → 1 ≤ infinity → (ps es : List ℕ) → all (inBounds infinity) es ≡ true
+pub within-ones : (infinity : ℕ) → 1 ≤ infinity → (ps es : List ℕ) → all (inBounds infinity) es ≡ true
     → all (inBounds infinity) (withOnes ps es) ≡ true
 unfolding withOnes
 within-ones infinity h [] es e = e

@@ -54,7 +54,7 @@ pub fn mark_names(area: &[u8], count: usize, size: u32, entries: &mut [u8])
 }
 
 // Every entry becomes v.
-fn fill(entries: &mut [u8], v: u8)
+pub fn fill(entries: &mut [u8], v: u8)
     ensures { λ _. ⌜ now (entries .exit) ≡ replicate (length (now (entries .entry))) v ⌝ }
 {
     let mut i = 0;

@@ -41,7 +41,7 @@ module _ (s : Station) (out : ℕ) (route : List ℕ) where
   fit-iff : (badAreas s out route ≡ false) ↔ Areas s out route
   fit-iff = (areas-of s out route, areas-fit s out route)
 
-closed-iff : (s : Station) (l : ℕ) → (notOpen l (lineAt s l .live) ≡ true) ↔ LineNotOpen s l
+pub closed-iff : (s : Station) (l : ℕ) → (notOpen l (lineAt s l .live) ≡ true) ↔ LineNotOpen s l
 closed-iff s l = or-iff (not (ltb l 8)) (not (lineAt s l .live)) (least-iff l 8) (no-iff (lineAt s l .live))
 
 named-iff : (m : List ℕ) → (any (eqb (kindOf m)) (0x00 ∷ 0x01 ∷ 0x30 ∷ 0x80 ∷ 0x81 ∷ []) ≡ true) ↔ Named m

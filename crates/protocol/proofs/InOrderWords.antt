@@ -169,7 +169,7 @@ module _ (room : ℕ) (t : Table) where
       let high = le-leb (t .infinity) 127 (w .below) in
       rw (long, le-leb (t .length) room (w .within), low, high, position-is a b w)
 
-  table-words : tableInOrder room t ≡ true → TableWords room t
+  pub table-words : tableInOrder room t ≡ true → TableWords room t
   unfolding tableInOrder
   table-words e =
       record {

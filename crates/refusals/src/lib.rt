@@ -10,7 +10,7 @@ ghost use mathlib.Core.List.{[], _∷_};
 ghost use Rattle.laws.specs.Tests.{firstOf};
 ghost use Rattle.protocol.specs.Queries.{queryRules};
 ghost use Rattle.protocol.specs.Hits.{hitRules};
-ghost use Rattle.protocol.specs.Calls.{unfitAreas, earlyRules, openingRules, closingRules, ownRules};
+ghost use Rattle.protocol.specs.Calls.{otherRoom, unfitAreas, earlyRules, openingRules, closingRules, ownRules};
 use protocol::GONE;
 use protocol::HERE;
 use protocol::LARGEST_TEXT;
@@ -21,11 +21,18 @@ use wire::Header;
 use wire::LARGEST_MESSAGE;
 use wire::LARGEST_PAYLOAD;
 
+// Is the route area too short, or does it give another room?
+pub fn other_room(room: usize, route: usize) -> bool
+    ensures { λ r. ⌜ r ≡ otherRoom room route ⌝ }
+{
+    (route < 32) | (route / 8 != room)
+}
+
 // Do the areas that a message or an own query is lent not fit: one is too short, or the route area has another room?
 pub fn unfit_areas(room: usize, out: usize, route: usize) -> bool
     ensures { λ r. ⌜ r ≡ unfitAreas room out route ⌝ }
 {
-    (out < LARGEST_MESSAGE) | ((route < 32) | (route / 8 != room))
+    (out < LARGEST_MESSAGE) | other_room(room, route)
 }
 
 // The number of the first that holds: state, areas, line, less than a header, payload too long, less than the payload.

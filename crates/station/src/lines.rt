@@ -47,7 +47,8 @@ pub fn lives(lines: [Line; 8]) -> [bool; 8]
     ]
 }
 
-fn tables_of(lines: [Line; 8]) -> [Table; 8]
+// The tables of the lines.
+pub fn tables_of(lines: [Line; 8]) -> [Table; 8]
     ensures { λ r. ⌜ r ≡ tablesIn lines ⌝ }
 {
     let x = lines[0];

@@ -6,8 +6,9 @@ use mathlib.Core.List.{_++_}
 use native.Mathlib.Nat.{zero-mul}
 use native.Mathlib.Omega.{arith}
 use lib.ListN.{take, drop, length-take}
+use Rattle.laws.proofs.Passing.{part-next}
 use Rattle.forwarding.specs.Passing.{heldOf, leftBy}
-use Rattle.forwarding.proofs.LineLaws.{each-next, each-last, leftAt, flag-left, area-next}
+use Rattle.forwarding.proofs.LineLaws.{each-next, each-last, leftAt, flag-left}
 use borrow.Author.Needs.{needs}
 use Rattle.forwarding.proofs.lines.left_by.Statement.{statement}
 use Rattle.forwarding.proofs.lines.left_by.Tie as tie
@@ -39,13 +40,12 @@ loop-again c =
     let l = at .loop in
     let more : l .k < 8 = omega arith in (
       omega arith,
-      area-next (x .t1) (x .t2) (x .room) (x .route .now) (l .k) (n .result) (l .area .now) more
-          (l .inv .1) (n .ensures),
+      part-next (x .room) (x .route .now) (l .k) (n .result) (l .area .now) (l .inv .1) (n .ensures),
       each-next (leftAt (x .t1) (heldOf (x .t2) (x .room) (x .route .now)) (x .ttl) (x .hash)) (x .t1)
           (omega arith) (l .k)
           more _ _ (l .inv .2)
           (c .before .is-left .ensures
-          ∙ flag-left (x .t1) (x .t2) (x .room) (x .route .now) (l .k) (n .result) (l .area .now) more (l .inv .1)
+          ∙ flag-left (x .t1) (x .t2) (x .room) (x .route .now) (l .k) (n .result) (l .area .now) (l .inv .1)
           (n .ensures) (x .ttl) (x .hash)),
     )
 
