@@ -11,8 +11,10 @@ ghost use Rattle.protocol.specs.Lines.{livesIn};
 ghost use Rattle.protocol.specs.State.{stationOf};
 ghost use Rattle.protocol.specs.Order.{inOrder};
 ghost use Rattle.protocol.specs.Outcomes.{termsOf};
+ghost use Rattle.protocol.specs.Queries.{usualLimit};
 ghost use Rattle.protocol.specs.Calls.{fresh, opening, closing, lookingUp};
 ghost use Rattle.receiving.specs.Feeding.{feedOutcome};
+ghost use Rattle.relaying.specs.Calls.{tableFor, tableOutFor};
 ghost use Rattle.station.specs.Calls.{MessageMet, OwnMet, Changed};
 ghost use Rattle.station.specs.Feeding.{FeedMet};
 ghost use Rattle.tally.specs.Counts.{counted};
@@ -29,6 +31,8 @@ use protocol::Line;
 use protocol::Own;
 use protocol::Report;
 use refusals::ages::look_up;
+use relaying::Made;
+use relaying::make_table;
 use station::asking::ask;
 use station::changes::Beginning;
 use station::changes::LineChange;
@@ -293,6 +297,35 @@ pub extern "C" fn lunozhar_look_up_lent<'a>(
     let known = s.known;
     let order = in_order(s.order, room, at);
     look_up(order, known)
+}
+
+// The table to send the neighbour of a line, at the front of the output.
+#[no_mangle]
+pub extern "C" fn lunozhar_table_for_lent<'a>(
+    lo: &'a [u64; 512],
+    hi: &'a [u64; 512],
+    asker: &'a [u8; 512],
+    count: usize,
+    next: usize,
+    room: usize,
+    lines: Lines,
+    line: u32,
+    names: &[u8],
+    size: u32,
+    out: &mut [u8],
+    route: &[u8],
+) -> Made
+    ensures told { λ r.
+        let s = stationOf room (lines .at) (memoryOf (now (lo .entry)) (now (hi .entry)) (now (asker .entry)) count next) in
+        ⌜ r ≡ tableFor usualLimit s line (now (names .entry)) size (length (now (out .entry))) (length (now (route .entry))) ⌝ }
+    ensures bytes { λ _.
+        let s = stationOf room (lines .at) (memoryOf (now (lo .entry)) (now (hi .entry)) (now (asker .entry)) count next) in
+        ⌜ now (out .exit) ≡ tableOutFor usualLimit s line (now (names .entry)) size (now (out .entry)) (now (route .entry)) ⌝ }
+{
+    let at = lines.at;
+    let s = survey_ring(lo, hi, asker, count, next, at, ONES, ONES);
+    let order = in_order(s.order, room, at);
+    make_table(order, room, at, line, names, size, out, route)
 }
 
 // Whether a station is in order.
