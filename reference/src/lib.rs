@@ -31,13 +31,18 @@
 //!   rise the pairs are sorted; gaps are closed by writing all texts anew from a vector, in the list's order. There names
 //!   of one bucket are chained, every pair is held to every other, and texts are moved down in place, the lowest first.
 //!   A zero byte is met where a name's bytes are mixed. There one pass over the text looks for zeros.
+//! - A table that is passed on: tables of one length are joined, and the joined list goes from length to length as a
+//!   whole, halved on its way down from the longest table and doubled on its way up from the shortest, a quarter of all
+//!   hashes at a time. There each table is merged into the entries by itself, or two of the entries' own length at once:
+//!   of a longer one the blocks, of a shorter one each entry into its block.
 //!
 //! Both go the same way, the plain one, in this: the kept places of a ring are taken as two straight stretches; a
 //! query's keywords are cut and hashed once for all lines, four bytes at a time, with letters told by the highest bit of
 //! their bytes (`differential/` holds both to the appendix's way, byte by byte); a place is the top bits of the hash,
 //! moved down; a list's names are told apart by mixing words of eight bytes, the last of which may overlap, and by some
-//! more bits of the mix before their bytes are compared; a table's state has the same seven fields; and every update is
-//! tested in the order 14, 15, 16.
+//! more bits of the mix before their bytes are compared; a table's state has the same seven fields; every update is
+//! tested in the order 14, 15, 16; and of a table that is passed on, an entry is held to its own table's Infinity only
+//! where that could lower anything, which it cannot from the usual life on.
 //!
 //! No promise of this crate is proved. It has unit tests for document 01's own examples and for errors that are easily made.
 //!
@@ -54,7 +59,7 @@
 //!
 //! Answers are document 01's numbers, 0 to 18, 19 for a line that is shut (document 02, R-1), and 20 for a list of names
 //! that is full. A call that looks a query's number up and finds it hands its age up: how many were
-//! remembered after it.
+//! remembered after it. One that makes a table to be passed on hands its Infinity up.
 
 #![forbid(unsafe_code)]
 

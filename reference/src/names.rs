@@ -255,8 +255,8 @@ pub fn find(area: &[u8], name: &[u8]) -> (u8, usize) {
 /// Makes the table of the names: 1 where a keyword of one of them falls, Infinity elsewhere. Gives 0, or 2 or 1 of the area, 14 for a length or
 /// an Infinity that no RESET may carry, or 2 for a short output.
 pub fn table(area: &[u8], length: u32, infinity: u8, out: &mut [u8]) -> u8 {
-    let list = match List::read(area) {
-        Ok(list) => list,
+    let products = match products(area) {
+        Ok(products) => products,
         Err(answer) => return answer,
     };
     if !length_allowed(length) || !infinity_allowed(infinity) {
@@ -268,10 +268,14 @@ pub fn table(area: &[u8], length: u32, infinity: u8, out: &mut [u8]) -> u8 {
     };
     entries.fill(infinity);
     let bits = length.trailing_zeros();
-    for keyword in list.names().flat_map(keywords) {
-        entries[hash::place(keyword.bytes, bits) as usize] = 1;
-    }
+    products.for_each(|product| entries[hash::top(product, bits) as usize] = 1);
     0
+}
+
+/// The products of all keywords of the names, or 2 or 1.
+pub(crate) fn products(area: &[u8]) -> Result<impl Iterator<Item = u32> + '_, u8> {
+    let names = List::read(area)?.names();
+    Ok(names.flat_map(keywords).map(|keyword| hash::product(keyword.bytes)))
 }
 
 /// The names in order, or 2 or 1.

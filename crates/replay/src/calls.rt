@@ -3,6 +3,8 @@
 ghost use mathlib.Core.Path.{_≡_};
 ghost use mathlib.Core.Logic.{_⊎_};
 ghost use Rattle.protocol.specs.Calls.{unfound};
+ghost use Rattle.protocol.specs.Queries.{usualLimit, infinityWritten};
+ghost use Rattle.relaying.specs.Calls.{toldBy};
 use lunozhar::Lines;
 use lunozhar::Number;
 use lunozhar::calls;
@@ -12,6 +14,7 @@ use protocol::Line;
 use protocol::Own;
 use protocol::Report;
 use refusals::ages::no_age;
+use relaying::Made;
 
 // The ring of remembered queries.
 pub(crate) struct Ring {
@@ -286,6 +289,38 @@ pub(crate) fn looked_up(w: Held, bytes: [u8; 16]) -> Finding
         w.room,
         lines,
         number,
+    )
+}
+
+// The table for a line is made, of the names of an area and the tables of the other lines.
+pub(crate) fn made(
+    w: Held,
+    line: u32,
+    names: &[u8],
+    size: u32,
+    out: &mut [u8],
+    route: &[u8],
+) -> Made
+    ensures { λ r. ⌜ r ≡ toldBy (r .answer) (infinityWritten usualLimit) ⌝ }
+{
+    let ring = w.ring;
+    let lo = ring.lo;
+    let hi = ring.hi;
+    let asker = ring.asker;
+    let lines = w.lines;
+    calls::lunozhar_table_for_lent(
+        &lo,
+        &hi,
+        &asker,
+        ring.count,
+        ring.next,
+        w.room,
+        lines,
+        line,
+        names,
+        size,
+        out,
+        route,
     )
 }
 

@@ -8,9 +8,12 @@ ghost use mathlib.Core.Path.{_≡_};
 ghost use mathlib.Core.Logic.{_⊎_};
 ghost use lib.Dec.{eqb};
 ghost use Rattle.protocol.specs.Calls.{unfound};
+ghost use Rattle.protocol.specs.Queries.{usualLimit, infinityWritten};
+ghost use Rattle.relaying.specs.Calls.{toldBy};
 use crate::calls::Held;
 use protocol::Finding;
 use protocol::Report;
+use relaying::Made;
 use rows::words;
 
 // Whether the last call brought bytes; then how many are held of its line after all, whether that is shut, and whether
@@ -49,7 +52,7 @@ pub fn waits(answer: u8) -> bool
 // Which event a word names.
 fn kind_of(row: &[u8], k: usize) -> usize {
     words::index(
-        b"open close message ask feed terms kept line fill pending held",
+        b"open close message ask feed terms kept line fill pending held room table",
         rows::word(row, k, 0),
     )
 }
@@ -59,10 +62,10 @@ fn width(kind: usize) -> usize
     ensures { λ r. ⌜ (1 ≤ r) × (r ≤ 14) ⌝ }
 {
     match kind {
-        0 | 1 | 8 | 10 => 2,
+        0 | 1 | 8 | 10 | 11 => 2,
         2 | 4 | 5 | 9 => 4,
         3 => 3,
-        6 => 6,
+        6 | 12 => 6,
         7 => 14,
         _ => 1,
     }
@@ -118,6 +121,7 @@ fn event(
             let area = held_by(held, line, w.lent);
             calls::brought(w, line, clock, rows::word(row, k, 3), area, out, route)
         }
+        12 => set::tabled(w, row, k, route),
         _ => set::by_hand(w, kind, row, k),
     }
 }
@@ -158,7 +162,7 @@ fn run(
     out: &mut [u8],
     route: &mut [u8],
 ) -> Done
-    requires { ⌜ k ≤ 1 ⌝ }
+    requires { ⌜ k ≤ 5 ⌝ }
     ensures { λ r. ⌜ r .count ≤ 256 ⌝ }
 {
     let mut answers = [0u8; 256];
@@ -187,7 +191,7 @@ fn term(row: &[u8], k: usize, j: usize, usual: usize) -> usize {
 
 // The events from word k on, over these areas.
 fn ran(row: &[u8], k: usize, held: &mut [u8], out: &mut [u8], route: &mut [u8]) -> Done
-    requires { ⌜ k ≤ 1 ⌝ }
+    requires { ⌜ k ≤ 5 ⌝ }
     ensures { λ r. ⌜ r .count ≤ 256 ⌝ }
 {
     run(
@@ -215,6 +219,30 @@ pub fn replayed(row: &[u8], held: &mut [u8], out: &mut [u8], route: &mut [u8]) -
         mark: calls::mark(w),
         brought: told_of_line(w),
     }
+}
+
+// What the table call tells after the events from the sixth word on: the line and the length are the row's first words,
+// the names those of an area. The table stands at the front of `made`.
+pub fn relayed(
+    row: &[u8],
+    held: &mut [u8],
+    out: &mut [u8],
+    route: &mut [u8],
+    names: &[u8],
+    made: &mut [u8],
+) -> Made
+    ensures { λ r. ⌜ r ≡ toldBy (r .answer) (infinityWritten usualLimit) ⌝ }
+{
+    let done = ran(row, 5, held, out, &mut *route);
+    let lent = words::front(route, term(row, 5, 2, 32));
+    calls::made(
+        done.station,
+        rows::number(row, 0, 0),
+        names,
+        rows::number(row, 0, 1),
+        made,
+        lent,
+    )
 }
 
 // What the look-up of the number that is the row's first word tells after the events that follow it; refused, of nobody

@@ -103,6 +103,47 @@ fn pended(w: Held, row: &[u8], k: usize) -> Held {
     calls::stored(w, line, x)
 }
 
+// Where the part of a line begins, counted modulo eight, for rooms below 65,536.
+fn part_start(line: u32, room: usize) -> usize {
+    let n = room % 65536;
+    match line % 8 {
+        0 => 0,
+        1 => n,
+        2 => n * 2,
+        3 => n * 3,
+        4 => n * 4,
+        5 => n * 5,
+        6 => n * 6,
+        _ => n * 7,
+    }
+}
+
+// Bytes in the route area, as far as it goes.
+fn put(route: &mut [u8], at: usize, bytes: &[u8]) {
+    if at < route.len() {
+        wire::copy_onto(bytes, &mut route[at..]);
+    }
+}
+
+// `table LINE MARK LENGTH INFINITY BYTES`: the table of a line, between runs, and bytes in the route area from where
+// the line's part begins
+pub(crate) fn tabled(w: Held, row: &[u8], k: usize, route: &mut [u8]) -> Held {
+    let line = rows::number(row, k, 1);
+    let table = Table {
+        mark: rows::byte(row, k, 2),
+        length: rows::number(row, k, 3),
+        infinity: rows::byte(row, k, 4),
+        nextplace: 1,
+        runsize: 0,
+        runbits: 0,
+        nextentry: 0,
+    };
+    let mut x = calls::record(w, line);
+    x.table = table;
+    put(route, part_start(line, w.room), rows::word(row, k, 5));
+    calls::stored(w, line, x)
+}
+
 pub(crate) fn by_hand(mut w: Held, kind: usize, row: &[u8], k: usize) -> Held {
     let ring = w.ring;
     match kind {
@@ -118,6 +159,10 @@ pub(crate) fn by_hand(mut w: Held, kind: usize, row: &[u8], k: usize) -> Held {
         9 => pended(w, row, k),
         10 => {
             w.lent = rows::size(row, k, 1);
+            w
+        }
+        11 => {
+            w.room = rows::size(row, k, 1);
             w
         }
         _ => w,

@@ -1,5 +1,7 @@
 // `case LABEL EVENT ..`, `calls LABEL EVENT ..` and `order LABEL EVENT ..`: what the events of a row told.
 // `look LABEL NUMBER EVENT ..`: what a look-up tells after them.
+// `relay LABEL LINE LENGTH OUTPUT AREA BYTES EVENT ..`: the table for a line that is made after them.
+use crate::lists;
 use crate::print;
 use protocol::Age;
 use replay::Brought;
@@ -112,4 +114,21 @@ pub(crate) fn look(row: &[u8], out: &mut [u8]) {
     print::number(f.answer as u64);
     print::number(f.asker as u64);
     print::number(f.after as u64);
+}
+
+// The answer, the Infinity to write it with, and all bytes of the output, by runs. The area of names has these bytes at
+// its front, and zeros behind them.
+pub(crate) fn relay(row: &[u8], out: &mut [u8]) {
+    let mut route = [0u8; 8192];
+    let mut held = [0u8; 32952];
+    let mut names = [0u8; 8192];
+    let mut room = [0u8; 65544];
+    let area = words::front(&mut names, rows::size(row, 0, 3));
+    wire::copy_onto(rows::word(row, 0, 4), &mut *area);
+    let made = words::front(&mut room, rows::size(row, 0, 2));
+    let told = replay::relayed(row, &mut held, out, &mut route, area, &mut *made);
+    print::number(told.answer as u64);
+    print::number(told.infinity as u64);
+    print::start(made.len());
+    lists::runs(made);
 }

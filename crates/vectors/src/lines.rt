@@ -75,6 +75,7 @@ fn values(kind: usize, label: &[u8], row: &[u8], out: &mut [u8]) {
         12 | 13 => sessions::values(kind, label, row, out),
         16 => calls::look(row, out),
         17 => lists::values(row),
+        18 => calls::relay(row, out),
         _ => calls::values(kind, row, out),
     }
 }
@@ -111,7 +112,7 @@ fn unread(line: &[u8]) {
 
 fn kind_of(name: &[u8]) -> usize {
     words::index(
-        b"place keywords update withheld table run group field try written case casehash session file calls order look names",
+        b"place keywords update withheld table run group field try written case casehash session file calls order look names relay",
         name,
     )
 }
@@ -119,7 +120,7 @@ fn kind_of(name: &[u8]) -> usize {
 fn one(line: &[u8]) {
     let end = bytes::scan::find(line, 0, line.len(), b' ');
     let kind = kind_of(words::part(line, 0, end));
-    if kind < 18 {
+    if kind < 19 {
         row(kind, line, end);
     } else {
         unread(line);

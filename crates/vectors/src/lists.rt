@@ -112,7 +112,7 @@ fn run_of(b: u8, n: usize, first: bool) {
 }
 
 // Bytes by runs of equal ones, none of them longer than 131,072.
-fn runs(bytes: &[u8]) {
+pub(crate) fn runs(bytes: &[u8]) {
     let mut n = 0;
     let mut i = 0;
     while i < bytes.len() {

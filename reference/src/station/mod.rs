@@ -1,10 +1,11 @@
 //! The station: its state, opening and closing a line, an arriving message, bytes as they arrive, an own query, a
-//! number looked up.
+//! number looked up, a table to be passed on.
 //!
 //! A line is the connection to one neighbour. Every call tests first that the state is in order, in one pass over what the state keeps.
 
 mod feeding;
 mod memory;
+mod relaying;
 #[cfg(test)]
 mod tests;
 
@@ -14,6 +15,7 @@ use crate::keywords::keywords;
 use crate::table::{self, Table};
 pub use feeding::{Fed, HELD, SHUT, WAITING};
 use memory::Index;
+pub use relaying::{Made, INFINITY};
 use std::ops::Range;
 
 /// Lines of a station.
@@ -377,7 +379,11 @@ impl State {
     }
 
     fn areas_fit(&self, out: &[u8], route: &[u8]) -> bool {
-        out.len() >= OUTPUT && route.len() >= ROUTE && route.len() / LINES == self.room
+        out.len() >= OUTPUT && self.route_fits(route)
+    }
+
+    fn route_fits(&self, route: &[u8]) -> bool {
+        route.len() >= ROUTE && route.len() / LINES == self.room
     }
 
     fn ping(&mut self, line: usize, clock: u32, own: &OwnPong, header: &Header, out: &mut [u8]) -> Result<Handled, u8> {

@@ -1,5 +1,6 @@
 mod ages;
 mod feeding;
+mod relaying;
 
 use super::*;
 use crate::table::{BROKEN, NONE, RUNNING, SETTLED, WAITING};

@@ -1,10 +1,14 @@
 //! The rows of calls on a station, and of whole sessions.
 
+use crate::names::put;
 use crate::words::Line;
-use crate::{hex, joined};
+use crate::{hex, joined, runs};
 use lunozhar_reference::session::{self, file};
-use lunozhar_reference::station::{Handled, Line as Record, OwnPong, Remembered, State, HELD, LINES, NOBODY, OUTPUT, WAITING};
+use lunozhar_reference::station::{Handled, Line as Record, Made, OwnPong, Remembered, State, HELD, LINES, NOBODY, OUTPUT, WAITING};
 use lunozhar_reference::table::Table;
+
+/// Bytes of the route area, all of which `terms` may lend.
+const ROUTE_BYTES: usize = 8_192;
 
 /// An event of a line.
 enum Event {
@@ -55,6 +59,13 @@ enum Set {
     Fill {
         asker: u8,
     },
+    Room(usize),
+    /// A line's table, with the first bytes of its part of the route area.
+    Table {
+        line: u32,
+        table: Table,
+        bytes: Vec<u8>,
+    },
 }
 
 fn small(number: u32) -> u16 {
@@ -91,6 +102,11 @@ fn event_at(line: &Line, n: usize) -> (Event, usize) {
             (Event::Set(Set::Line(Box::new(record))), 14)
         }
         "fill" => (Event::Set(Set::Fill { asker: byte(1) }), 2),
+        "room" => (Event::Set(Set::Room(size(1))), 2),
+        "table" => {
+            let table = Table { mark: byte(2), length: number(3), infinity: byte(4), place: 1, size: 0, bits: 0, at: 0 };
+            (Event::Set(Set::Table { line: number(1), table, bytes: line.bytes(n + 5) }), 6)
+        }
         other => panic!("no event: {other:?}"),
     }
 }
@@ -111,8 +127,8 @@ struct World {
     state: State,
     own: OwnPong,
     output: Vec<u8>,
-    /// Route area of 64 bytes, of which so many are lent.
-    route: [u8; 64],
+    /// The route area, of which so many bytes are lent.
+    route: Vec<u8>,
     lent: usize,
     /// The held areas of the lines, of each of which so many bytes are lent.
     held: Vec<Vec<u8>>,
@@ -131,7 +147,7 @@ impl World {
             state,
             own,
             output: vec![0; OUTPUT],
-            route: [0; 64],
+            route: vec![0; ROUTE_BYTES],
             lent: 32,
             held: vec![vec![0; HELD]; LINES],
             held_lent: HELD,
@@ -207,6 +223,12 @@ impl World {
                 state.askers.fill(asker);
                 (state.count, state.next) = (512, 0);
             }
+            Set::Room(room) => state.room = room,
+            Set::Table { line, table, bytes } => {
+                let line = line as usize % LINES;
+                state.lines[line].table = table;
+                put(&mut self.route[..self.lent], line * state.room, &bytes);
+            }
         }
     }
 
@@ -268,6 +290,16 @@ pub fn look(line: &Line) -> String {
 
 pub fn order(line: &Line) -> String {
     format!("order {} {}\n", line.shown(1), answer(World::after(line, 2).last.answer))
+}
+
+/// The table that is passed on by a line, after the events from the eighth word on.
+pub fn relay(line: &Line) -> String {
+    let World { state, route, lent, .. } = World::after(line, 7);
+    let (mut out, mut area) = (vec![0; line.size(4)], vec![0; line.size(5)]);
+    put(&mut area, 0, &line.bytes(6));
+    let Made { answer, infinity } = state.table_for(line.number(2), &area, line.number(3), &mut out, &route[..lent]);
+    let entries = if out.is_empty() { "-".to_string() } else { runs(&out) };
+    format!("relay {} {answer} {infinity} {entries}\n", line.shown(1))
 }
 
 /// The text of a session file, a row for each of its lines.

@@ -48,6 +48,7 @@ fn row(text: &str) -> String {
         "calls" => calls::calls(line),
         "look" => calls::look(line),
         "order" => calls::order(line),
+        "relay" => calls::relay(line),
         "names" => names::names(line),
         _ => format!("unread {text}\n"),
     }
@@ -69,6 +70,19 @@ fn hex(bytes: &[u8]) -> String {
     } else {
         bytes.iter().map(|byte| format!("{byte:02x}")).collect()
     }
+}
+
+/// Bytes by runs of equal ones, each the byte and how many; nothing for no byte.
+fn runs(bytes: &[u8]) -> String {
+    let mut runs: Vec<(u8, usize)> = Vec::new();
+    for &byte in bytes {
+        match runs.last_mut() {
+            Some((last, times)) if *last == byte => *times += 1,
+            _ => runs.push((byte, 1)),
+        }
+    }
+    let runs: Vec<String> = runs.iter().map(|(byte, times)| format!("{byte}*{times}")).collect();
+    runs.join(",")
 }
 
 fn cuts(line: &Line) -> String {

@@ -1,11 +1,11 @@
 //! The rows of the station's own names.
 
 use crate::words::Line;
-use crate::{hex, joined};
+use crate::{hex, joined, runs};
 use lunozhar_reference::names::{add, find, list, remove, table, MOST};
 
 /// Bytes at a place of the area, as far as it has them.
-fn put(area: &mut [u8], at: usize, bytes: &[u8]) {
+pub fn put(area: &mut [u8], at: usize, bytes: &[u8]) {
     area.iter_mut().skip(at).zip(bytes).for_each(|(place, byte)| *place = *byte);
 }
 
@@ -43,15 +43,7 @@ fn changed(area: &mut [u8], call: fn(&mut [u8], &[u8]) -> u8, name: &[u8]) -> St
 fn tabled(area: &[u8], length: u32, infinity: u8, room: usize) -> String {
     let mut out = vec![0; room];
     let answer = table(area, length, infinity, &mut out);
-    let mut runs: Vec<(u8, usize)> = Vec::new();
-    for byte in out {
-        match runs.last_mut() {
-            Some((last, times)) if *last == byte => *times += 1,
-            _ => runs.push((byte, 1)),
-        }
-    }
-    let runs: Vec<String> = runs.iter().map(|(byte, times)| format!("{byte}*{times}")).collect();
-    format!(" {answer}:{}", runs.join(","))
+    format!(" {answer}:{}", runs(&out))
 }
 
 /// What is printed of the event whose name is this word, which is done on the area, and how many words it takes.
