@@ -244,6 +244,12 @@ typedef struct lunozhar_name_found {
     size_t place;   /* the name's place in the list, from 0; 0 where the answer is not 0 */
 } lunozhar_name_found;
 
+/* What the making of a table for a neighbour came to. */
+typedef struct lunozhar_made {
+    uint8_t answer;   /* 0, 1, 2, 3 or 14 */
+    uint8_t infinity; /* the Infinity to write the table with; 0 where the answer is not 0 */
+} lunozhar_made;
+
 /* A handshake group that was read. When refused, all but the answer is 0. */
 typedef struct lunozhar_group {
     uint8_t answer;
@@ -302,6 +308,10 @@ lunozhar_told lunozhar_ask_lent(uint64_t *lo, uint64_t *hi, uint8_t *asker, size
                                 uint8_t *out, size_t out_len, const uint8_t *route, size_t route_len);
 lunozhar_finding lunozhar_look_up_lent(const uint64_t *lo, const uint64_t *hi, const uint8_t *asker, size_t count,
                                        size_t next, size_t room, lunozhar_lines lines, lunozhar_number number);
+lunozhar_made lunozhar_table_for_lent(const uint64_t *lo, const uint64_t *hi, const uint8_t *asker, size_t count,
+                                      size_t next, size_t room, lunozhar_lines lines, uint32_t line,
+                                      const uint8_t *names, size_t names_len, uint32_t size, uint8_t *out,
+                                      size_t out_len, const uint8_t *route, size_t route_len);
 bool lunozhar_in_order_lent(const uint64_t *lo, const uint64_t *hi, const uint8_t *asker, size_t count, size_t next,
                             size_t room, lunozhar_lines lines);
 
@@ -313,9 +323,9 @@ static inline const lunozhar_lines *lunozhar_lines_of(const lunozhar_station *st
 }
 
 /* Makes the station: every line closed, nothing remembered, room for tables as a route area of route_len bytes
- * gives it. The area itself is lent to lunozhar_message, lunozhar_feed and lunozhar_ask, always the same one; its
- * bytes may be anything. What the station held before does not count, but it holds something: memory that is new is
- * set to zero first, as a static station is.
+ * gives it. The area itself is lent to lunozhar_message, lunozhar_feed, lunozhar_ask and lunozhar_table_for, always the
+ * same one; its bytes may be anything. What the station held before does not count, but it holds something: memory that
+ * is new is set to zero first, as a static station is.
  * Answers 0, or 2 for route_len below LUNOZHAR_ROUTE: the station is made all the same, with room 0. */
 static inline uint8_t lunozhar_fresh(lunozhar_station *station, size_t route_len) {
     const lunozhar_beginning made =
@@ -425,6 +435,36 @@ static inline lunozhar_finding lunozhar_look_up(const lunozhar_station *station,
                                  station->room, *lunozhar_lines_of(station), number);
 }
 
+/* Makes the table to send the neighbour of a line, which tells it what can be reached through this station: `size`
+ * entries at the front of the output, whose other bytes stay as they are. They are for lunozhar_write_table, with the
+ * Infinity that comes back. Every line gets a table of its own. An entry is
+ *   1         where a keyword of one of this station's own names falls: `names` is the area of the list (see
+ *             lunozhar_name_add; lunozhar_name_table says what a keyword is);
+ *   else      one more than the least distance that the tables of the other lines have there, at most Infinity;
+ *   Infinity  where they have none.
+ * Only settled tables count, and never the one of this very line, so that nobody is told what they told themselves. An
+ * entry that is the Infinity of its own table is no distance. Tables may have other lengths than the one that is made:
+ * into a shorter one, a place takes the least of the entries that fall together there; into a longer one, the entry
+ * that its place is a part of. The size may be more than the station itself has room for.
+ *
+ * Station, names and route area are only read, and nothing is written where the answer is not 0. It is the first of
+ * these that holds:
+ *   1   the state is not in order
+ *   2   route_len is below LUNOZHAR_ROUTE, or gives another room than the state's
+ *   3   the line is over 7, or not open
+ *   2   names_len is below LUNOZHAR_NAMES
+ *   1   the list of names is not in order
+ *   14  the size is no power of two from 4 to 65,536
+ *   2   out_len is below the size
+ *   0   else */
+static inline lunozhar_made lunozhar_table_for(const lunozhar_station *station, uint32_t line, const uint8_t *names,
+                                               size_t names_len, uint32_t size, uint8_t *out, size_t out_len,
+                                               const uint8_t *route, size_t route_len) {
+    return lunozhar_table_for_lent(station->lo, station->hi, station->asker, station->count, station->next,
+                                   station->room, *lunozhar_lines_of(station), line, names, names_len, size, out,
+                                   out_len, route, route_len);
+}
+
 /* Whether the state is in order, as every call tests first (answer 1). A state that only these functions wrote is. */
 static inline bool lunozhar_in_order(const lunozhar_station *station) {
     return lunozhar_in_order_lent(station->lo, station->hi, station->asker, station->count, station->next,
@@ -472,9 +512,9 @@ lunozhar_name_found lunozhar_name_find(const uint8_t *area, size_t area_len, con
 
 /* Makes the station's own table, to be handed to lunozhar_write_table: `length` entries at the front of the output, 1
  * where a keyword of some name falls, and Infinity elsewhere. Keywords are the runs of digits and letters A to Z and a
- * to z, whatever their case; all other bytes only stand between them. The area is only read. Answers 0, 2, 1, 14 for a
- * length that is no power of two from 4 to 65,536 or an Infinity outside 2 to 127, or 2 for an output shorter than the
- * length. */
+ * to z, whatever their case; all other bytes only stand between them. The area is only read. (The table that also has
+ * what the neighbours tell of is made by lunozhar_table_for.) Answers 0, 2, 1, 14 for a length that is no power of two
+ * from 4 to 65,536 or an Infinity outside 2 to 127, or 2 for an output shorter than the length. */
 uint8_t lunozhar_name_table(const uint8_t *area, size_t area_len, uint32_t length, uint8_t infinity, uint8_t *out,
                             size_t out_len);
 
@@ -613,6 +653,10 @@ LUNOZHAR_AT(lunozhar_written, written, 8);
 LUNOZHAR_SIZE(lunozhar_name_found, 16);
 LUNOZHAR_AT(lunozhar_name_found, answer, 0);
 LUNOZHAR_AT(lunozhar_name_found, place, 8);
+
+LUNOZHAR_SIZE(lunozhar_made, 2);
+LUNOZHAR_AT(lunozhar_made, answer, 0);
+LUNOZHAR_AT(lunozhar_made, infinity, 1);
 
 LUNOZHAR_SIZE(lunozhar_group, 32);
 LUNOZHAR_AT(lunozhar_group, answer, 0);

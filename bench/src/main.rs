@@ -8,6 +8,7 @@ mod inputs;
 mod measure;
 mod names;
 mod proved;
+mod relaying;
 mod rows;
 mod sessions;
 mod sides;
@@ -87,6 +88,11 @@ fn main() {
     for (name, measure) in names::ROWS {
         if wanted(name) {
             print_row(measure(name, effort));
+        }
+    }
+    for (name, measure) in relaying::ROWS {
+        if wanted(name) {
+            print_row(measure(name, effort, &mut areas));
         }
     }
     print_head("How cost grows", "ns");

@@ -8,7 +8,7 @@ use std::hint::black_box;
 
 /// Where the text of an area begins, and the most names.
 const TEXT: usize = 4_100;
-const MOST: usize = 512;
+pub const MOST: usize = 512;
 /// Bytes of a name.
 const NAME: usize = 40;
 /// The Infinity of tables.
@@ -39,6 +39,11 @@ fn area(names: &[Vec<u8>], order: impl Iterator<Item = usize>, gap: usize, room:
         at += NAME;
     }
     area
+}
+
+/// An area of so many names, text after text.
+pub fn area_of(count: usize) -> Vec<u8> {
+    area(&names(count), 0..count, 0, 0)
 }
 
 /// The names of an area, by its pairs.
@@ -107,8 +112,7 @@ fn close(name: &str, effort: Effort, order: impl Iterator<Item = usize>) -> Row 
 
 /// The own table of 512 names.
 fn table(name: &str, effort: Effort, entries: usize) -> Row {
-    let names = names(MOST);
-    let area = area(&names, 0..MOST, 0, 0);
+    let area = area_of(MOST);
     let (mut one, mut two) = (vec![0; entries], vec![0; entries]);
     let terms = entries as u32;
     let answers = (Proved::name_table(&area, terms, INFINITY, &mut one), Reference::name_table(&area, terms, INFINITY, &mut two));

@@ -101,6 +101,15 @@ impl Side for Proved {
     }
 
     #[inline]
+    fn table_for(&self, line: u32, names: &[u8], length: u32, out: &mut [u8], route: &[u8]) -> (u8, u8) {
+        let (names_at, out_at, route_at) = (names.as_ptr(), out.as_mut_ptr(), route.as_ptr());
+        // SAFETY: three areas, the output apart from the others, each with its length; the station is only read.
+        let made =
+            unsafe { raw::lunozhar_table_for(&*self.0, line, names_at, names.len(), length, out_at, out.len(), route_at, route.len()) };
+        (made.answer, made.infinity)
+    }
+
+    #[inline]
     fn hash(keyword: &[u8]) -> u32 {
         // SAFETY: a slice with its length.
         unsafe { raw::lunozhar_hash(keyword.as_ptr(), keyword.len()) }

@@ -160,7 +160,7 @@ pub fn sessions() -> Vec<Session> {
 }
 
 /// Both with a warm station.
-fn warm_pair(name: &str, world: &mut World, areas: &mut Areas) -> (Proved, Reference) {
+pub fn warm_pair(name: &str, world: &mut World, areas: &mut Areas) -> (Proved, Reference) {
     let (setup, calls, way) = (world.warm(), Vec::new(), Way::Message);
     let session = Session { name: name.into(), setup, calls, way, expected: |_| true, units: 1 };
     (session.started(areas), session.started(areas))
@@ -220,7 +220,7 @@ fn field(name: &str, effort: Effort) -> Row {
     repeated(name, effort, &mut out, proved, |out| Reference::read_field(black_box(&group), black_box(asked), out))
 }
 
-type Function = fn(&str, Effort, &mut Areas) -> Row;
+pub type Function = fn(&str, Effort, &mut Areas) -> Row;
 
 /// Rows of the other functions, with what measures each.
 pub const FUNCTIONS: [(&str, Function); 11] = [

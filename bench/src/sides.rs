@@ -96,6 +96,8 @@ pub trait Side: Clone {
     fn fed_outcome(fed: &Self::Fed) -> Outcome;
     fn look_up(&self, number: &[u8; 16]) -> Found;
     fn in_order(&self) -> bool;
+    /// The answer and the Infinity.
+    fn table_for(&self, line: u32, names: &[u8], length: u32, out: &mut [u8], route: &[u8]) -> (u8, u8);
     fn hash(keyword: &[u8]) -> u32;
     fn name_add(area: &mut [u8], name: &[u8]) -> u8;
     fn name_remove(area: &mut [u8], name: &[u8]) -> u8;
@@ -164,6 +166,12 @@ impl Side for Reference {
     #[inline]
     fn in_order(&self) -> bool {
         self.0.in_order()
+    }
+
+    #[inline]
+    fn table_for(&self, line: u32, names: &[u8], length: u32, out: &mut [u8], route: &[u8]) -> (u8, u8) {
+        let made = self.0.table_for(line, names, length, out, route);
+        (made.answer, made.infinity)
     }
 
     #[inline]

@@ -11,8 +11,9 @@ pub struct Broken<const FAULT: usize>(Reference);
 /// How each fault is named: an answer, a line sent to, a byte past what is written, a place of the state that is not
 /// kept, a route byte, a writer's byte, the tally, and a panic; of bytes as they come those used, where the message
 /// stands, what is held and a shut mark; an age that is handed up, and one that is looked up; of names a place, their order after a remove,
-/// a byte that a refused add does not leave, and a table's entry.
-pub const FAULTS: [&str; 18] = [
+/// a byte that a refused add does not leave, and a table's entry; of a table for a neighbour its Infinity, an entry, and a byte of names that
+/// are only to be read.
+pub const FAULTS: [&str; 21] = [
     "answer",
     "to",
     "output byte 4118",
@@ -31,6 +32,9 @@ pub const FAULTS: [&str; 18] = [
     "names",
     "area that is to stay byte 4099",
     "output byte 5",
+    "infinity",
+    "output byte 3",
+    "other names byte 4099",
 ];
 
 /// A writer whose tables do not stand when they are read.
@@ -60,6 +64,9 @@ impl<const FAULT: usize> Side for Broken<FAULT> {
             (15, Outcome::Answer(0)) if matches!(call, Call::NameRemove { .. }) && names[0] > 1 => names[4..20].rotate_left(8),
             (16, Outcome::Answer(20)) if names[1] < 2 => names[4_099] ^= 1,
             (17, Outcome::Answer(0)) if matches!(call, Call::NameTable { .. }) && out.len() > 5 => out[5] ^= 1,
+            (18, Outcome::Made(made)) if made.answer == 3 => made.infinity = 8,
+            (19, Outcome::Made(made)) if made.answer == 0 && (2..8).contains(&out[3]) => out[3] += 1,
+            (20, Outcome::Made(made)) if made.answer == 2 && call.other_names().is_some() && names.len() > 4_099 => names[4_099] ^= 1,
             (BAD_WRITER, Outcome::Written(written)) if written.written > 0 => out[written.written - 1] ^= 1,
             _ => {}
         }

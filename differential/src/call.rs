@@ -74,6 +74,9 @@ calls! {
     Feed "feed" { line: u32, clock: u32, own: Own, bytes: Vec<u8>, held: Option<Area>, out: Area, route: Option<Area> }
     Ask "ask" { number: [u8; 16], text: Vec<u8>, out: Area, route: Option<Area> }
     LookUp "look-up" { number: [u8; 16] }
+    /// With the case's area of names, or another in its place. It writes to the output alone; the reference can do no other, so that anything
+    /// else which the library wrote would show.
+    TableFor "table-for" { line: u32, names: Option<Listing>, length: u32, out: Area, route: Option<Area> }
     InOrder "in-order" {}
     Count "count" { answer: u8 }
     /// The old table is lent also where `had` is false.
@@ -129,7 +132,7 @@ impl Call {
         match self {
             Call::Message { out, .. } | Call::Feed { out, .. } | Call::Ask { out, .. } => Some(out),
             Call::WriteTable { out, .. } | Call::WriteBusy { out, .. } | Call::NameTable { out, .. } => Some(out),
-            Call::WriteGreeting { out } | Call::WriteOk { out } => Some(out),
+            Call::WriteGreeting { out } | Call::WriteOk { out } | Call::TableFor { out, .. } => Some(out),
             Call::ReadField { value, .. } => Some(value),
             _ => None,
         }
@@ -139,6 +142,15 @@ impl Call {
     pub fn other_route(&self) -> Option<&Area> {
         match self {
             Call::Message { route, .. } | Call::Feed { route, .. } | Call::Ask { route, .. } => route.as_ref(),
+            Call::TableFor { route, .. } => route.as_ref(),
+            _ => None,
+        }
+    }
+
+    /// The area of names that is lent in place of the case's own.
+    pub fn other_names(&self) -> Option<&Listing> {
+        match self {
+            Call::TableFor { names, .. } => names.as_ref(),
             _ => None,
         }
     }
@@ -159,9 +171,13 @@ impl Call {
         }
     }
 
-    /// Whether the area of names is lent to the call.
+    /// Whether the case's area of names is lent to the call.
     pub fn on_names(&self) -> bool {
-        matches!(self, Call::NameAdd { .. } | Call::NameRemove { .. } | Call::NameFind { .. } | Call::NameTable { .. })
+        match self {
+            Call::NameAdd { .. } | Call::NameRemove { .. } | Call::NameFind { .. } | Call::NameTable { .. } => true,
+            Call::TableFor { names, .. } => names.is_none(),
+            _ => false,
+        }
     }
 
     /// The side whose area of names both go on with, 1 or 2.

@@ -4,7 +4,7 @@
 
 use lunozhar::raw;
 use lunozhar_reference::handshake::{Field, Group, Kind, Pair, Pairs};
-use lunozhar_reference::station::{Fed, Handled, Line, OwnPong, Pong, Remembered, State, LINES, MEMORY, NOBODY, PONGS};
+use lunozhar_reference::station::{Fed, Handled, Line, Made, OwnPong, Pong, Remembered, State, LINES, MEMORY, NOBODY, PONGS};
 use lunozhar_reference::table::Table;
 use lunozhar_reference::writer::Written;
 use std::array;
@@ -114,6 +114,10 @@ pub fn finding(looked_up: Result<Remembered, u8>) -> raw::Finding {
 
 pub fn fed(fed: &Fed) -> raw::Fed {
     raw::Fed { told: told(&fed.handled), within: fed.within, waits: fed.waits }
+}
+
+pub fn made(made: Made) -> raw::Made {
+    raw::Made { answer: made.answer, infinity: made.infinity }
 }
 
 pub fn written(written: Written) -> raw::Written {

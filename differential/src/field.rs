@@ -162,7 +162,7 @@ impl<const N: usize> Field for [u8; N] {
 }
 
 /// A lent area before a call: so many bytes, all zero for seed 0 and random for any other; within 1 to `top` where `top` is not 0, but for a few of
-/// some seeds' that are far outside.
+/// some seeds', and many of some others', that are far outside. Of others again most are `top`.
 #[derive(Clone, Copy, Debug, PartialEq, Eq)]
 pub struct Area {
     pub length: usize,
@@ -178,8 +178,12 @@ impl Area {
             Random::new(self.seed).fill(bytes);
             if self.top != 0 {
                 let stray = [0, self.top + 1, 128, 135, 136, 250, 254, 255];
-                let outside = |byte: u8| self.seed % 8 == 3 && byte >= 0xF8;
-                let entry = |byte: u8| if outside(byte) { stray[usize::from(byte & 7)] } else { byte % self.top + 1 };
+                let entry = |byte: u8| match self.seed % 16 {
+                    3 | 11 if byte >= 0xF8 => stray[usize::from(byte & 7)],
+                    15 if byte >= 0xC0 => stray[usize::from(byte & 7)],
+                    5 | 13 if byte < 0xF0 => self.top,
+                    _ => byte % self.top + 1,
+                };
                 bytes.iter_mut().for_each(|byte| *byte = entry(*byte));
             }
         }
@@ -213,24 +217,24 @@ impl Field for Area {
     }
 }
 
-/// Another area, or `own` for the case's own route or held area.
-impl Field for Option<Area> {
+/// Another area, or `own` for the case's own route area, held area or area of names.
+impl<T: Field + PartialEq> Field for Option<T> {
     fn text(&self) -> String {
-        self.map_or("own".to_string(), |area| area.text())
+        self.as_ref().map_or("own".to_string(), Field::text)
     }
 
     fn read(word: &str) -> Option<Self> {
         if word == "own" {
             Some(None)
         } else {
-            Area::read(word).map(Some)
+            T::read(word).map(Some)
         }
     }
 
     fn simplify(&mut self, still: &mut dyn FnMut(&Self) -> bool) {
         attempt(self, None, still);
         if let Some(area) = self {
-            area.simplify(&mut |&area| still(&Some(area)));
+            area.simplify(&mut |area| still(&Some(area.clone())));
         }
     }
 }

@@ -21,6 +21,7 @@ impl Side for Proved {
             Call::LookUp { .. } | Call::InOrder {} => self.read(call),
             Call::Message { .. } | Call::Ask { .. } => self.handle(call, lent.out, lent.route),
             Call::Feed { .. } => self.feed(call, lent),
+            Call::TableFor { line, length, .. } => self.table_for(*line, *length, lent),
             _ if call.on_names() => on_names(call, lent.names, lent.out),
             _ => pure(call, lent.out),
         }
@@ -111,6 +112,17 @@ impl Proved {
                 route_at,
                 route.len(),
             )
+        })
+    }
+}
+
+impl Proved {
+    /// A table for the neighbour of a line.
+    fn table_for(&self, line: u32, length: u32, Lent { out, route, names, .. }: Lent<'_>) -> Outcome {
+        let (names_at, out_at, route_at) = (names.as_ptr(), out.as_mut_ptr(), route.as_ptr());
+        // SAFETY: each pointer goes with the length of its own slice, the areas do not overlap, and the station is only read.
+        Outcome::Made(unsafe {
+            raw::lunozhar_table_for(&*self.station, line, names_at, names.len(), length, out_at, out.len(), route_at, route.len())
         })
     }
 }

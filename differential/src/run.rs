@@ -59,6 +59,7 @@ struct Passing {
     out: Vec<u8>,
     route: Vec<u8>,
     held: Vec<u8>,
+    names: Vec<u8>,
 }
 
 impl Passing {
@@ -66,12 +67,17 @@ impl Passing {
         call.output().unwrap_or(&NO_AREA).fill(&mut self.out);
         call.other_route().unwrap_or(&NO_AREA).fill(&mut self.route);
         call.other_held().unwrap_or(&NO_AREA).fill(&mut self.held);
+        match call.other_names() {
+            Some(listing) => listing.fill(&mut self.names),
+            None => self.names.clear(),
+        }
     }
 
     fn copy(&mut self, other: &Passing) {
         self.out.clone_from(&other.out);
         self.route.clone_from(&other.route);
         self.held.clone_from(&other.held);
+        self.names.clone_from(&other.names);
     }
 }
 
@@ -107,10 +113,11 @@ impl<S: Side> Half<S> {
         if call.on_names() {
             self.before.clone_from(&self.names);
         }
-        let Passing { out, route, held } = &mut self.passing;
+        let Passing { out, route, held, names } = &mut self.passing;
         let route = if call.other_route().is_some() { route } else { &mut self.route };
         let held = if call.other_held().is_some() { held } else { &mut self.held[call.held_line()] };
-        self.outcome = self.side.run(call, Lent { out, route, held, names: &mut self.names });
+        let names = if call.other_names().is_some() { names } else { &mut self.names };
+        self.outcome = self.side.run(call, Lent { out, route, held, names });
         *self.station = self.side.station();
     }
 
@@ -144,6 +151,12 @@ impl<A: Side, B: Side> Runner<A, B> {
         &self.first.names
     }
 
+    /// What the last call came to, and its output area.
+    #[cfg(test)]
+    pub fn last(&self) -> (&Outcome, &[u8]) {
+        (&self.first.outcome, &self.first.passing.out)
+    }
+
     /// Does the next call on both and compares everything.
     pub fn step(&mut self, call: &Call, counts: &mut Counts) -> Result<(), Difference> {
         if let Call::RoundTrip { .. } = call {
@@ -169,6 +182,7 @@ impl<A: Side, B: Side> Runner<A, B> {
         compare::outcomes(&first.outcome, &second.outcome)
             .or_else(|| compare::areas("output", &first.passing.out, &second.passing.out))
             .or_else(|| self.compare_names(call))
+            .or_else(|| compare::areas("other names", &first.passing.names, &second.passing.names))
             .or_else(|| compare::areas("held", &first.held[line], &second.held[line]))
             .or_else(|| compare::areas("other held", &first.passing.held, &second.passing.held))
             .or_else(|| compare::stations(&first.station, &second.station))

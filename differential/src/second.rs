@@ -41,10 +41,7 @@ impl Side for Reference {
 
 impl Reference {
     fn done(&mut self, call: &Call, lent: Lent<'_>) -> Outcome {
-        if call.on_names() {
-            return on_names(call, lent.names, lent.out);
-        }
-        let Lent { out, route, held, .. } = lent;
+        let Lent { out, route, held, names } = lent;
         match call {
             Call::Fresh { .. } => {
                 let (answer, state) = State::fresh(route);
@@ -63,11 +60,13 @@ impl Reference {
             }
             Call::Ask { number, text, .. } => Outcome::Told(convert::told(&self.state.own_query(number, text, out, route))),
             Call::LookUp { number } => Outcome::Finding(convert::finding(self.state.look_up(number))),
+            Call::TableFor { line, length, .. } => Outcome::Made(convert::made(self.state.table_for(*line, names, *length, out, route))),
             Call::InOrder {} => Outcome::Flag(self.state.in_order()),
             Call::Count { answer } => {
                 self.tally.count(*answer);
                 Outcome::Nothing
             }
+            _ if call.on_names() => on_names(call, names, out),
             _ => pure(call, out),
         }
     }

@@ -82,5 +82,8 @@ mod tests {
         found_and_small::<15>();
         found_and_small::<16>();
         found_and_small::<17>();
+        found_and_small::<18>();
+        found_and_small::<19>();
+        found_and_small::<20>();
     }
 }

@@ -2,7 +2,7 @@
 
 use crate::call::Call;
 use crate::case::Start;
-use lunozhar::raw::{Asked, Fed, Finding, Group, Hosts, NameFound, Station, Tally, Told, Written};
+use lunozhar::raw::{Asked, Fed, Finding, Group, Hosts, Made, NameFound, Station, Tally, Told, Written};
 
 /// The areas that are lent to a call: for output, the route area, of a call that brings bytes the held area of its line, and the area of
 /// names.
@@ -33,6 +33,7 @@ pub enum Outcome {
     Fed(Fed),
     Finding(Finding),
     Place(NameFound),
+    Made(Made),
     Written(Written),
     Group(Group),
     Asked(Asked),
@@ -49,6 +50,7 @@ impl Outcome {
             Outcome::Told(told) | Outcome::Fed(Fed { told, .. }) => Some(told.answer),
             Outcome::Finding(finding) => Some(finding.answer),
             Outcome::Place(found) => Some(found.answer),
+            Outcome::Made(made) => Some(made.answer),
             Outcome::Written(written) => Some(written.answer),
             Outcome::Group(group) => Some(group.answer),
             Outcome::Asked(asked) => Some(asked.answer),
@@ -79,6 +81,7 @@ impl Outcome {
             }
             Outcome::Finding(finding) => named!(finding; answer asker after),
             Outcome::Place(found) => named!(found; answer place),
+            Outcome::Made(made) => named!(made; answer infinity),
             Outcome::Written(written) => named!(written; answer written),
             Outcome::Group(group) => named!(group; answer used kind major minor code),
             Outcome::Asked(asked) => named!(asked; answer used written),

@@ -5,7 +5,9 @@
 //! write overlaps nothing else. Slices and references are so, empty ones too, and `&mut` borrows of one call are apart. It keeps no pointer.
 #![allow(unsafe_code)]
 
-use crate::raw::{self, Asked, Fed, Finding, Group, Hosts, Lines, NameFound, Number, Own, Pairs, Station, Tally, Told, Written, LINES};
+use crate::raw::{
+    self, Asked, Fed, Finding, Group, Hosts, Lines, Made, NameFound, Number, Own, Pairs, Station, Tally, Told, Written, LINES,
+};
 
 /// Makes a station over a route area of so many bytes.
 ///
@@ -175,6 +177,46 @@ pub unsafe fn lunozhar_look_up(station: *const Station, number: Number) -> Findi
     raw::lunozhar_look_up_lent(lo.as_ptr(), hi.as_ptr(), asker.as_ptr(), *count, *next, *room, Lines { at: *lines }, number)
 }
 
+/// Makes the table to send the neighbour of a line.
+///
+/// # Safety
+///
+/// The first pointer points to a whole station, each other to as many bytes as the length behind it says; the output overlaps neither the station
+/// nor the names and the route area.
+#[inline]
+#[allow(clippy::too_many_arguments)]
+pub unsafe fn lunozhar_table_for(
+    station: *const Station,
+    line: u32,
+    names: *const u8,
+    names_len: usize,
+    size: u32,
+    out: *mut u8,
+    out_len: usize,
+    route: *const u8,
+    route_len: usize,
+) -> Made {
+    let Station { room, lines, lo, hi, asker, count, next } = &*station;
+    let (lo, hi, asker, at) = (lo.as_ptr(), hi.as_ptr(), asker.as_ptr(), *lines);
+    raw::lunozhar_table_for_lent(
+        lo,
+        hi,
+        asker,
+        *count,
+        *next,
+        *room,
+        Lines { at },
+        line,
+        names,
+        names_len,
+        size,
+        out,
+        out_len,
+        route,
+        route_len,
+    )
+}
+
 /// Whether a state is in order.
 ///
 /// # Safety
@@ -259,6 +301,14 @@ pub(crate) fn ask(station: &mut Station, number: Number, text: &[u8], out: &mut 
 pub(crate) fn look_up(station: &Station, number: Number) -> Finding {
     // SAFETY: the reference points to a whole station, which is only read.
     unsafe { raw::lunozhar_look_up(station, number) }
+}
+
+pub(crate) fn table_for(station: &Station, line: u32, names: &[u8], size: u32, out: &mut [u8], route: &[u8]) -> Made {
+    let out_len = out.len();
+    // SAFETY: each pointer goes with the length of its slice; the output is borrowed apart from all that is read.
+    unsafe {
+        raw::lunozhar_table_for(station, line, names.as_ptr(), names.len(), size, out.as_mut_ptr(), out_len, route.as_ptr(), route.len())
+    }
 }
 
 pub(crate) fn in_order(station: &Station) -> bool {

@@ -32,9 +32,10 @@
 //!
 //! [`Station`] has the calls; what a line brings in scraps goes to [`Station::feed`] or [`Station::feed_all`];
 //! [`Station::look_up`] tells who asked a query, and how many were remembered after it.
-//! [`handshake`] reads and writes the groups of lines that open a connection; [`table`] writes the updates of a route
-//! table for a neighbour; [`Names`] are the station's own file names, and make its own table; [`keyword`] has a keyword's
-//! hash and place. A refusal is a [`Refusal`], with its number. [`raw`] is what C sees.
+//! [`Names`] are the station's own file names; [`Station::table_for`] makes the table that tells a neighbour what can be
+//! reached through the station, the own names and what its other neighbours tell of, and [`table`] writes its updates;
+//! [`keyword`] has a keyword's hash and place. [`handshake`] reads and writes the groups of lines that open a connection.
+//! A refusal is a [`Refusal`], with its number. [`raw`] is what C sees.
 //!
 //! The core is linked from `target/staticlib/liblunozhar.a` of the repository, which `rt staticlib lunozhar` proves and writes for x86-64; the
 //! variable `LUNOZHAR_LIB` names another folder that holds it.
@@ -52,5 +53,5 @@ mod tally;
 
 pub use names::Names;
 pub use refusal::{Refusal, Refused, RefusedBytes};
-pub use station::{Asker, Fed, Local, Outcome, Own, Remembered, Sent, Station};
+pub use station::{Asker, Fed, Local, Made, Outcome, Own, Remembered, Sent, Station};
 pub use tally::Tally;

@@ -160,7 +160,8 @@ impl Names {
     }
 
     /// The station's own table: 1 where a [`keyword`](crate::keyword) of some name falls, Infinity elsewhere. It is what
-    /// [`table::write`](crate::table::write) takes.
+    /// [`table::write`](crate::table::write) takes. The table that also has what the neighbours tell of is made by
+    /// [`Station::table_for`](crate::Station::table_for).
     ///
     /// # Errors
     ///

@@ -16,6 +16,7 @@
 
 pub use crate::boundary::{
     lunozhar_ask, lunozhar_close, lunozhar_feed, lunozhar_fresh, lunozhar_in_order, lunozhar_look_up, lunozhar_message, lunozhar_open,
+    lunozhar_table_for,
 };
 use core::mem::{offset_of, size_of};
 
@@ -321,6 +322,16 @@ pub struct NameFound {
     pub place: usize,
 }
 
+/// What the making of a table for a neighbour came to.
+#[repr(C)]
+#[derive(Clone, Copy, Debug, PartialEq, Eq)]
+pub struct Made {
+    /// 0, or the number of a [`crate::Refusal`]: 1, 2, 3 or 14.
+    pub answer: u8,
+    /// The Infinity to write the table with; 0 where the answer is not 0.
+    pub infinity: u8,
+}
+
 /// A handshake group that was read. When refused, all but the answer is 0.
 #[repr(C)]
 #[derive(Clone, Copy, Debug, PartialEq, Eq)]
@@ -483,6 +494,24 @@ extern "C" {
         lines: Lines,
         number: Number,
     ) -> Finding;
+    /// [`lunozhar_table_for`] on the parts of a station.
+    pub fn lunozhar_table_for_lent(
+        lo: *const u64,
+        hi: *const u64,
+        asker: *const u8,
+        count: usize,
+        next: usize,
+        room: usize,
+        lines: Lines,
+        line: u32,
+        names: *const u8,
+        names_len: usize,
+        size: u32,
+        out: *mut u8,
+        out_len: usize,
+        route: *const u8,
+        route_len: usize,
+    ) -> Made;
     /// [`lunozhar_in_order`] on the parts of a station.
     pub fn lunozhar_in_order_lent(
         lo: *const u64,
@@ -569,6 +598,7 @@ layout! {
     Tally 84 { counts 0 }
     Written 16 { answer 0, written 8 }
     NameFound 16 { answer 0, place 8 }
+    Made 2 { answer 0, infinity 1 }
     Group 32 { answer 0, used 8, kind 16, major 20, minor 24, code 28 }
     Asked 24 { answer 0, used 8, written 16 }
     Pair 6 { address 0, port 4 }

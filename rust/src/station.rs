@@ -1,10 +1,12 @@
-//! The station: its lines, the messages that arrive by them, its own queries, and those that it remembers.
+//! The station: its lines, the messages that arrive by them, its own queries, those that it remembers, and the tables that it passes on.
 
 mod feeding;
 mod looking;
+mod relaying;
 
 pub use feeding::Fed;
 pub use looking::{Asker, Remembered};
+pub use relaying::Made;
 
 use crate::raw::{self, Told};
 use crate::refusal::{after, checked, checked_told};
@@ -315,7 +317,7 @@ impl Station {
 
     /// How many messages had each answer. Each call of [`message`](Station::message) counts as one, also where it was
     /// refused for want of bytes, and each of [`feed`](Station::feed) but one that only waits; openings, closings, own
-    /// queries and look-ups are not counted.
+    /// queries, look-ups and tables that are made are not counted.
     ///
     /// ```
     /// use lunozhar::{Own, Refusal, Station};

@@ -13,6 +13,7 @@ fn main() {
         lunozhar_feed as *const (),
         lunozhar_ask as *const (),
         lunozhar_look_up as *const (),
+        lunozhar_table_for as *const (),
         lunozhar_in_order as *const (),
         lunozhar_count as *const (),
         lunozhar_name_add as *const (),

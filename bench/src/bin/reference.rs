@@ -18,6 +18,7 @@ fn main() {
         State::feed as *const (),
         State::own_query as *const (),
         State::look_up as *const (),
+        State::table_for as *const (),
         State::in_order as *const (),
         Tally::count as *const (),
         names::add as *const (),

@@ -4,6 +4,7 @@ mod feeds;
 mod groups;
 mod messages;
 mod names;
+mod relaying;
 mod start;
 mod tables;
 
@@ -74,7 +75,11 @@ impl Maker {
             return self.name_call(names);
         }
         if self.damaged && self.random.one_in(2) {
-            return if self.random.one_in(4) { self.look_up(station) } else { Call::InOrder {} };
+            return match self.random.below(8) {
+                0 | 1 => self.look_up(station),
+                2 => self.table_for(station, route),
+                _ => Call::InOrder {},
+            };
         }
         if route.len() < 32 && self.random.one_in(4) {
             return Call::Fresh { route: start::fresh_route(&mut self.random) };
@@ -85,7 +90,7 @@ impl Maker {
         if let Some(call) = self.reopening(station) {
             return call;
         }
-        match self.random.below(258) {
+        match self.random.below(272) {
             0 | 1 => Call::Fresh { route: start::fresh_route(&mut self.random) },
             2..=12 => Call::Open { line: self.line(station, false) },
             13..=17 => Call::Close { line: self.line(station, true) },
@@ -100,6 +105,7 @@ impl Maker {
             76..=130 => self.feed(station, route),
             131..=138 => self.look_up(station),
             139..=148 => self.name_call(names),
+            149..=162 => self.table_for(station, route),
             _ => self.message(station, route),
         }
     }
@@ -185,7 +191,8 @@ mod tests {
     use crate::listing::{names_in, MOST, TEXT};
     use crate::run::{Counts, Runner};
     use crate::second::Reference;
-    use lunozhar::raw::{ANSWERS, HELD};
+    use crate::side::Outcome;
+    use lunozhar::raw::{Made, Table, ANSWERS, HELD};
     use std::array;
 
     /// Runs cases and hands each call to `each`, with the state it meets and the call before it.
@@ -376,7 +383,7 @@ mod tests {
     /// A generator that never meets an answer is a poor one.
     #[test]
     fn every_answer_is_met() {
-        let Counts { all, kinds } = counted(2_000, |_, _, _| ());
+        let Counts { all, kinds } = counted(4_000, |_, _, _| ());
         for (answer, times) in all.answers.iter().enumerate() {
             assert!(times * 20_000 > 70 * all.calls, "answer {answer}: {times} of {}", all.calls);
         }
@@ -418,6 +425,64 @@ mod tests {
         assert!(hits.ages[8] < hits.answers[8]);
         let look_ups = &counts.kinds["look-up"];
         assert!([0, 1, 10].iter().all(|&answer| look_ups.answers[answer] > 50), "{look_ups:?}");
+    }
+
+    /// What is there when a table is made for a line.
+    fn made_of(station: &Station, route: &[u8], line: usize, length: usize) -> Vec<&'static str> {
+        let others: Vec<usize> = (0..8).filter(|&at| at != line).collect();
+        let table = |at: usize| &station.lines[at].table;
+        let entries = |at: usize| &route[at * station.room..][..table(at).length as usize];
+        let settled: Vec<(&Table, &[u8])> = others.iter().filter(|&&at| table(at).mark == 3).map(|&at| (table(at), entries(at))).collect();
+        let has = |is: &dyn Fn(&Table, u8) -> bool| {
+            let counts = |table: &Table, entry: u8| entry != table.infinity && is(table, entry);
+            settled.iter().any(|(table, entries)| entries.iter().any(|&entry| counts(table, entry)))
+        };
+        let unlike = |of: &dyn Fn(&Table) -> u32| settled.windows(2).any(|two| of(two[0].0) != of(two[1].0));
+        let things = [
+            (settled.is_empty(), "no table"),
+            (settled.len() > 2, "three tables or more"),
+            (has(&|table, _| table.length as usize > length), "a longer table"),
+            (has(&|table, _| table.length as usize == length), "a table as long"),
+            (has(&|table, _| (table.length as usize) < length), "a shorter table"),
+            (unlike(&|table| table.length), "tables of unlike lengths"),
+            (unlike(&|table| table.infinity.into()), "tables of unlike Infinities"),
+            (has(&|_, entry| entry == 0), "an entry of 0"),
+            (has(&|_, entry| entry == 7), "an entry that comes to Infinity"),
+            (has(&|_, entry| entry == 255), "an entry of 255"),
+            (has(&|table, entry| entry > table.infinity), "an entry above its Infinity"),
+            (table(line).mark == 3, "a table of the line itself"),
+            (others.iter().any(|&at| [1, 2, 4].contains(&table(at).mark)), "a table that is not settled"),
+            (length > station.room, "a table longer than the room"),
+        ];
+        things.into_iter().filter_map(|(is, what)| is.then_some(what)).collect()
+    }
+
+    /// Tables for neighbours meet each of their answers, are made of tables of every kind, and have all distances.
+    #[test]
+    fn made_tables_are_not_trivial() {
+        let (mut counts, mut entries, mut times) = (Counts::default(), [0; 256], std::collections::BTreeMap::new());
+        for case in 0..4_000 {
+            let mut maker = Maker::of_case(2, case);
+            let mut runner = Runner::<Reference, Reference>::begin(&maker.start());
+            for _ in 0..maker.length() {
+                let call = maker.call(runner.station(), runner.route(), runner.names());
+                runner.step(&call, &mut counts).expect("one implementation agrees with itself");
+                if let (Call::TableFor { line, length, route, .. }, (Outcome::Made(Made { answer: 0, infinity: 8 }), out)) =
+                    (&call, runner.last())
+                {
+                    let (line, length) = (*line as usize, *length as usize);
+                    let route = route.map_or(runner.route().to_vec(), |area| area.bytes());
+                    out[..length].iter().for_each(|&entry| entries[usize::from(entry)] += 1);
+                    made_of(runner.station(), &route, line, length).into_iter().for_each(|what| *times.entry(what).or_insert(0) += 1);
+                }
+            }
+        }
+        assert_eq!(times.len(), 14, "{times:?}");
+        assert!(times.values().all(|&times| times >= 20), "{times:?}");
+        assert!((0..256).all(|entry| if (1..9).contains(&entry) { entries[entry] > 500 } else { entries[entry] == 0 }), "{entries:?}");
+        for (answer, &times) in counts.kinds["table-for"].answers.iter().enumerate() {
+            assert!(if [0, 1, 2, 3, 14].contains(&answer) { times > 100 } else { times == 0 }, "{answer}: {times}");
+        }
     }
 
     #[test]

@@ -19,7 +19,7 @@ pub fn route(random: &mut Random) -> Area {
         1 => 8 * 65_536 + 5,
         2..=12 => 16_384,
         13..=16 => random.pick(&[0, 7, 31, 31]),
-        _ => random.pick(&[32, 33, 39, 40, 64, 64, 71, 128, 300, 512, 2048]),
+        _ => random.pick(&[32, 33, 39, 40, 64, 71, 128, 300, 512, 1024, 2048]),
     };
     Area { length, seed: random.number() | 1, top: random.pick(&[0, 2, 7, 8, 8, 8, 127]) }
 }
@@ -46,7 +46,7 @@ pub fn start(random: &mut Random, clock: u32) -> (Start, [Vec<u8>; 8]) {
     let station = &mut *start.station;
     station.room = room(random, route.length);
     for line in &mut station.lines {
-        *line = some_line(random, station.room, clock);
+        *line = some_line(random, station.room, clock, route.top);
     }
     memory(random, station);
     let begun = array::from_fn(|line| {
@@ -107,8 +107,8 @@ fn tally(random: &mut Random) -> Tally {
     Tally { counts }
 }
 
-/// A line in order. Places that are not kept, and what a closed line may have besides, are anything.
-fn some_line(random: &mut Random, room: usize, clock: u32) -> Line {
+/// A line in order. Places that are not kept, and what a closed line may have besides, are anything. The entries of tables are up to `top`.
+fn some_line(random: &mut Random, room: usize, clock: u32, top: u8) -> Line {
     let live = !random.one_in(3);
     if random.one_in(8) {
         return Line { live, ..ZERO.lines[0] };
@@ -123,11 +123,12 @@ fn some_line(random: &mut Random, room: usize, clock: u32) -> Line {
     }
     let pingtime = clock.wrapping_sub(random.pick(&[0, 1, 500, 999, 1_000, 1_001, 20_000, HALF, HALF + 999, u32::MAX]));
     let pinged = live && random.one_in(2);
-    let (table, pending) = (some_table(random, room, live), ZERO.lines[0].pending);
+    let (table, pending) = (some_table(random, room, live, top), ZERO.lines[0].pending);
     Line { live, pinged, pingtime, pongcount, pongnext, pongs, table, pending }
 }
 
-fn some_table(random: &mut Random, room: usize, live: bool) -> Table {
+/// A table in order; the Infinity of half of them is the greatest of the entries.
+fn some_table(random: &mut Random, room: usize, live: bool, top: u8) -> Table {
     let byte = random.byte();
     let junk = Table {
         mark: if live { random.pick(&[0, 0, 4]) } else { 0 },
@@ -142,7 +143,8 @@ fn some_table(random: &mut Random, room: usize, live: bool) -> Table {
     if !live || lengths.is_empty() || random.one_in(4) {
         return junk;
     }
-    let infinity = random.pick(&[2, 7, 8, 8, 8, 127]);
+    let any = random.pick(&[2, 3, 7, 8, 8, 8, 9, 127]);
+    let infinity = if top > 1 && random.one_in(2) { top } else { any };
     let length = random.pick(lengths);
     let mark = random.pick(&[1, 2, 2, 3, 3, 3]);
     if mark != 2 {

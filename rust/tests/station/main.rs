@@ -10,6 +10,7 @@ mod messages;
 mod names;
 mod readme;
 mod refusals;
+mod relaying;
 mod session;
 mod tables;
 
