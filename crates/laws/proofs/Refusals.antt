@@ -8,7 +8,7 @@ use mathlib.Core.Logic.{_⊎_, inl, inr}
 use mathlib.Core.List.{List, [], _∷_, _++_, map}
 use lib.Dec.{eqb, leb}
 use lib.ListN.{length, getD, set, take}
-use borrow.Author.Tests.{leb-true, ne-eqb}
+use borrow.Author.Tests.{leb-true, eq-eqb, ne-eqb, not-true}
 use Rattle.laws.specs.Tests.{firstOf, every, any, all}
 
 -- bools
@@ -117,6 +117,11 @@ answer-in P (c ∷ cs) z h =
     of-choice (λ n. P n ≡ true) (c .0) (c .1) (firstOf cs)
     (λ _. and-fst (P (c .1)) (all (λ c. P (c .1)) cs) h)
     (λ _. answer-in P cs z (and-snd (P (c .1)) (all (λ c. P (c .1)) cs) h))
+
+-- so a number that the list does not have is not its answer
+pub not-answered : (n : ℕ) (cs : List (Bool × ℕ)) → all (λ c. not (eqb (c .1) n)) cs ≡ true → eqb 0 n ≡ false
+    → firstOf cs ≡ n → ⊥
+not-answered n cs h z e = clash (eq-eqb (firstOf cs) n e) (not-true _ (answer-in (λ k. not (eqb k n)) cs (ap not z) h))
 
 -- where the answer is not 0, what holds of each number is enough
 pub refusal-in : (P : ℕ → Bool) (cs : List (Bool × ℕ)) → all (λ c. P (c .1)) cs ≡ true → (firstOf cs ≡ 0 → ⊥)

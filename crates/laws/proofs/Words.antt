@@ -9,7 +9,7 @@ use lib.Dec.{eqb, leb, ltb}
 use borrow.Author.Tests.{leb-true, le-leb, ltb-true, ltb-false, le-ltb, lt-ltb, eqb-true, eqb-false, eq-eqb, not-true}
 use borrow.Author.Tests.{not-false}
 use Rattle.laws.specs.Tests.{firstOf, all}
-use Rattle.laws.proofs.Refusals.{clash, and-fst, and-snd, and-intro, or-split, or-left, or-right, answer-in}
+use Rattle.laws.proofs.Refusals.{and-fst, and-snd, and-intro, or-split, or-left, or-right, not-answered}
 use Rattle.laws.proofs.Refusals.{NoRefusal}
 
 pub and-iff : (a b : Bool) {A B : Type 0} → (a ≡ true) ↔ A → (b ≡ true) ↔ B → ((a && b) ≡ true) ↔ (A × B)
@@ -73,12 +73,9 @@ pub first-iff : (n : ℕ) (b : Bool) (cs : List (Bool × ℕ)) → all (λ c. no
     → (firstOf ((b, n) ∷ cs) ≡ n) ↔ (b ≡ true)
 first-iff n b cs h z = go b
   where
-    behind : firstOf cs ≡ n → ⊥
-    behind e = clash (eq-eqb (firstOf cs) n e) (not-true _ (answer-in (λ k. not (eqb k n)) cs (ap not z) h))
-
     go : (b : Bool) → (cond b n (firstOf cs) ≡ n) ↔ (b ≡ true)
     go true = ((λ _. refl), (λ _. refl))
-    go false = ((λ e. absurd (behind e)), (λ e. absurd (false≢true e)))
+    go false = ((λ e. absurd (not-answered n cs h z e)), (λ e. absurd (false≢true e)))
 
 pub past-iff : (n : ℕ) {X Y : Type 0} (b : Bool) (k : ℕ) (cs : List (Bool × ℕ)) → eqb k n ≡ false
     → (b ≡ false) ↔ Y → (firstOf cs ≡ n) ↔ X → (firstOf ((b, k) ∷ cs) ≡ n) ↔ (Y × X)
