@@ -129,15 +129,16 @@ module _ {S : Type 0} (h : ℕ) (bytes held route : List ℕ) where
 
 abbrev pub feedRefusal : Station → ℕ → List ℕ → ℕ → ℕ → ℕ
 feedRefusal s l held out route =
-    firstOf (feedRules (inOrder s) (s .room) out route (length held) l (lineAt s l) (starts (heldBytes (lineAt s l) held)))
+    firstOf (feedRules (inOrder s) (s .room) out route (length held) l (lineAt s l)
+    (starts (heldBytes (lineAt s l) held)))
 
 -- the outcome of a call, with nothing held of line l
 abbrev pub dropped : ℕ → Outcome → Outcome
 dropped l o = leaving (onLine (holding 0) l (o .state)) o
 
--- bytes by line l
-unfoldable pub feeding : ℕ → Station → ℕ → List ℕ → List ℕ → Terms → List ℕ → Fed Station
-feeding limit s l bytes held t route =
+-- bytes by line l, where this is the call with the message at their front
+abbrev pub feedingBy : (List ℕ → Outcome) → Station → ℕ → List ℕ → List ℕ → Terms → List ℕ → Fed Station
+feedingBy call s l bytes held t route =
     feedBy (lineAt s l .pending .count) bytes held route
     (feedRefusal s l held (t .out) (length route))
     (extentOf (joined (lineAt s l) held bytes))
@@ -145,7 +146,11 @@ feeding limit s l bytes held t route =
     s
     (onLine (holding (lineAt s l .pending .count + length bytes)) l s)
     (onLine shutLine l s)
-    (dropped l (arriving limit s l (frontOf (joined (lineAt s l) held bytes)) t route))
+    (dropped l (call (frontOf (joined (lineAt s l) held bytes))))
+
+-- bytes by line l
+unfoldable pub feeding : ℕ → Station → ℕ → List ℕ → List ℕ → Terms → List ℕ → Fed Station
+feeding limit s l bytes held t route = feedingBy (λ m. arriving limit s l m t route) s l bytes held t route
 
 -- with the usual limit
 abbrev pub feedOutcome : Station → ℕ → List ℕ → List ℕ → Terms → List ℕ → Fed Station
