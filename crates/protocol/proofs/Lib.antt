@@ -33,4 +33,5 @@ pub mod Numbers
 pub mod Blind
 pub mod Extent
 pub mod Exactly
+pub mod HopsFull
 pub mod QueryText

@@ -26,4 +26,5 @@ pub mod Blind
 pub mod HandedBack
 pub mod Extent
 pub mod Exactly
+pub mod HopsFull
 pub mod QueryText

@@ -1,0 +1,3 @@
+-- What holds of 12.
+pub mod PutBack
+pub mod NoQuery

@@ -1,0 +1,3 @@
+-- 12, Hops that can't rise: of hits alone.
+pub mod PutBack
+pub mod NoQuery
