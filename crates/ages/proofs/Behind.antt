@@ -18,6 +18,7 @@ use Rattle.protocol.specs.Memory.{here, gone, Number, ageAfter, noAge, pickAge,
 use Rattle.protocol.specs.State.{Station, lookedUp}
 use Rattle.protocol.specs.Order.{inOrder}
 use Rattle.protocol.specs.Outcomes.{unused}
+use Rattle.protocol.specs.Queries.{queryAfter}
 use Rattle.protocol.specs.Hits.{hitBefore, hitRules}
 use Rattle.ages.specs.HandedUp.{none, aged, Tells, UpFrom, HitFound}
 use Rattle.ages.proofs.Found.{after-below}
@@ -40,12 +41,11 @@ module _ (before : List (Bool × ℕ)) (k : Lookup) where
       by true e false = ((λ z. absurd (clash z refl)), (λ v. v .1))
       by false e c = ((λ z. absurd (clash z refl)), (λ v. absurd (eqb-false (firstOf before) 0 e (v .0))))
 
-  -- so, where the first check behind the look-up refuses by 9 what is found, exactly where the answer is 9
-  pub nine-iff : (behind : List (Bool × ℕ)) → all (λ c. leb 1 (c .1)) before ≡ true
-      → all (λ c. not (eqb (c .1) 9)) before ≡ true → all (λ c. not (eqb (c .1) 9)) behind ≡ true
-      → (ageBehind before k .known ≡ true) ↔ (firstOf (before ++ ((k .found, 9) ∷ behind)) ≡ 9)
-  nine-iff behind p q r =
-      let nine = stands-iff 9 before (k .found) behind q r refl in (
+  -- so, where the check behind the look-up refuses by 9 what is found, exactly where the answer is 9
+  pub nine-iff : all (λ c. leb 1 (c .1)) before ≡ true → all (λ c. not (eqb (c .1) 9)) before ≡ true
+      → (ageBehind before k .known ≡ true) ↔ (firstOf (before ++ queryAfter k) ≡ 9)
+  nine-iff p q =
+      let nine = stands-iff 9 before (k .found) [] q refl refl in (
         (λ e. let v = known-iff .0 e in nine .1 (no-refusal before p (v .0), v .1)),
         (λ e. let v = nine .0 e in known-iff .1 (none-refused before (v .0), v .1)),
       )

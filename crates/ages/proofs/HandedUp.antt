@@ -11,7 +11,7 @@ use lib.ListN.{length}
 use borrow.Author.Tests.{ne-eqb, le-ltb, not-false}
 use Rattle.laws.specs.Tests.{any}
 use Rattle.laws.proofs.Refusals.{clash, no-refusal}
-use Rattle.wire.specs.Header.{headerIn, kindOf, ttlOf, hopsOf, sizeOf, payloadOf}
+use Rattle.wire.specs.Header.{headerIn, kindOf, ttlOf, sizeOf, payloadOf}
 use Rattle.protocol.specs.declared.Age.{Age}
 use Rattle.protocol.specs.Memory.{numberIn, ageOf, ageBehind}
 use Rattle.protocol.specs.State.{Station, lookedUp}
@@ -58,7 +58,7 @@ module _ (s : Station) (l : ℕ) (m : List ℕ) (t : Terms) (route : List ℕ) w
   query-up k =
       of-message-told (λ n (a : Age). (a .known ≡ true) ↔ (n ≡ 9)) s l m t route
       (λ n u. ((λ e. absurd (clash e refl)), (λ e. absurd (clash u (ap unused e)))))
-      (λ _ _. nine-iff (queryTests m) (lookedUp s (numberIn m)) ((eqb (hopsOf m) 255, 12) ∷ []) refl refl refl)
+      (λ _ _. nine-iff (queryTests m) (lookedUp s (numberIn m)) refl refl)
       (λ _ h. absurd (omega (arith, k, h)))
       (λ nq. absurd (nq k))
 
@@ -106,7 +106,7 @@ module _ (s : Station) (number text : List ℕ) (out : ℕ) (route : List ℕ) w
 
       nine : (ageBehind tests (lookedUp s (numberIn number)) .known ≡ true)
           ↔ (ownAnswer s number text out (length route) ≡ 9)
-      nine = nine-iff tests (lookedUp s (numberIn number)) [] refl refl refl
+      nine = nine-iff tests (lookedUp s (numberIn number)) refl refl
 
 pub handed-up : HandedUp
 handed-up w (Open l) = opening-none (w .state) l

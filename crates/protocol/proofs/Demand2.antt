@@ -23,8 +23,8 @@ use Rattle.protocol.specs.State.{Station, remembered, seen, lineAt, held
 use Rattle.protocol.specs.Lines.{isOther}
 use Rattle.protocol.specs.Order.{inOrder}
 use Rattle.protocol.specs.Outcomes.{Terms, Outcome, quiet, handsUp, stored, unused}
-use Rattle.protocol.specs.Queries.{usualLimit, textIn, hasText, queryBefore, passes, goesOn, queryLines, queryOn}
-use Rattle.protocol.specs.Queries.{ownPayload, ownBytes, ownLines}
+use Rattle.protocol.specs.Queries.{usualLimit, textIn, hasText, notAllowed, queryBefore, passes, goesOn}
+use Rattle.protocol.specs.Queries.{queryLines, queryOn, ownPayload, ownBytes, ownLines}
 use Rattle.protocol.specs.Hits.{hitStep}
 use Rattle.protocol.specs.Calls.{updateStep, ownBefore, ownAge, ownAnswer, ownTaken, asking, messageOutcome}
 use Rattle.protocol.specs.Calls.{ownOutcome}
@@ -172,7 +172,7 @@ module _ (s : Station) (o : inOrder s ≡ true) (l : ℕ) (m : List ℕ) (t : Te
   badHops = ltb 15 (ttlOf m) || leb usualLimit (hopsOf m)
 
   abbrev badLife : Bool
-  badLife = eqb (ttlOf m) 0 || badHops
+  badLife = notAllowed usualLimit (headerIn m)
 
   abbrev Arrives : Type 0
   Arrives = Arrived s l m (t .out) route
@@ -198,9 +198,6 @@ module _ (s : Station) (o : inOrder s ≡ true) (l : ℕ) (m : List ℕ) (t : Te
         let ne : ttlOf m ≡ 0 → ⊥ = λ e. let h = a .ttl in absurd (omega arith) in
         rw (ne-eqb (ttlOf m) 0 ne, le-ltb 15 (ttlOf m) (a .ttl15), lt-leb usualLimit (hopsOf m) (a .hops))
 
-    rises : eqb (hopsOf m) 255 ≡ false
-    rises = ne-eqb (hopsOf m) 255 (λ z. let h = a .hops in absurd (omega arith))
-
   -- the answer of one that has arrived, and when it is 9
   answer-query : Arrives → told .answer ≡ firstOf (queryIn usualLimit s m)
   answer-query a = by-its-type s l m t route o a ∙ rw k
@@ -209,7 +206,7 @@ module _ (s : Station) (o : inOrder s ≡ true) (l : ℕ) (m : List ℕ) (t : Te
   before = queryBefore usualLimit (headerIn m) (hasText (payloadOf m))
 
   nine : (firstOf (queryIn usualLimit s m) ≡ 9) ↔ (NoRefusal before × (seen s (numberIn m) ≡ true))
-  nine = stands-iff 9 before (seen s (numberIn m)) ((eqb (hopsOf m) 255, 12) ∷ []) refl refl refl
+  nine = stands-iff 9 before (seen s (numberIn m)) [] refl refl refl
 
   query-answered : (from : Origin) → seen s (numberIn m) ≡ known from
       → Answered (Acceptable usualLimit s l m (t .out) route) from told
@@ -222,7 +219,7 @@ module _ (s : Station) (o : inOrder s ≡ true) (l : ℕ) (m : List ℕ) (t : Te
           (λ x. let a = x .0 in
               answer-query (a .arrived)
               ∙ none-refused (queryIn usualLimit s m)
-              (good-text a, (good-life a, (v ∙ ap known (x .1), (rises a, tt))))),
+              (good-text a, (good-life a, (v ∙ ap known (x .1), tt)))),
         );
         repeats = (
           (λ e. let a : Arrives = arrives .0 (inr (omega arith)) in

@@ -19,8 +19,8 @@ use Rattle.protocol.specs.State.{Station, lookedUp, lineAt}
 use Rattle.protocol.specs.Memory.{numberIn}
 use Rattle.protocol.specs.Order.{inOrder}
 use Rattle.protocol.specs.Outcomes.{Terms, Outcome}
-use Rattle.protocol.specs.Queries.{usualLimit, hasText, queryAfter}
-use Rattle.protocol.specs.Calls.{notOpen, extentRules, ownAnswer, ownAfter, ownTaken, asking, messageOutcome}
+use Rattle.protocol.specs.Queries.{usualLimit, hasText, notAllowed, queryAfter}
+use Rattle.protocol.specs.Calls.{notOpen, extentRules, ownAnswer, ownTaken, asking, messageOutcome}
 use Rattle.protocol.specs.Calls.{ownOutcome}
 use Rattle.protocol.specs.Blind.{typeRules, unnamed}
 use Rattle.protocol.specs.Arrived.{Areas, Arrived}
@@ -88,7 +88,7 @@ from-zero (suc k) (x ∷ xs) (suc i) a b z = from-zero k xs i (omega arith) (ome
 zero-iff : (k : ℕ) (p : List ℕ) → (any (eqb 0) (drop k p) ≡ true) ↔ ZeroFrom k p
 zero-iff k p = (zero-from k p, (λ z. from-zero k p (z .index) (z .behind) (z .within) (z .zero)))
 
-allowed-iff : (m : List ℕ) → ((eqb (ttlOf m) 0 || (ltb 15 (ttlOf m) || leb 7 (hopsOf m))) ≡ true) ↔ NotAllowed m
+allowed-iff : (m : List ℕ) → (notAllowed usualLimit (headerIn m) ≡ true) ↔ NotAllowed m
 allowed-iff m =
     or-iff (eqb (ttlOf m) 0) (ltb 15 (ttlOf m) || leb 7 (hopsOf m)) (eqb-iff (ttlOf m) 0)
     (or-iff (ltb 15 (ttlOf m)) (leb 7 (hopsOf m)) (less-iff 15 (ttlOf m)) (most-iff 7 (hopsOf m)))
@@ -146,11 +146,11 @@ module _ (s : Station) (l : ℕ) (m : List ℕ) (t : Terms) (route : List ℕ) w
         (none-iff _ (named-iff m)))
 
     module _ (k : kindOf m ≡ 0x80) where
-      abbrev notAllowed : Bool
-      notAllowed = eqb (ttlOf m) 0 || (ltb 15 (ttlOf m) || leb 7 (hopsOf m))
+      abbrev unfit : Bool
+      unfit = notAllowed usualLimit (headerIn m)
 
       abbrev last : List (Bool × ℕ)
-      last = queryAfter (headerIn m) (lookedUp s (numberIn m))
+      last = queryAfter (lookedUp s (numberIn m))
 
       abbrev text : Bool
       text = hasText (payloadOf m)
@@ -160,18 +160,18 @@ module _ (s : Station) (l : ℕ) (m : List ℕ) (t : Terms) (route : List ℕ) w
           rw (by-its-type, k)
           (record {
             six =
-                Iff·trans (first-iff 6 (not text) ((notAllowed, 8) ∷ last) refl refl)
+                Iff·trans (first-iff 6 (not text) ((unfit, 8) ∷ last) refl refl)
                 (none-iff text (zero-iff 2 (payloadOf m)));
             eight =
-                past-iff 8 (not text) 6 ((notAllowed, 8) ∷ last) refl
+                past-iff 8 (not text) 6 ((unfit, 8) ∷ last) refl
                 (some-iff text (zero-iff 2 (payloadOf m)))
-                (Iff·trans (first-iff 8 notAllowed last refl refl) (allowed-iff m));
+                (Iff·trans (first-iff 8 unfit last refl refl) (allowed-iff m));
           })
 
 -- an own query
 module _ (s : Station) (number text : List ℕ) (out : ℕ) (route : List ℕ) where
   abbrev fromNumber : List (Bool × ℕ)
-  fromNumber = ownAfter (lookedUp s (numberIn number))
+  fromNumber = queryAfter (lookedUp s (numberIn number))
 
   abbrev fromZero : List (Bool × ℕ)
   fromZero = (any (eqb 0) text, 6) ∷ fromNumber

@@ -33,7 +33,7 @@ use Rattle.protocol.specs.State.{Station, Change, stationOf, lineAt, wit
 use Rattle.protocol.specs.Order.{inOrder}
 use Rattle.protocol.specs.Outcomes.{Terms, Outcome, Step, quiet, sends, refusedOr, writtenFor, pickResult, stored}
 use Rattle.protocol.specs.Outcomes.{handsUp, reportOf, usedOf}
-use Rattle.protocol.specs.Queries.{usualLimit, queryStep, ownLines, ownBytes}
+use Rattle.protocol.specs.Queries.{usualLimit, queryAfter, queryStep, ownLines, ownBytes}
 use Rattle.protocol.specs.Hits.{hitStep}
 use Rattle.protocol.specs.Pings.{pingStep, pongStep}
 
@@ -133,7 +133,7 @@ unfoldable pub arriving : ℕ → Station → ℕ → List ℕ → Terms → Lis
 arriving limit s l m t route = refusedOr (early s l m (t .out) (length route)) s route (arrived limit s l m t route)
 
 -- an own query: the refusals before its number is looked up, given the length of its text and whether that has a zero
--- byte, and the one after
+-- byte; the one after is any query's
 abbrev pub ownBefore : Bool → ℕ → ℕ → ℕ → ℕ → Bool → List (Bool × ℕ)
 ownBefore order room out route size zero =
     (not order, 1)
@@ -142,11 +142,8 @@ ownBefore order room out route size zero =
     ∷ (zero, 6)
     ∷ []
 
-abbrev pub ownAfter : Lookup → List (Bool × ℕ)
-ownAfter k = (k .found, 9) ∷ []
-
 abbrev pub ownRules : Bool → ℕ → ℕ → ℕ → ℕ → Bool → Lookup → List (Bool × ℕ)
-ownRules order room out route size zero k = ownBefore order room out route size zero ++ ownAfter k
+ownRules order room out route size zero k = ownBefore order room out route size zero ++ queryAfter k
 
 -- the age that it hands up
 abbrev pub ownAge : Station → List ℕ → List ℕ → ℕ → ℕ → Age

@@ -40,18 +40,20 @@ hasText p = any (eqb 0) (drop 2 p)
 abbrev pub lifeOf : ℕ → Header → ℕ
 lifeOf limit h = min (h .ttl) (limit - h .hops)
 
--- the checks, in order: those before its number is looked up, given whether a zero byte ends the text, and those after
-abbrev pub queryBefore : ℕ → Header → Bool → List (Bool × ℕ)
-queryBefore limit h ended =
-    (not ended, 6)
-    ∷ (eqb (h .ttl) 0 || (ltb 15 (h .ttl) || leb limit (h .hops)), 8)
-    ∷ []
+-- a TTL or Hops that a query may not have
+abbrev pub notAllowed : ℕ → Header → Bool
+notAllowed limit h = eqb (h .ttl) 0 || (ltb 15 (h .ttl) || leb limit (h .hops))
 
-abbrev pub queryAfter : Header → Lookup → List (Bool × ℕ)
-queryAfter h k = (k .found, 9) ∷ (eqb (h .hops) 255, 12) ∷ []
+-- the checks, in order: those before its number is looked up, given whether a zero byte ends the text, and the one
+-- after, which an own query has too
+abbrev pub queryBefore : ℕ → Header → Bool → List (Bool × ℕ)
+queryBefore limit h ended = (not ended, 6) ∷ (notAllowed limit h, 8) ∷ []
+
+abbrev pub queryAfter : Lookup → List (Bool × ℕ)
+queryAfter k = (k .found, 9) ∷ []
 
 abbrev pub queryRules : ℕ → Header → Bool → Lookup → List (Bool × ℕ)
-queryRules limit h ended k = queryBefore limit h ended ++ queryAfter h k
+queryRules limit h ended k = queryBefore limit h ended ++ queryAfter k
 
 -- a line of which `live` and `t` are told lets a query pass that is to go with this TTL
 abbrev pub passes : Bool → Held → List ℕ → ℕ → Bool

@@ -157,9 +157,9 @@ pub fn own(
     )
 }
 
-// No text, TTL or Hops not permitted, number remembered, Hops that can't grow.
-fn query_number(ended: bool, unfit: bool, found: bool, hops255: bool) -> u8
-    ensures { λ r. ⌜ r ≡ firstOf ((not ended, 6) ∷ (unfit, 8) ∷ (found, 9) ∷ (hops255, 12) ∷ []) ⌝ }
+// No text, TTL or Hops not permitted, number remembered.
+fn query_number(ended: bool, unfit: bool, found: bool) -> u8
+    ensures { λ r. ⌜ r ≡ firstOf ((not ended, 6) ∷ (unfit, 8) ∷ (found, 9) ∷ []) ⌝ }
 {
     if !ended {
         return 6;
@@ -170,9 +170,6 @@ fn query_number(ended: bool, unfit: bool, found: bool, hops255: bool) -> u8
     if found {
         return 9;
     }
-    if hops255 {
-        return 12;
-    }
     0
 }
 
@@ -181,7 +178,7 @@ pub fn query(limit: u8, h: Header, ended: bool, known: Lookup) -> u8
     ensures { λ r. ⌜ r ≡ firstOf (queryRules limit h ended known) ⌝ }
 {
     let unfit = (h.ttl == 0) | ((15 < h.ttl) | (limit <= h.hops));
-    query_number(ended, unfit, known.found, h.hops == 255)
+    query_number(ended, unfit, known.found)
 }
 
 // Payload too short, no TTL, no such query, its line closed since, and for one that goes on: no TTL left, Hops that

@@ -375,7 +375,7 @@ module _ (limit room l : ℕ) (v : View) (h : Header) (k : Lookup) (m out route 
       ≡ ageBehind (queryBefore limit (headerIn m) (hasText (payloadOf m))) k
   query-age =
       ap (λ n. pickAge (eqb n 9) (ageAfter (k .after)) noAge) query-number
-      ∙ repeat-is k ((eqb (hopsOf m) 255, 12) ∷ []) refl (queryBefore limit (headerIn m) (hasText (payloadOf m))) refl
+      ∙ repeat-is k (queryBefore limit (headerIn m) (hasText (payloadOf m))) refl
 
   module _ (lines : List Line) (ev : v ≡ viewOf lines room l) where
     -- what a query does, with the age that was handed up

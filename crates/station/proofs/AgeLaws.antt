@@ -7,29 +7,26 @@ use mathlib.Core.List.{List, [], _∷_, _++_}
 use lib.Dec.{eqb}
 use borrow.Author.Tests.{not-true}
 use Rattle.laws.specs.Tests.{firstOf, all}
-use Rattle.laws.proofs.Refusals.{answer-in}
 use Rattle.laws.proofs.Truth.{both-left, both-right}
 use Rattle.protocol.specs.declared.Age.{Age}
 use Rattle.protocol.specs.declared.Lookup.{Lookup}
 use Rattle.protocol.specs.Memory.{noAge, ageAfter, pickAge, ageBehind}
 use Rattle.protocol.specs.Outcomes.{Step, handsUp}
+use Rattle.protocol.specs.Queries.{queryAfter}
 use Rattle.station.specs.declared.actions.Action.{Action}
 use Rattle.station.specs.Actions.{agedAction, Does}
 
 -- where the repeat check stands behind some others, none of which answers 9, an age is handed up exactly with 9
-module _ (k : Lookup) (rest : List (Bool × ℕ)) (others : all (λ c. not (eqb (c .1) 9)) rest ≡ true) where
+module _ (k : Lookup) where
   abbrev aged : ℕ → Age
   aged n = pickAge (eqb n 9) (ageAfter (k .after)) noAge
 
   abbrev checks : List (Bool × ℕ) → List (Bool × ℕ)
-  checks before = before ++ ((k .found, 9) ∷ rest)
+  checks before = before ++ queryAfter k
 
-  found-by : (b : Bool) → aged (cond b 9 (firstOf rest)) ≡ pickAge b (ageAfter (k .after)) noAge
+  found-by : (b : Bool) → aged (cond b 9 0) ≡ pickAge b (ageAfter (k .after)) noAge
   found-by true = refl
-  found-by false =
-      let e : eqb (firstOf rest) 9 ≡ false =
-      not-true (eqb (firstOf rest) 9) (answer-in (λ n. not (eqb n 9)) rest refl others) in
-      ap (λ b. pickAge b (ageAfter (k .after)) noAge) e
+  found-by false = refl
 
   abbrev other : Bool × ℕ → Bool
   other c = not (eqb (c .1) 0) && not (eqb (c .1) 9)

@@ -635,7 +635,7 @@ answered-as order known room lines number text route out {n} e {age} eage {r} {o
     let before = ownBefore (bothInOrder order room lines) room (length out) (length route) (length text)
     (any (eqb 0) text) in
     let aged : age ≡ ageBehind before known =
-    eage ∙ ap (λ k. pickAge (eqb k 9) (ageAfter (known .after)) noAge) e ∙ repeat-is known [] refl before refl in
+    eage ∙ ap (λ k. pickAge (eqb k 9) (ageAfter (known .after)) noAge) e ∙ repeat-is known before refl in
     subst (λ b. Sends (handsUp b (ownQuerySent usualLimit (ownAnswerBy order known room lines text (length out)
     (length route)) room lines number text route)) (agedReport age r) out out′) aged
     (subst (λ k. Sends (handsUp age (ownQuerySent usualLimit k room lines number text route)) (agedReport age r) out

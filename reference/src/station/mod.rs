@@ -433,9 +433,6 @@ impl State {
         if let Some(known) = self.find(index, number) {
             return Ok(found(9, known));
         }
-        if hops == 255 {
-            return Err(12);
-        }
         self.remember(number, line as u8);
         let taken = Handled { search: true, text_start: header::BYTES + 2, text_length: text.len(), ..QUIET };
         let life = ttl.min(REACH - hops);
