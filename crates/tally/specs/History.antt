@@ -2,11 +2,16 @@
 use Prim.Native.Nat.{ℕ, _+_, _≤_, _<_, min}
 use mathlib.Core.Path.{_≡_}
 use mathlib.Core.Bool.{true}
+use mathlib.Core.Logic.{_↔_}
 use mathlib.Core.List.{List}
 use lib.Dec.{ltb}
 use lib.ListN.{length, getD, replicate}
 use Rattle.laws.specs.Tests.{all}
 use Rattle.tally.specs.Counts.{answerCount, full, bumps, occurrences, answers, sum}
+
+-- the numbers that have a count are the answers of RULES 2.1, 0 to 20
+abbrev pub RowForEach : Type 0
+RowForEach = (n : ℕ) → (n < answerCount) ↔ (n ≤ 20)
 
 -- counts as the type has them: one for each answer number, of 32 bits
 pub record Sized (counts : List ℕ) : Type 0 where
