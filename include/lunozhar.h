@@ -61,7 +61,7 @@ enum lunozhar_answer {
     LUNOZHAR_NOT_FOUND = 10,          /* a hit or a look-up for no remembered query; the handshake field or the file
                                        * name is absent */
     LUNOZHAR_ASKER_CLOSED = 11,       /* a hit for a query whose line has closed since */
-    LUNOZHAR_HOPS_FULL = 12,          /* Hops is 255 and would have to rise */
+    LUNOZHAR_HOPS_FULL = 12,          /* a hit whose Hops is 255 and would have to rise */
     LUNOZHAR_PING_TOO_SOON = 13,      /* less than 1,000 ms since the line's last accepted ping */
     LUNOZHAR_BAD_UPDATE = 14,         /* a field of a route update or an argument of the table writer is wrong; no
                                        * table has this length or Infinity */

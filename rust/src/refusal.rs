@@ -37,7 +37,7 @@ pub enum Refusal {
     NotFound = 10,
     /// 11: a hit for a query whose line has closed since, even if it is open again.
     AskerClosed = 11,
-    /// 12: Hops is 255 and would have to rise.
+    /// 12: a hit whose Hops is 255 and would have to rise; no query is answered so.
     HopsFull = 12,
     /// 13: less than 1,000 ms since the line's last accepted ping.
     PingTooSoon = 13,
@@ -126,7 +126,7 @@ impl Refusal {
             Refusal::Repeated => "the query's number is remembered, or the file name is listed",
             Refusal::NotFound => "no remembered query has the number, or no such handshake field or file name",
             Refusal::AskerClosed => "the asker's line has closed",
-            Refusal::HopsFull => "Hops is 255 and would have to rise",
+            Refusal::HopsFull => "a hit whose Hops is 255 and would have to rise",
             Refusal::PingTooSoon => "ping too soon after the last one",
             Refusal::BadUpdate => "a field of the route update or table is not allowed",
             Refusal::OutOfTurn => "route update out of turn",

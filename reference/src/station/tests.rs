@@ -233,6 +233,27 @@ fn q4_and_q5() {
     assert_eq!(setting.out[17..19], [6, 1]);
 }
 
+/// Document 02, R-7: a query is refused by 6, 8 or 9, in this order, whatever its Hops; never by 12.
+#[test]
+fn never_twelve() {
+    let mut setting = Setting::settled();
+    setting.send(0, &query(7, 3, 0, "eb"));
+    for (hops, ttl) in (0..=255).flat_map(|hops| [0, 1, 2, 15, 16, 255].map(|ttl| (hops, ttl))) {
+        let allowed = (1..=15).contains(&ttl) && hops <= 6;
+        for number in [7, 1_000 + u32::from(hops) * 256 + u32::from(ttl)] {
+            assert_eq!(setting.answer(0, &message(number, QUERY, ttl, hops, b"\0\0eb")), 6);
+            let answer = match (allowed, number) {
+                (false, _) => 8,
+                (true, 7) => 9,
+                (true, _) => 0,
+            };
+            assert_eq!(setting.answer(0, &query(number, ttl, hops, "eb")), answer);
+        }
+    }
+    // The same Hops of a hit that would go on.
+    assert_eq!(setting.answer(1, &hit(7, 2, 255)), 12);
+}
+
 // State and order.
 
 /// C24: the kept places are those just before the next one, going round.

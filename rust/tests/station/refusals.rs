@@ -32,6 +32,8 @@ fn refused_messages() -> Vec<(u32, Vec<u8>, Refusal)> {
         (0, message(1, QUERY, 3, 1, b"\0\0eb"), Refusal::BadPayload),
         (0, message(1, 0x40, 3, 1, &[0; 26]), Refusal::UnknownType),
         (0, message(1, QUERY, 0, 1, b"\0\0eb\0"), Refusal::BadTtlOrHops),
+        (0, message(1, QUERY, 3, 255, b"\0\0eb\0"), Refusal::BadTtlOrHops),
+        (1, message(7, QUERY, 3, 255, b"\0\0river\0"), Refusal::BadTtlOrHops),
         (1, query(7, "river"), Refusal::Repeated),
         (1, query(8, "hill"), Refusal::Repeated),
         (1, hit(6), Refusal::NotFound),
