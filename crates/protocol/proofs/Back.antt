@@ -20,10 +20,12 @@ use Rattle.protocol.specs.Calls.{fresh}
 use Rattle.protocol.specs.Runs.{Call, Open, Close, Message, Ask, Made, World, lent, outcomeOf, run, start}
 use Rattle.protocol.specs.Demand2.{took, broughtNumber, broughtBy, closed, openings, Past, past, allTaken}
 use Rattle.protocol.specs.Demand2.{Origin, Unknown, Here, From, Gone, originOf, lookUp, origin, HitBy, HitRouted}
-use Rattle.protocol.specs.Demand2.{MessageRouted, takenIn, Brought, BackOnly, AnswersBack}
+use Rattle.protocol.specs.Demand2.{hitsSince, Counted, PassedBack, MessageRouted, takenIn, Brought, BackOnly}
+use Rattle.protocol.specs.Demand2.{AnswersBack}
 use Rattle.protocol.proofs.Outcomes.{eachLine-at}
 use Rattle.protocol.proofs.Kept.{fresh-in-order}
-use Rattle.protocol.proofs.Origins.{from-line, no-from, same-number, taken-took, taken-passed, Since, Invariant}
+use Rattle.protocol.proofs.Memory.{same-number}
+use Rattle.protocol.proofs.Origins.{from-line, no-from, taken-took, taken-passed, Since, Invariant}
 use Rattle.protocol.proofs.Origins.{begins, holds-after}
 use Rattle.protocol.proofs.Demand2.{message-routed}
 use Rattle.protocol.proofs.HandedBack.{fresh-remembers}
@@ -33,7 +35,7 @@ use Rattle.protocol.specs.State.{lineAt}
 abbrev Taking : ℕ → (ℕ → Bool) → List Made → Number → ℕ → ℕ → Type 0
 Taking n shut log x l e = (shut l ≡ false) × Brought n log x l e
 
-took-unclosed : (c : Call) (n l : ℕ) → took c n ≡ true → closed c n l ≡ false
+pub took-unclosed : (c : Call) (n l : ℕ) → took c n ≡ true → closed c n l ≡ false
 took-unclosed (Open k) n l t = refl
 took-unclosed (Close k) n l t = absurd (clash t refl)
 took-unclosed (Message k m terms a) n l t = refl
@@ -141,29 +143,38 @@ module _ (w : World) (v : Invariant [] w) where
     to-nobody : o .to ≡ nobody → ⊥
     to-nobody e = clash t (ap (λ ls. getD ls k false) e ∙ eachLine-at (λ _. false) k (omega arith))
 
-    hit-to : o .answer ≡ 0 → 1 ≤ ttlOf m → (from : Origin) → HitBy from w m o → (n : ℕ) × (from ≡ From k n)
-    hit-to z a Unknown b = absurd (omega (arith, z, b))
-    hit-to z a Gone b = absurd (omega (arith, z, b))
-    hit-to z a Here b = absurd (to-nobody (b .2))
-    hit-to z a (From l n) b = (n, ap (λ j. From j n) same-line)
+    -- its query has had fewer than 200
+    fewer : (hits : ℕ) {P : Type 0} → o .answer ≡ 0 → Counted hits o P → P
+    fewer hits z c =
+        let ne : hits ≡ 200 → ⊥ = λ e. absurd (omega (arith, z, c .1 e)) in c .2 (omega (arith, c .0, ne))
+
+    hit-to : (hits : ℕ) → o .answer ≡ 0 → 1 ≤ ttlOf m → (from : Origin) → HitBy from hits w m o
+        → (n : ℕ) × (from ≡ From k n)
+    hit-to hits z a Unknown b = absurd (omega (arith, z, b))
+    hit-to hits z a Gone b = absurd (omega (arith, z, b))
+    hit-to hits z a Here b = absurd (to-nobody (fewer hits z b .2))
+    hit-to hits z a (From l n) b = (n, ap (λ j. From j n) same-line)
       where
+        back : PassedBack l m o
+        back = fewer hits z (b .1)
+
         two : 2 ≤ ttlOf m
-        two = let ne : ttlOf m ≡ 1 → ⊥ = λ e. absurd (omega (arith, z, b .3 e)) in omega arith
+        two = let ne : ttlOf m ≡ 1 → ⊥ = λ e. absurd (omega (arith, z, back .spent e)) in omega arith
 
         to : o .to ≡ onlyTo l
-        to = b .5 two (λ e. absurd (omega (arith, z, b .4 two e))) .2
+        to = back .goes two (λ e. absurd (omega (arith, z, back .full two e))) .2
 
         same-line : l ≡ k
         same-line = eqb-true l k (sym (ap (λ ls. getD ls k false) to ∙ eachLine-at (eqb l) k (omega arith)) ∙ t)
 
     routed-to : MessageRouted usualLimit capacity [] w l m out route o → kindOf m ≡ 0x81
         → (n : ℕ) × (since (numberIn m) ≡ From k n)
-    routed-to r kind = hit-to zero′ one (since (numberIn m)) (hit .by long one)
+    routed-to r kind = hit-to _ zero′ one (since (numberIn m)) (hit .by long one)
       where
         zero′ : o .answer ≡ 0
         zero′ = eqb-true (o .answer) 0 (decided _ (λ e. to-nobody (r .refused (eqb-false (o .answer) 0 e) .to)))
 
-        hit : HitRouted (since (numberIn m)) w m o
+        hit : HitRouted (since (numberIn m)) (hitsSince (w .log) [] (numberIn m)) w m o
         hit = r .hit kind (r .arrives .0 (inl zero′))
 
         long : 27 ≤ sizeOf m

@@ -11,7 +11,7 @@ use lib.ListN.{length, take, drop, length-append, length-drop, List·getD-append
 use lib.Seq.{take-append-le, drop-append-le, length-take-le}
 use borrow.Author.Tests.{le-ltb}
 use Rattle.laws.specs.Tests.{firstOf, all}
-use Rattle.laws.proofs.Refusals.{first-append}
+use Rattle.laws.proofs.Refusals.{first-append, of-choice}
 use Rattle.wire.specs.Header.{numberOf, kindOf, ttlOf, hopsOf, sizeOf, payloadOf, routeUpdate, queryType}
 use Rattle.wire.specs.Header.{hitType, pingType, pongType}
 use Rattle.tables.specs.Updates.{updateAnswer}
@@ -147,16 +147,23 @@ module _ (s : Station) (l : ℕ) (m : List ℕ) (t : Terms) (route : List ℕ) w
   abbrev ofUpdate : List (Bool × ℕ)
   ofUpdate = updateRules (s .room) (heldAt s l route) (ttlOf m) (hopsOf m) (payloadOf m)
 
-  pub types-all : (P : Bool × ℕ → Bool)
+  -- those of a hit need to meet it only where the message is one
+  pub types-but-hits : (P : Bool × ℕ → Bool)
       → all P (pingIn s l t m) ≡ true → all P (pongIn m) ≡ true → all P ofUpdate ≡ true
-      → all P (queryIn usualLimit s m) ≡ true → all P (hitIn s m) ≡ true
+      → all P (queryIn usualLimit s m) ≡ true → (eqb (kindOf m) hitType ≡ true → all P (hitIn s m) ≡ true)
       → all P (typeRules s l (t .clock) m route) ≡ true
-  types-all P a b c d e =
+  types-but-hits P a b c d e =
       either P (eqb (kindOf m) pingType) (pingIn s l t m) _ a
       (either P (eqb (kindOf m) pongType) (pongIn m) _ b
       (either P (eqb (kindOf m) routeUpdate) ofUpdate _ c
       (either P (eqb (kindOf m) queryType) (queryIn usualLimit s m) _ d
-      (either P (eqb (kindOf m) hitType) (hitIn s m) [] e refl))))
+      (of-choice (λ cs. all P cs ≡ true) (eqb (kindOf m) hitType) (hitIn s m) [] e (λ _. refl)))))
+
+  pub types-all : (P : Bool × ℕ → Bool)
+      → all P (pingIn s l t m) ≡ true → all P (pongIn m) ≡ true → all P ofUpdate ≡ true
+      → all P (queryIn usualLimit s m) ≡ true → all P (hitIn s m) ≡ true
+      → all P (typeRules s l (t .clock) m route) ≡ true
+  types-all P a b c d e = types-but-hits P a b c d (λ _. e)
 
   -- they are none of 1 to 5
   pub types-sent : unused (firstOf (afterEarly s l m t route)) ≡ false

@@ -17,8 +17,8 @@ use Rattle.tables.specs.Updates.{updateAnswer, updated}
 use Rattle.protocol.specs.declared.Line.{Line}
 use Rattle.protocol.specs.declared.Lookup.{Lookup}
 use Rattle.protocol.specs.declared.Age.{Age}
-use Rattle.protocol.specs.Memory.{capacity, numberIn, remember, noAge, ageBehind}
-use Rattle.protocol.specs.State.{Station, lineAt, withLine, withMemory, heldAt, lookedUp}
+use Rattle.protocol.specs.Memory.{capacity, numberIn, remember, raise, noAge, ageBehind}
+use Rattle.protocol.specs.State.{Station, lineOnly, lineAt, withLine, withMemory, heldAt, lookedUp}
 use Rattle.protocol.specs.Lines.{withPong}
 use Rattle.protocol.specs.Outcomes.{Terms, Outcome, Step, quiet, handsUp, leaving, pickResult, refusedOr, stored}
 use Rattle.protocol.specs.Outcomes.{unused}
@@ -50,7 +50,8 @@ queryAge limit s m = ageBehind (queryBefore limit (headerIn m) (hasText (payload
 abbrev pub hitAge : Station → List ℕ → Age
 hitAge s m = ageBehind (hitBefore (headerIn m)) (lookedUp s (numberIn m))
 
--- the outcome of one that is taken: a ping or a pong sets its line's record, a query is remembered, a hit leaves all
+-- the outcome of one that is taken: a ping or a pong sets its line's record, a query is remembered, and a hit raises its
+-- query's count
 abbrev pub pingDone : Station → ℕ → Terms → List ℕ → List ℕ → Outcome
 pingDone s l t m route =
     leaving (withLine s l (timeKept (lineAt s l) (isProbe (headerIn m)) (t .clock))) (pingTaken (s .lines) l t m route)
@@ -65,7 +66,10 @@ queryDone limit s l m route =
     (queryTaken limit (s .room) (s .lines) l m route))
 
 abbrev pub hitDone : Station → ℕ → List ℕ → List ℕ → Outcome
-hitDone s l m route = handsUp (hitAge s m) (leaving s (hitTaken (lineAt s l) (lookedUp s (numberIn m)) m route))
+hitDone s l m route =
+    handsUp (hitAge s m)
+    (leaving (withMemory s (raise capacity (s .memory) (lookedUp s (numberIn m) .after)))
+    (hitTaken (lineAt s l) (lookedUp s (numberIn m)) m route))
 
 -- an update, taken or refused: its answer, and what it leaves of the line's table
 abbrev pub updateNumber : Station → ℕ → List ℕ → List ℕ → ℕ
@@ -102,7 +106,7 @@ module _ (P : Outcome → Type 0) (s : Station) (l : ℕ) (m route : List ℕ) w
       → (k : ℕ) (cs : List (Bool × ℕ)) (r : Step) → eqb (kindOf m) k ≡ true → eqb k routeUpdate ≡ false
       → all (λ c. not (unused (c .1))) cs ≡ true → all (λ c. leb 1 (c .1)) cs ≡ true
       → (NoRefusal cs → Q (stored s l (numberIn m) r))
-      → Q (stored s l (numberIn m) (refusedOr (firstOf cs) (record { line = line; taken = false }) route r))
+      → Q (stored s l (numberIn m) (refusedOr (firstOf cs) (lineOnly line) route r))
   of-checks Q refused k cs r e ne u p f =
       of-stored Q s l (numberIn m) (firstOf cs) route r (λ z. f (no-refusal cs p z))
       (λ n. refused (firstOf cs)
@@ -139,10 +143,15 @@ module _ (P : Outcome → Type 0) (s : Station) (l : ℕ) (m route : List ℕ) w
     unfolding hitStep
     of-hit k f =
         of-checks (λ o. P (handsUp (hitAge s m) o)) (λ n. refused n (hitAge s m)) hitType (hitIn s m) _ k refl refl refl
-        (λ n. again (λ x. handsUp (hitAge s m) (leaving x (hitTaken line looked m route))) (f n))
+        (λ n. again done (f n))
+      where
+        done : Station → Outcome
+        done x =
+            handsUp (hitAge s m)
+            (leaving (withMemory x (raise capacity (s .memory) (looked .after))) (hitTaken line looked m route))
 
     -- a type that has no rules
-    unnamed : eqb (kindOf m) routeUpdate ≡ false → OfStep (quiet 7 (record { line = line; taken = false }) route)
+    unnamed : eqb (kindOf m) routeUpdate ≡ false → OfStep (quiet 7 (lineOnly line) route)
     unnamed u =
         again (λ x. quiet 7 x route)
         (refused 7 noAge (record { some = λ e. absurd (omega arith); used = refl; type = u }))
@@ -152,7 +161,7 @@ module _ (P : Outcome → Type 0) (s : Station) (l : ℕ) (m route : List ℕ) w
       abbrev hits : Step
       hits =
           pickResult (eqb (kindOf m) hitType) (hitStep line looked m route)
-          (quiet 7 (record { line = line; taken = false }) route)
+          (quiet 7 (lineOnly line) route)
 
       abbrev queries : Step
       queries = pickResult (eqb (kindOf m) queryType) (queryStep limit (s .room) (s .lines) l looked m route) hits
@@ -178,7 +187,7 @@ module _ (P : Outcome → Type 0) (s : Station) (l : ℕ) (m route : List ℕ) w
         (λ _. by routeUpdate (updateStep (s .room) l line m route) (queries limit t) update
         (λ u. by queryType (queryStep limit (s .room) (s .lines) l looked m route) (hits limit t)
         (λ k. of-query limit k (query k))
-        (λ _. by hitType (hitStep line looked m route) (quiet 7 (record { line = line; taken = false }) route)
+        (λ _. by hitType (hitStep line looked m route) (quiet 7 (lineOnly line) route)
         (λ k. of-hit k (hit k))
         (λ _. unnamed u)))))
       where

@@ -1,6 +1,6 @@
 -- Demand 2, proved: each call of a list is routed as its log says.
 -- Assumes nothing.
-use Prim.Native.Nat.{ℕ, _+_, _-_, _≤_}
+use Prim.Native.Nat.{ℕ, _+_, _-_, _≤_, _<_}
 use native.Mathlib.Omega.{arith}
 use mathlib.Core.Path.{_≡_, refl, sym, ap, _∙_}
 use mathlib.Core.Bool.{Bool, true, false, not, _&&_, _||_}
@@ -18,7 +18,9 @@ use Rattle.wire.specs.Header.{pingType}
 use Rattle.keywords.specs.Keywords.{keywordsOf}
 use Rattle.tables.specs.Admission.{withholds}
 use Rattle.protocol.specs.declared.Age.{Age}
-use Rattle.protocol.specs.Memory.{capacity, here, gone, numberIn, Query, find, noAge}
+use Rattle.protocol.specs.declared.Lookup.{Lookup}
+use Rattle.protocol.specs.Memory.{capacity, here, gone, numberIn, Query, Found, Absent, At, find}
+use Rattle.protocol.specs.Memory.{isFound, hitsOf, raise, noAge}
 use Rattle.protocol.specs.State.{Station, remembered, seen, lineAt, heldAt, lookedUp}
 use Rattle.protocol.specs.Lines.{isOther}
 use Rattle.protocol.specs.Order.{inOrder}
@@ -35,11 +37,16 @@ use Rattle.protocol.specs.Arrived.{Arrived, SentIfArrived}
 use Rattle.protocol.specs.Frames.{NotSearched, Silent}
 use Rattle.protocol.specs.Written.{NoHit}
 use Rattle.protocol.specs.Pinged.{PingsRouted}
-use Rattle.protocol.specs.Demand2.{Origin, Unknown, Here, From, Gone, origin, Acceptable, OwnAcceptable}
-use Rattle.protocol.specs.Demand2.{Answered, QueryTo, OwnTo, HitBy, HitRouted, MessageRouted, Routed}
+use Rattle.protocol.specs.Demand2.{Origin, Unknown, Here, From, Gone, origin, askerNow, hitsSince}
+use Rattle.protocol.specs.Demand2.{Acceptable, OwnAcceptable, OneHitMore}
+use Rattle.protocol.specs.Demand2.{Answered, QueryTo, OwnTo, HitBy, HitRouted, PassedBack, MessageRouted, Routed}
 use Rattle.protocol.specs.Demand2.{AllRouted, Demand2}
 use Rattle.protocol.proofs.Outcomes.{of-refused, eachLine-at, ownIn, LetIn}
-use Rattle.protocol.proofs.ByType.{queryIn, queryDone, hitDone, of-ping, of-query, of-hit, of-types, of-message}
+use Rattle.protocol.proofs.ByType.{queryIn, hitIn, queryDone, hitDone, of-ping, of-query, of-hit, of-types}
+use Rattle.protocol.proofs.ByType.{of-message}
+use Rattle.protocol.proofs.InOrder.{state-facts}
+use Rattle.protocol.proofs.Places.{others-stay, remembered-hit}
+use Rattle.protocol.proofs.Answered.{FoundFew, found-few, few-found}
 use Rattle.protocol.proofs.Refused.{refusal-frame}
 use Rattle.protocol.proofs.Origins.{known, unknown-of, known-if, SameLookUp, Since, Invariant, begins, goes-on}
 use Rattle.protocol.proofs.Origins.{looked-up}
@@ -306,12 +313,27 @@ module _ (s : Station) (o : inOrder s ≡ true) (number text : List ℕ) (out : 
         delivered = refl;
       })
 
--- Hits, by where their query came from
-module _ (w : World) (l : ℕ) (m route : List ℕ) (k : kindOf m ≡ 0x81) (from : Origin)
-    (h : SameLookUp (find (remembered (w .state)) (numberIn m)) from)
+-- Hits, by where their query came from and how many it has had
+module _ (w : World) (z : Sized (w .state)) (o : inOrder (w .state) ≡ true) (l : ℕ) (m route : List ℕ)
+    (k : kindOf m ≡ 0x81) (from : Origin) (count : ℕ)
+    (h : SameLookUp (find (remembered (w .state)) (numberIn m)) from count)
     (since : (l n : ℕ) → from ≡ From l n → Since (λ _. false) w l n) where
+  abbrev looked : Lookup
+  looked = lookedUp (w .state) (numberIn m)
+
   abbrev hit : Outcome
-  hit = stored (w .state) l (numberIn m) (hitStep (lineAt (w .state) l) (lookedUp (w .state) (numberIn m)) m route)
+  hit = stored (w .state) l (numberIn m) (hitStep (lineAt (w .state) l) looked m route)
+
+  -- the count that was found is at most 200
+  most : known from ≡ true → count ≤ 200
+  most e = go (find (remembered (w .state)) (numberIn m)) refl
+    where
+      go : (f : Found) → find (remembered (w .state)) (numberIn m) ≡ f → count ≤ 200
+      go Absent y = absurd (clash (h .found ∙ e) (ap isFound y))
+      go (At i a n) y =
+          let c : n ≡ count = sym (ap hitsOf y) ∙ h .counted (ap isFound y) in
+          let b = few-found (remembered (w .state)) (numberIn m) i a n (state-facts (w .state) o .hits) y in
+          omega (arith, b, c)
 
   module _ (a : 27 ≤ sizeOf m) (b : 1 ≤ ttlOf m) where
     size : ltb (sizeOf m) 27 ≡ false
@@ -320,38 +342,91 @@ module _ (w : World) (l : ℕ) (m route : List ℕ) (k : kindOf m ≡ 0x81) (fro
     alive : eqb (ttlOf m) 0 ≡ false
     alive = ne-eqb (ttlOf m) 0 (λ z. absurd (omega arith))
 
-    hit-by : (from′ : Origin) → from ≡ from′ → HitBy from′ w m hit
+    -- a query that was found and is not gone, by its count
+    module _ (e : known from ≡ true) (g : eqb (askerNow from) gone ≡ false) where
+      is : looked .found ≡ true
+      is = h .found ∙ e
+
+      by : looked .asker ≡ askerNow from
+      by = h .asker
+
+      counted : looked .hits ≡ count
+      counted = h .counted is
+
+      full : count ≡ 200 → hit .answer ≡ 21
+      unfolding hitStep
+      full c = rw (size, alive, is, by, g, counted, eq-eqb count 200 c)
+
+      few : count < 200 → eqb (looked .hits) 200 ≡ false
+      few c = rw counted (ne-eqb count 200 (λ z. absurd (omega arith)))
+
+    -- one that goes back to a line
+    module _ (j : ℕ) (below : j ≤ 7) where
+      lives : eqb j gone ≡ false
+      lives = ne-eqb j gone (λ z. absurd (omega arith))
+
+      far : eqb j here ≡ false
+      far = ne-eqb j here (λ z. absurd (omega arith))
+
+      more : 2 ≤ ttlOf m → eqb (ttlOf m) 1 ≡ false
+      more t = ne-eqb (ttlOf m) 1 (λ z. absurd (omega arith))
+
+      passed-back : looked .found ≡ true → looked .asker ≡ j → eqb (looked .hits) 200 ≡ false → PassedBack j m hit
+      unfolding hitStep
+      passed-back is by few =
+          record {
+            spent = λ t. rw (size, alive, is, by, few, lives, far, eq-eqb (ttlOf m) 1 t);
+            full = λ t z. rw (size, alive, is, by, few, lives, far, more t, eq-eqb (hopsOf m) 255 z);
+            goes = λ t z. rw (size, alive, is, by, few, lives, far, more t, ne-eqb (hopsOf m) 255 z)
+                (refl, refl, refl, refl);
+          }
+
+    hit-by : (from′ : Origin) → from ≡ from′ → HitBy from′ count w m hit
     unfolding hitStep
     hit-by Unknown e = rw (size, alive, h .found, e)
     hit-by Gone e = rw (size, alive, h .found, h .asker, e)
-    hit-by Here e = rw (size, alive, h .found, h .asker, e) (refl, refl, refl, refl)
+    hit-by Here e =
+        let y : known from ≡ true = ap known e in
+        let g : eqb (askerNow from) gone ≡ false = ap (λ x. eqb (askerNow x) gone) e in (
+          most y,
+          full y g,
+          (λ c. rw (size, alive, is y g, by y g, few y g c, e) (refl, refl, refl, refl)),
+        )
     hit-by (From j n) e =
         let q = since j n e in
-        let seven : j ≤ 7 = q .below in
-        let g : eqb j gone ≡ false = ne-eqb j gone (λ z. absurd (omega arith)) in
-        let f : eqb j here ≡ false = ne-eqb j here (λ z. absurd (omega arith)) in (
-          seven,
-          q .live,
-          q .same,
-          (λ t. rw (size, alive, h .found, h .asker, e, g, f, eq-eqb (ttlOf m) 1 t)),
-          (λ t z. rw (size, alive, h .found, h .asker, e, g, f, more t, eq-eqb (hopsOf m) 255 z)),
-          (λ t z. rw (size, alive, h .found, h .asker, e, g, f, more t, ne-eqb (hopsOf m) 255 z)
-              (refl, refl, refl, refl)),
+        let y : known from ≡ true = ap known e in
+        let g : eqb (askerNow from) gone ≡ false = ap (λ x. eqb (askerNow x) gone) e ∙ lives j (q .below) in (
+          record { below = q .below; live = q .live; opening = q .same },
+          (most y, full y g, λ c. passed-back j (q .below) (is y g) (by y g ∙ ap askerNow e) (few y g c)),
         )
-      where
-        more : 2 ≤ ttlOf m → eqb (ttlOf m) 1 ≡ false
-        more t = ne-eqb (ttlOf m) 1 (λ z. absurd (omega arith))
 
-  of-hits : (P : Outcome → Type 0) → ((n : ℕ) (a : Age) → P (handsUp a (quiet n (w .state) route)))
-      → P (hitDone (w .state) l m route) → P hit
-  of-hits P f g = of-hit P (w .state) l m route (λ n a _. f n a) (eq-eqb (kindOf m) hitType k) (λ _. g)
+  of-hits : (P : Outcome → Type 0)
+      → ((n : ℕ) (a : Age) → (n ≡ 0 → ⊥) → P (handsUp a (quiet n (w .state) route)))
+      → (NoRefusal (hitIn (w .state) m) → P (hitDone (w .state) l m route)) → P hit
+  of-hits P f g = of-hit P (w .state) l m route (λ n a r. f n a (r .some)) (eq-eqb (kindOf m) hitType k) g
 
-  hit-routed : HitRouted from w m hit
+  one-more : NoRefusal (hitIn (w .state) m) → OneHitMore (numberIn m) (w .state) (hitDone (w .state) l m route .state)
+  unfolding raise
+  one-more n =
+      let f : FoundFew (w .state) (numberIn m) = found-few (w .state) o m n in
+      record {
+        room = refl;
+        lines = refl;
+        memory = remembered-hit (w .state) (numberIn m) (looked .after) (f .who) (f .hits) z
+            (state-facts (w .state) o .twice) (f .found) (f .few);
+        rest = (refl, refl, refl, refl, refl);
+        beside = others-stay (w .state) z (looked .after) (numberIn m) (f .who) (f .hits) (f .found) (f .few);
+      }
+
+  hit-routed : HitRouted from count w m hit
   unfolding hitStep
   hit-routed =
       record {
-        leaves = of-hits (λ (r : Outcome). r .state ≡ w .state) (λ _ _. refl) refl;
-        search = of-hits NotSearched (λ _ _. (refl, refl, refl)) (refl, refl, refl);
+        counts = of-hits (λ (r : Outcome). r .answer ≡ 0 → OneHitMore (numberIn m) (w .state) (r .state))
+            (λ n a ne e. absurd (ne e)) (λ n _. one-more n);
+        leaves = of-hits (λ (r : Outcome). (r .answer ≡ 0 → ⊥) → r .state ≡ w .state) (λ _ _ _ _. refl)
+            (λ _ ne. absurd (ne refl));
+        search = of-hits NotSearched (λ _ _ _. (refl, refl, refl)) (λ _. (refl, refl, refl));
         short = λ a. rw (lt-ltb (sizeOf m) 27 a);
         spent = λ a b. rw (le-ltb (sizeOf m) 27 a, eq-eqb (ttlOf m) 0 b);
         by = λ a b. hit-by a b from refl;
@@ -376,7 +451,7 @@ module _ (base : List Query) (w : World) (v : Invariant base w) where
           query = λ k. query-answered s o l m t route k (origin capacity (w .log) base (numberIn m)) (looked .found);
           goes = goes-to s l m t route;
           hit = λ k a. rw (by-type s l m t route o usualLimit a ∙ by-hit s l m t route usualLimit k)
-              (hit-routed w l m route k _ looked (λ l n. v .since (λ _. false) capacity (numberIn m) l n));
+              (hit-routed w z o l m route k _ _ looked (λ l n. v .since (λ _. false) capacity (numberIn m) l n));
           noHit = queries-noHit s l m t route;
           pings = ping-search s l m t route;
           update = λ k a. update-only s z o l m t route a k;
@@ -391,6 +466,7 @@ module _ (base : List Query) (w : World) (v : Invariant base w) where
         arrives = sent-if-arrived s l m t route o
 
         looked : SameLookUp (find (remembered s) (numberIn m)) (origin capacity (w .log) base (numberIn m))
+            (hitsSince (w .log) base (numberIn m))
         looked = looked-up base w v (numberIn m)
 
     pings-routed : PingsRouted s l (t .clock) (t .own) m (t .out) route (messageOutcome s l m t route)

@@ -243,7 +243,7 @@ module _ (limit L room : ℕ) (seven : L ≤ 7) (e : Expected) (us : List Update
       (same-line L s (pongDone s l (t .clock) m area .state) area l _ refl refl below refl refl))
       (update-good l m t d)
       (λ k _. query-good l m t k)
-      (λ k _. neither l m t hitType k refl refl (hitDone s l m area) refl (untouched L s area (s .memory)))
+      (λ k _. neither l m t hitType k refl refl (hitDone s l m area) refl (untouched L s area _))
 
   -- an area of another room is refused
   message-good : (l : ℕ) (m : List ℕ) (t : Terms) (a : Area) → FairArea room a

@@ -9,41 +9,47 @@ use mathlib.Core.List.{List, [], _∷_, _++_, map}
 use lib.Dec.{eqb}
 use lib.ListN.{take}
 use Rattle.laws.proofs.Refusals.{clash, of-choice}
-use Rattle.protocol.specs.Memory.{capacity, gone, Number, sameNumber, Query, left}
+use Rattle.protocol.specs.Memory.{capacity, gone, Number, sameNumber, Query}
 use Rattle.protocol.specs.Memory.{Found, Absent, At, later, pickFound, find, isFound, askerOf}
 use Rattle.protocol.specs.State.{remembered}
 use Rattle.protocol.specs.Runs.{Call, World, step, run, start}
-use Rattle.protocol.specs.Kept.{asked, leftBy}
+use Rattle.protocol.specs.Kept.{asked, leftBy, hitBy}
 use Rattle.protocol.specs.Demand2.{broughtNumber, broughtBy, Origin, Unknown, Here, From, Gone, origin, askerNow}
-use Rattle.protocol.specs.Demand2.{GoneForever}
+use Rattle.protocol.specs.Demand2.{hitsSince, GoneForever}
+use Rattle.protocol.proofs.Memory.{same-number}
 use Rattle.protocol.proofs.Effects.{call-effect}
-use Rattle.protocol.proofs.Origins.{unknown-of, same-number, SameLookUp, Invariant, begins, goes-on}
+use Rattle.protocol.proofs.Origins.{unknown-of, SameLookUp, Invariant, begins, goes-on}
 use Rattle.protocol.proofs.Origins.{holds-after}
 use Rattle.protocol.proofs.Origins.{looked-up}
 
--- In the remembered queries: gone is still gone after a closing, and after one more query gone or not there
+-- In the remembered queries: gone is still gone after a closing and a hit, and after one more query gone or not there
 asker-later : (f : Found) → askerOf (later f) ≡ askerOf f
 asker-later Absent = refl
-asker-later (At n a) = refl
+asker-later (At n a h) = refl
 
-gone-left : (l : ℕ) (x : Number) (qs : List Query) → askerOf (find qs x) ≡ gone
-    → askerOf (find (map (leftBy l) qs) x) ≡ gone
+gone-map : (f : Query → Query) → ((q : Query) → f q .number ≡ q .number)
+    → ((q : Query) → q .asker ≡ gone → f q .asker ≡ gone) → (x : Number) (qs : List Query)
+    → askerOf (find qs x) ≡ gone → askerOf (find (map f qs) x) ≡ gone
 unfolding find
-gone-left l x [] e = e
-gone-left l x (q ∷ qs) e = go (sameNumber (q .number) x) (gone-left l x qs) e
+gone-map f same kept x [] e = e
+gone-map f same kept x (q ∷ qs) e =
+    rw (same q) (go (sameNumber (q .number) x) (gone-map f same kept x qs) e)
   where
-    go : (b : Bool) → (askerOf (find qs x) ≡ gone → askerOf (find (map (leftBy l) qs) x) ≡ gone)
-        → askerOf (pickFound b (At 0 (q .asker)) (later (find qs x))) ≡ gone
-        → askerOf (pickFound b (At 0 (left l (q .asker))) (later (find (map (leftBy l) qs) x))) ≡ gone
-    go true h e = of-choice (λ n. n ≡ gone) (eqb (q .asker) l) gone (q .asker) (λ _. refl) (λ _. e)
-    go false h e = asker-later (find (map (leftBy l) qs) x) ∙ h (sym (asker-later (find qs x)) ∙ e)
+    go : (b : Bool) → (askerOf (find qs x) ≡ gone → askerOf (find (map f qs) x) ≡ gone)
+        → askerOf (pickFound b (At 0 (q .asker) (q .hits)) (later (find qs x))) ≡ gone
+        → askerOf (pickFound b (At 0 (f q .asker) (f q .hits)) (later (find (map f qs) x))) ≡ gone
+    go true h e = kept q e
+    go false h e = asker-later (find (map f qs) x) ∙ h (sym (asker-later (find qs x)) ∙ e)
+
+gone-left : (l : ℕ) (q : Query) → q .asker ≡ gone → leftBy l q .asker ≡ gone
+gone-left l q e = of-choice (λ n. n ≡ gone) (eqb (q .asker) l) gone (q .asker) (λ _. refl) (λ _. e)
 
 abbrev GoneOrAbsent : Found → Type 0
 GoneOrAbsent f = (askerOf f ≡ gone) ⊎ (isFound f ≡ false)
 
 gone-later : (f : Found) → GoneOrAbsent f → GoneOrAbsent (later f)
 gone-later Absent h = h
-gone-later (At n a) h = h
+gone-later (At n a k) h = h
 
 gone-take : (n : ℕ) (x : Number) (qs : List Query) → askerOf (find qs x) ≡ gone → GoneOrAbsent (find (take n qs) x)
 unfolding find
@@ -52,14 +58,14 @@ gone-take (suc n) x [] e = inr refl
 gone-take (suc n) x (q ∷ qs) e = go (sameNumber (q .number) x) (gone-take n x qs) e
   where
     go : (b : Bool) → (askerOf (find qs x) ≡ gone → GoneOrAbsent (find (take n qs) x))
-        → askerOf (pickFound b (At 0 (q .asker)) (later (find qs x))) ≡ gone
-        → GoneOrAbsent (pickFound b (At 0 (q .asker)) (later (find (take n qs) x)))
+        → askerOf (pickFound b (At 0 (q .asker) (q .hits)) (later (find qs x))) ≡ gone
+        → GoneOrAbsent (pickFound b (At 0 (q .asker) (q .hits)) (later (find (take n qs) x)))
     go true h e = inl e
     go false h e = gone-later (find (take n qs) x) (h (sym (asker-later (find qs x)) ∙ e))
 
 found-gone : (f : Found) → isFound f ≡ false → askerOf f ≡ gone → ⊥
 found-gone Absent u e = absurd (omega arith)
-found-gone (At n a) u e = clash refl u
+found-gone (At n a h) u e = clash refl u
 
 -- a number that is remembered is not taken
 gone-asked : (n : ℕ) (x y : Number) (who : ℕ) (qs : List Query) → isFound (find qs y) ≡ false
@@ -68,7 +74,7 @@ unfolding find
 gone-asked n x y who qs u e = go (sameNumber y x) refl
   where
     go : (b : Bool) → sameNumber y x ≡ b
-        → GoneOrAbsent (pickFound (sameNumber y x) (At 0 who) (later (find (take n qs) x)))
+        → GoneOrAbsent (pickFound (sameNumber y x) (At 0 who 0) (later (find (take n qs) x)))
     go true z = absurd (found-gone (find qs y) u (ap (λ (k : Number). askerOf (find qs k)) (same-number y x z) ∙ e))
     go false z = rw z (gone-later (find (take n qs) x) (gone-take n x qs e))
 
@@ -92,15 +98,20 @@ module _ (base : List Query) (x : Number) where
       let w′ : World = step w c in
       let v′ : Invariant base w′ = goes-on base w v c in
       let was : askerOf (found w) ≡ gone = looked-up base w v x .asker ∙ ap askerNow e in
-      let now : SameLookUp (found w′) (from w′) = looked-up base w′ v′ x in
+      let now : SameLookUp (found w′) (from w′) (hitsSince (w′ .log) base x) = looked-up base w′ v′ x in
       ⊎-elim
       (λ q. inl (gone-of (from w′) (λ l n f. v′ .since (λ _. false) capacity x l n f .below) (sym (now .asker) ∙ q)))
       (λ q. inr (unknown-of (from w′) (sym (now .found) ∙ q)))
       (⊎-elim
       (λ t. rw (t .memory) (gone-asked 511 x (broughtNumber c) (broughtBy c) (remembered (w .state)) (t .unseen) was))
       (⊎-elim
-      (λ t. inl (rw (t .memory) (gone-left (t .line) x (remembered (w .state)) was)))
-      (λ t. inl (rw (t .memory) was)))
+      (λ t. inl
+      (rw (t .memory) (gone-map (leftBy (t .line)) (λ _. refl) (gone-left (t .line)) x (remembered (w .state))
+      was)))
+      (⊎-elim
+      (λ t. inl (rw (t .memory) (gone-map (hitBy (broughtNumber c)) (λ _. refl) (λ _ g. g) x (remembered (w .state))
+      was)))
+      (λ t. inl (rw (t .memory) was))))
       (call-effect w (v .sized) (v .order) c .does))
 
   gone-list : (w : World) → Invariant base w → (cs : List Call) → from w ≡ Gone

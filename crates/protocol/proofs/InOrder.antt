@@ -15,7 +15,7 @@ use Rattle.laws.proofs.Words.{and-iff, or-iff, eqb-iff}
 use Rattle.tables.specs.Tables.{none, tableInOrder}
 use Rattle.protocol.specs.declared.Line.{Line}
 use Rattle.protocol.specs.State.{Station, remembered, lineAt}
-use Rattle.protocol.specs.Memory.{capacity, noTwice, askerFits, memoryInOrder}
+use Rattle.protocol.specs.Memory.{capacity, noTwice, askerFits, hitsFit, memoryInOrder}
 use Rattle.protocol.specs.Lines.{nowhere, pongCapacity}
 use Rattle.protocol.specs.Order.{emptyWhenClosed, lowHops, lineInOrder, linesInOrder, inOrder}
 use Rattle.protocol.specs.InOrderWords.{AskerWords}
@@ -36,6 +36,7 @@ memoryTests s =
     ∷ ltb (s .memory .next) capacity
     ∷ noTwice (remembered s)
     ∷ all (λ q. fitsIn s (q .asker)) (remembered s)
+    ∷ all (λ q. hitsFit (q .hits)) (remembered s)
     ∷ []
 
 abbrev lineTests : ℕ → Line → List Bool
@@ -52,6 +53,7 @@ pub record StateFacts (s : Station) : Type 0 where
   pub next : ltb (s .memory .next) capacity ≡ true
   pub twice : noTwice (remembered s) ≡ true
   pub askers : all (λ q. fitsIn s (q .asker)) (remembered s) ≡ true
+  pub hits : all (λ q. hitsFit (q .hits)) (remembered s) ≡ true
   pub lines : all (lineInOrder (s .room)) (s .lines) ≡ true
 
 pub record LineFacts (room : ℕ) (x : Line) : Type 0 where
@@ -70,6 +72,7 @@ state-facts s e =
       next = h .1 .0;
       twice = h .1 .1 .0;
       askers = h .1 .1 .1 .0;
+      hits = h .1 .1 .1 .1 .0;
       lines = and-snd (every (memoryTests s)) (linesInOrder (s .room) (s .lines)) e;
     }
 
@@ -77,7 +80,7 @@ pub state-order : (s : Station) → StateFacts s → inOrder s ≡ true
 unfolding inOrder memoryInOrder
 state-order s h =
     and-intro (every (memoryTests s)) (linesInOrder (s .room) (s .lines))
-    (every-of (memoryTests s) (h .count, (h .next, (h .twice, (h .askers, tt)))))
+    (every-of (memoryTests s) (h .count, (h .next, (h .twice, (h .askers, (h .hits, tt))))))
     (h .lines)
 
 pub line-facts : (room : ℕ) (x : Line) → lineInOrder room x ≡ true → LineFacts room x

@@ -26,7 +26,7 @@ use Rattle.tables.proofs.Answers.{power-of, is-power}
 use Rattle.protocol.specs.declared.Pong.{Pong}
 use Rattle.protocol.specs.declared.Line.{Line}
 use Rattle.protocol.specs.State.{Station, remembered, lineAt}
-use Rattle.protocol.specs.Memory.{Memory, sameNumber, Query, queryAt, queriesIn, noTwice}
+use Rattle.protocol.specs.Memory.{Memory, sameNumber, Query, queryAt, queriesIn, noTwice, hitsFit}
 use Rattle.protocol.specs.Lines.{nowhere, noPong, storedPongs}
 use Rattle.protocol.specs.Order.{emptyWhenClosed, lowHops, lineInOrder, inOrder}
 use Rattle.protocol.specs.Kept.{Sized}
@@ -329,6 +329,15 @@ module _ (s : Station) (hp : s .memory .next < 512) (hn : s .memory .count ≤ 5
         (λ h. w .1 (λ i l. asker-iff s _ .1 (h i l))),
       )
 
+  hits-iff : (all (λ x. hitsFit (x .hits)) (remembered s) ≡ true)
+      ↔ ((i : ℕ) → i < q .count → getD (q .hits) (place i) 0 ≤ 200)
+  unfolding queriesIn
+  hits-iff =
+      let w = kept-iff 512 (queryAt q) past (q .next) (q .count) hp hn (λ (x : Query). hitsFit (x .hits)) in (
+        (λ e i l. leb-true _ 200 (w .0 e i l)),
+        (λ h. w .1 (λ i l. le-leb _ 200 (h i l))),
+      )
+
 -- ---- the state
 
 words-of : (s : Station) → Sized s → inOrder s ≡ true → InOrderWords s
@@ -341,6 +350,7 @@ words-of s z e =
       next = n;
       once = once-words s n c (f .twice);
       askers = askers-iff s n c .0 (f .askers);
+      hits = hits-iff s n c .0 (f .hits);
       lines = λ l h.
           line-words (s .room) (lineAt s l)
           (all-getD (lineInOrder (s .room)) (s .lines) l nowhere (f .lines) (omega (arith, z .eight)));
@@ -354,6 +364,7 @@ order-of s z w =
       next = lt-ltb (s .memory .next) 512 (w .next);
       twice = once-is s (w .next) (w .count) (w .once);
       askers = askers-iff s (w .next) (w .count) .1 (w .askers);
+      hits = hits-iff s (w .next) (w .count) .1 (w .hits);
       lines =
           all-each (lineInOrder (s .room)) nowhere (s .lines)
           (λ l h. line-is (s .room) (lineAt s l) (w .lines l (omega (arith, z .eight))));

@@ -20,9 +20,9 @@ use Rattle.tables.proofs.OrderLaws.{keeps-order}
 use Rattle.tables.proofs.BoundLaws.{all-replicate}
 use Rattle.protocol.specs.declared.Line.{Line}
 use Rattle.protocol.specs.declared.Pong.{Pong}
-use Rattle.protocol.specs.Memory.{capacity, here, Query, numberIn, Number, noTwice, left}
-use Rattle.protocol.specs.Memory.{Memory, queriesIn, remember}
-use Rattle.protocol.specs.State.{Station, stationOf, remembered, seen, lineAt, withLine, withMemory}
+use Rattle.protocol.specs.Memory.{capacity, here, Query, numberIn, Number, noTwice, hitsFit, left}
+use Rattle.protocol.specs.Memory.{Memory, queriesIn, placeBehind, remember, raise}
+use Rattle.protocol.specs.State.{Station, stationOf, remembered, seen, lookedUp, lineAt, withLine, withMemory}
 use Rattle.protocol.specs.Lines.{lineCount, emptyLine, nowhere, withTable, pingedAt, withPong}
 use Rattle.protocol.specs.Lines.{pongCapacity, pongHops, storedPongs, partOf}
 use Rattle.protocol.specs.Order.{lineInOrder, inOrder}
@@ -33,15 +33,21 @@ use Rattle.protocol.specs.Calls.{freshRoom, freshLines, freshMemory, fre
 use Rattle.protocol.specs.Calls.{closedState, closing, updateStep, arriving, ownAnswer, ownTaken, asking}
 use Rattle.protocol.specs.Runs.{Call, Open, Close, Message, Ask, lent, outcomeOf, step}
 use Rattle.protocol.specs.Kept.{sizedLine, Sized, Kept, FreshInOrder, OrderKept, OrderKeptByLists, asked, leftBy}
+use Rattle.protocol.specs.Kept.{hitBy}
 use Rattle.protocol.proofs.Outcomes.{of-refused, openingIn, closingIn, is-closed, LetIn, asked-in}
 use Rattle.protocol.proofs.ByType.{pongIn, queryIn, heldAfter, updateDone, of-types, of-message}
 use Rattle.protocol.proofs.InOrder.{fitsIn, asker-iff, StateFacts, LineFacts, state-facts, state-order}
 use Rattle.protocol.proofs.InOrder.{line-order, facts-at}
 use Rattle.protocol.proofs.Memory.{remembered-newest, remembered-left, stored-newest}
-use Rattle.protocol.proofs.Memory.{seen-any, noTwice-take, noTwice-new, noTwice-left}
+use Rattle.protocol.proofs.Memory.{seen-any, noTwice-take, noTwice-new, noTwice-map}
+use Rattle.protocol.proofs.Places.{hits-after, remembered-hit}
+use Rattle.protocol.proofs.Answered.{FoundFew, found-few}
 
 abbrev askerIn : Station → Query → Bool
 askerIn s q = fitsIn s (q .asker)
+
+abbrev fewHits : Query → Bool
+fewHits q = hitsFit (q .hits)
 
 -- one line's record is set: the askers still fit where an open line stays open
 module _ (s : Station) (z : Sized s) (o : inOrder s ≡ true) (l : ℕ) (l≤7 : l ≤ 7) (x : Line) where
@@ -76,6 +82,7 @@ module _ (s : Station) (z : Sized s) (o : inOrder s ≡ true) (l : ℕ) (l≤7 :
           twice = h .twice;
           askers = all-weaken (askerIn s) (askerIn (withLine s l x)) (remembered s) (λ q. fits-after g (q .asker))
               (h .askers);
+          hits = h .hits;
           lines = all-set (lineInOrder (s .room)) (s .lines) l x (h .lines) (line-order (s .room) x f);
         });
         sized = record {
@@ -83,6 +90,7 @@ module _ (s : Station) (z : Sized s) (o : inOrder s ≡ true) (l : ℕ) (l≤7 :
           lo = z .lo;
           hi = z .hi;
           asker = z .asker;
+          hits = z .hits;
           pongs = all-set sizedLine (s .lines) l x (z .pongs) y;
         };
         room = refl;
@@ -113,6 +121,7 @@ module _ (s : Station) (z : Sized s) (o : inOrder s ≡ true) (n : Number) (who 
           askers = ap (all (askerIn s)) remembered-one
               ∙ all-take (askerIn s) capacity newest
               (and-intro (fitsIn s who) (all (askerIn s) (remembered s)) f (h .askers));
+          hits = ap (all fewHits) remembered-one ∙ all-take fewHits capacity newest (h .hits);
           lines = h .lines;
         });
         sized = record {
@@ -120,6 +129,35 @@ module _ (s : Station) (z : Sized s) (o : inOrder s ≡ true) (n : Number) (who 
           lo = length-set (q .lo) (q .next % capacity) (n .lo) ∙ z .lo;
           hi = length-set (q .hi) (q .next % capacity) (n .hi) ∙ z .hi;
           asker = length-set (q .asker) (q .next % capacity) who ∙ z .asker;
+          hits = length-set (q .hits) (q .next % capacity) 0 ∙ z .hits;
+          pongs = z .pongs;
+        };
+        room = refl;
+      }
+
+-- a hit that is passed back or delivered: its query's count is raised
+module _ (s : Station) (z : Sized s) (o : inOrder s ≡ true) (n : Number) (w : FoundFew s n) where
+  kept-hit : Kept s (withMemory s (raise capacity (s .memory) (lookedUp s n .after)))
+  unfolding raise
+  kept-hit =
+      let q : Memory = s .memory in
+      let h : StateFacts s = state-facts s o in
+      let e = remembered-hit s n (lookedUp s n .after) (w .who) (w .hits) z (h .twice) (w .found) (w .few) in
+      record {
+        order = state-order (withMemory s (raise capacity q (lookedUp s n .after))) (record {
+          count = h .count;
+          next = h .next;
+          twice = ap noTwice e ∙ noTwice-map (hitBy n) (λ _. refl) (remembered s) ∙ h .twice;
+          askers = ap (all (askerIn s)) e ∙ all-map (hitBy n) (askerIn s) (remembered s) ∙ h .askers;
+          hits = hits-after s z (lookedUp s n .after) (h .hits);
+          lines = h .lines;
+        });
+        sized = record {
+          eight = z .eight;
+          lo = z .lo;
+          hi = z .hi;
+          asker = z .asker;
+          hits = length-set (q .hits) (placeBehind capacity q (lookedUp s n .after)) _ ∙ z .hits;
           pongs = z .pongs;
         };
         room = refl;
@@ -149,11 +187,12 @@ module _ (s : Station) (z : Sized s) (o : inOrder s ≡ true) (l : ℕ) where
         order = state-order (closedState s l) (record {
           count = h .count;
           next = h .next;
-          twice = ap noTwice e ∙ noTwice-left l (remembered s) ∙ h .twice;
+          twice = ap noTwice e ∙ noTwice-map (leftBy l) (λ _. refl) (remembered s) ∙ h .twice;
           askers = ap (all (askerIn (closedState s l))) e
               ∙ all-map (leftBy l) (askerIn (closedState s l)) (remembered s)
               ∙ all-weaken (askerIn s) (λ q. askerIn (closedState s l) (leftBy l q)) (remembered s)
               (λ q. fits-left _ (q .asker)) (h .askers);
+          hits = ap (all fewHits) e ∙ all-map (leftBy l) fewHits (remembered s) ∙ h .hits;
           lines = all-set (lineInOrder (s .room)) (s .lines) l x (h .lines)
               (line-order (s .room) x (empty-facts (s .room) false));
         });
@@ -162,6 +201,7 @@ module _ (s : Station) (z : Sized s) (o : inOrder s ≡ true) (l : ℕ) where
           lo = z .lo;
           hi = z .hi;
           asker = length-map (s .memory .asker) (left l) ∙ z .asker;
+          hits = z .hits;
           pongs = all-set sizedLine (s .lines) l x (z .pongs) refl;
         };
         room = refl;
@@ -279,7 +319,7 @@ module _ (s : Station) (z : Sized s) (o : inOrder s ≡ true) where
       (λ _. kept-pong s z o l m route d (t .clock))
       (λ _. kept-update s z o l m route d)
       (λ _. kept-query s z o l m route d limit)
-      (λ _ _. unchanged))
+      (λ _ n. kept-hit s z o (numberIn m) (found-few s o m n)))
 
   kept-own : (limit : ℕ) (number text : List ℕ) (out : ℕ) (route : List ℕ)
       → Kept s (asking limit s number text out route .state)
@@ -321,6 +361,7 @@ fresh-order room =
       next = refl;
       twice = refl;
       askers = refl;
+      hits = refl;
       lines = all-replicate (lineInOrder room) lineCount (emptyLine false)
           (line-order room (emptyLine false) (empty-facts room false));
     })
@@ -330,7 +371,8 @@ unfolding fresh
 fresh-in-order n =
     record {
       order = fresh-order (freshRoom n);
-      sized = record { eight = refl; lo = refl; hi = refl; asker = refl; pongs = refl };
+      sized = record { eight = refl; lo = refl; hi = refl; asker = refl; hits = refl; pongs = refl };
       room = refl;
       closed = λ l h. ap (λ (x : Line). x .live) (getD-replicate lineCount l (emptyLine false) nowhere h);
+      hits = refl;
     }

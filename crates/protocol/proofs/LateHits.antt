@@ -16,7 +16,7 @@ use Rattle.tables.specs.Admission.{withholds}
 use Rattle.protocol.specs.State.{remembered}
 use Rattle.protocol.specs.declared.Own.{Own}
 use Rattle.protocol.specs.Memory.{Memory, memoryOf, capacity, here, Number, numberIn, queriesIn, Absent, At}
-use Rattle.protocol.specs.Memory.{find, remember, noTwice, memoryInOrder}
+use Rattle.protocol.specs.Memory.{find, remember, raise, noTwice, memoryInOrder}
 use Rattle.protocol.specs.Outcomes.{Terms, termsOf}
 use Rattle.protocol.specs.Lines.{storedPongs}
 use Rattle.protocol.specs.Order.{lineInOrder, inOrder}
@@ -78,7 +78,7 @@ record LateHits : Type 0 where
 
 late-hits : LateHits
 unfolding own query hit terms by lateHits late keptPlaces message keywordsOf pieces filled hashOf word goodLength
-    tableInOrder withholds queriesIn find remember noTwice memoryInOrder storedPongs lineInOrder inOrder untilZero
+    tableInOrder withholds queriesIn find remember raise noTwice memoryInOrder storedPongs lineInOrder inOrder untilZero
     queryStep hitStep fresh opening closing early byType arriving ownAnswer asking allTaken
 late-hits =
     record {
@@ -102,7 +102,7 @@ late-routed = demand2 (fresh 32 .state) (replicate 32 0) lateHits (fresh-in-orde
 
 -- a memory of 512 queries asked here, of the numbers 1 to 512, number 1 the oldest
 full : Memory
-full = memoryOf (counting 512 1) (replicate 512 0) (replicate 512 here) 512 0
+full = memoryOf (counting 512 1) (replicate 512 0) (replicate 512 here) (replicate 512 0) 512 0
 
 small : ℕ → Number
 small n = record { lo = n; hi = 0 }
@@ -112,9 +112,9 @@ more = remember capacity full (small 600) here
 
 -- the oldest of 512 is known; after one more it is not, and the next is the oldest
 record Oldest : Type 0 where
-  first : find (queriesIn capacity full) (small 1) ≡ At 511 here
+  first : find (queriesIn capacity full) (small 1) ≡ At 511 here 0
   forgotten : find (queriesIn capacity more) (small 1) ≡ Absent
-  next : find (queriesIn capacity more) (small 2) ≡ At 511 here
+  next : find (queriesIn capacity more) (small 2) ≡ At 511 here 0
 
 oldest : Oldest
 unfolding counting full small more keptPlaces queriesIn find remember

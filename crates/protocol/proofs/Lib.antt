@@ -8,6 +8,7 @@ pub mod Outcomes
 pub mod InOrder
 pub mod InOrderWords
 pub mod Places
+pub mod Answered
 pub mod Memory
 pub mod Kept
 pub mod Refused

@@ -7,10 +7,10 @@ use native.Mathlib.Omega.{arith}
 use mathlib.Core.Path.{_≡_, refl, sym, ap, ap₂, _∙_}
 use mathlib.Core.Bool.{Bool, true, false, not, _&&_, _||_}
 use mathlib.Core.List.{List, [], _∷_, map}
-use lib.Dec.{ltb}
+use lib.Dec.{eqb, ltb}
 use lib.ListN.{getD, take}
 use lib.Seq.{getD-set-same, getD-set-other}
-use borrow.Author.Tests.{ltb-true, not-true}
+use borrow.Author.Tests.{ltb-true, eqb-true, eq-eqb, not-true}
 use Rattle.laws.specs.Tests.{any}
 use Rattle.laws.specs.Ring.{keptPlaces}
 use Rattle.laws.proofs.Refusals.{and-fst, and-snd, any-take}
@@ -21,6 +21,16 @@ use Rattle.protocol.specs.Memory.{Found, Absent, At, later, pickFound, f
 use Rattle.protocol.specs.declared.Pong.{Pong}
 use Rattle.protocol.specs.Lines.{withPong, storedPongs}
 use Rattle.protocol.specs.Kept.{asked, leftBy, RemembersNewest, RemembersLeft, StoresNewest}
+
+-- one number, by its halves
+pub same-number : (x y : Number) → sameNumber x y ≡ true → x ≡ y
+same-number x y e =
+    let a : x .lo ≡ y .lo = eqb-true (x .lo) (y .lo) (and-fst (eqb (x .lo) (y .lo)) (eqb (x .hi) (y .hi)) e) in
+    let b : x .hi ≡ y .hi = eqb-true (x .hi) (y .hi) (and-snd (eqb (x .lo) (y .lo)) (eqb (x .hi) (y .hi)) e) in
+    λ i. record { lo = a i; hi = b i }
+
+pub number-itself : (x : Number) → sameNumber x x ≡ true
+number-itself x = rw (eq-eqb (x .lo) (x .lo) refl) (eq-eqb (x .hi) (x .hi) refl)
 
 -- the place at which a ring whose next place is within its capacity keeps the next
 at-next : (n next : ℕ) → next < suc n → next % suc n ≡ next
@@ -36,6 +46,7 @@ remembered-newest s n who z hc hn =
         hi = getD-set-same (q .hi) (q .next) (n .hi) 0 (omega (arith, z .hi)) i;
       };
       asker = getD-set-same (q .asker) (q .next) who 0 (omega (arith, z .asker)) i;
+      hits = getD-set-same (q .hits) (q .next) 0 0 (omega (arith, z .hits)) i;
     }))
     (rw (at-next 511 (q .next) hn) (λ x ne i. record {
       number = record {
@@ -43,6 +54,7 @@ remembered-newest s n who z hc hn =
         hi = getD-set-other (q .hi) (q .next) x (n .hi) 0 ne i;
       };
       asker = getD-set-other (q .asker) (q .next) x who 0 ne i;
+      hits = getD-set-other (q .hits) (q .next) x 0 0 ne i;
     }))
   where
     q : Memory
@@ -56,6 +68,7 @@ remembered-left s l z =
     record {
       number = queryAt (s .memory) x .number;
       asker = map-getD (left l) (s .memory .asker) x 0 0 (omega (arith, z .asker)) i;
+      hits = queryAt (s .memory) x .hits;
     })
     (keptPlaces capacity (s .memory .next) (s .memory .count))
     (kept-below capacity (omega arith) (s .memory .next) (s .memory .count))
@@ -78,16 +91,16 @@ find-any (q ∷ qs) n =
   where
     late : (f : Found) → isFound (later f) ≡ isFound f
     late Absent = refl
-    late (At k a) = refl
+    late (At k a h) = refl
 
-    here : (b : Bool) (f : Found) → isFound (pickFound b (At 0 (q .asker)) (later f)) ≡ (b || isFound f)
+    here : (b : Bool) (f : Found) → isFound (pickFound b (At 0 (q .asker) (q .hits)) (later f)) ≡ (b || isFound f)
     here true f = refl
     here false f = late f
 
 pub seen-any : (s : Station) (n : Number) → seen s n ≡ any (λ q. sameNumber (q .number) n) (remembered s)
 seen-any s n = find-any (remembered s) n
 
--- no number twice: among the newest, after one more that was not there, and after a closing
+-- no number twice: among the newest, after one more that was not there, and where only other parts of queries change
 pub noTwice-take : (k : ℕ) (qs : List Query) → noTwice qs ≡ true → noTwice (take k qs) ≡ true
 unfolding noTwice
 noTwice-take zero qs h = refl
@@ -102,12 +115,16 @@ pub noTwice-new : (n : Number) (who : ℕ) (qs : List Query) → any (λ q. same
 unfolding noTwice
 noTwice-new n who qs a h = rw a h
 
-any-left : (l : ℕ) (n : Number) (qs : List Query)
-    → any (λ q. sameNumber (q .number) n) (map (leftBy l) qs) ≡ any (λ q. sameNumber (q .number) n) qs
-any-left l n [] = refl
-any-left l n (q ∷ qs) = ap (λ b. sameNumber (q .number) n || b) (any-left l n qs)
+module _ (f : Query → Query) (kept : (q : Query) → f q .number ≡ q .number) where
+  any-map : (n : Number) (qs : List Query)
+      → any (λ q. sameNumber (q .number) n) (map f qs) ≡ any (λ q. sameNumber (q .number) n) qs
+  any-map n [] = refl
+  any-map n (q ∷ qs) = ap₂ (λ (x : Number) b. sameNumber x n || b) (kept q) (any-map n qs)
 
-pub noTwice-left : (l : ℕ) (qs : List Query) → noTwice (map (leftBy l) qs) ≡ noTwice qs
-unfolding noTwice
-noTwice-left l [] = refl
-noTwice-left l (q ∷ qs) = ap₂ (λ a b. not a && b) (any-left l (q .number) qs) (noTwice-left l qs)
+  pub noTwice-map : (qs : List Query) → noTwice (map f qs) ≡ noTwice qs
+  unfolding noTwice
+  noTwice-map [] = refl
+  noTwice-map (q ∷ qs) =
+      ap₂ (λ a b. not a && b)
+      (ap (λ (x : Number). any (λ p. sameNumber (p .number) x) (map f qs)) (kept q) ∙ any-map (q .number) qs)
+      (noTwice-map qs)

@@ -16,7 +16,7 @@ use Rattle.wire.specs.Header.{numberOf}
 use Rattle.tables.proofs.BoundLaws.{all-drop}
 use Rattle.protocol.specs.Memory.{Number, numberIn}
 use Rattle.protocol.specs.Demand2.{SameBytes}
-use Rattle.protocol.proofs.Origins.{same-number}
+use Rattle.protocol.proofs.Memory.{same-number}
 
 -- as many bytes that are one number are the same bytes
 abbrev isByte : ℕ → Bool

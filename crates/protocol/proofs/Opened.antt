@@ -87,6 +87,7 @@ module _ (s : Station) (z : Sized s) (o : inOrder s ≡ true) (l : ℕ) where
         line = bare-at true (lineAt (withLine s l (emptyLine true)) l) (line-set s l (emptyLine true) (below h));
         beside = beside-set s l (emptyLine true);
         memory = refl;
+        hits = refl;
       }
 
   closed : l ≤ 7 → Renewed false l (map (goneBy l) (remembered s)) s (closedState s l)
@@ -95,6 +96,7 @@ module _ (s : Station) (z : Sized s) (o : inOrder s ≡ true) (l : ℕ) where
         line = bare-at false (lineAt (closedState s l) l) (line-set s l (emptyLine false) (below h));
         beside = record { others = line-other s l (emptyLine false); room = refl };
         memory = remembered-left s l z;
+        hits = refl;
       }
 
   pub open-routed : OpenRouted s l (opening s l)

@@ -4,32 +4,35 @@
 use Prim.Native.Nat.{ℕ, zero, suc, _≤_}
 use native.Mathlib.Omega.{arith}
 use mathlib.Core.Path.{_≡_, refl, sym, ap, ap₂, _∙_}
-use mathlib.Core.Bool.{Bool, true, false, cond, _||_, or-false, or-true}
+use mathlib.Core.Bool.{Bool, true, false, cond, not, _||_, or-false, or-true}
 use mathlib.Core.Logic.{_⊎_, inl, inr, ⊎-elim}
 use mathlib.Core.List.{List, [], _∷_, map}
 use lib.Dec.{eqb, leb, ltb}
 use lib.ListN.{length, take, length-map}
 use lib.Seq.{take-all, take-take}
-use borrow.Author.Tests.{leb-true, eqb-true, eqb-false, ne-eqb}
-use Rattle.laws.specs.Tests.{all}
+use borrow.Author.Tests.{leb-true, eqb-true, eqb-false, eq-eqb, ne-eqb, not-true}
+use Rattle.laws.specs.Tests.{any, all}
 use Rattle.laws.specs.Ring.{placesBefore, ringFits, keptPlaces}
 use Rattle.laws.proofs.Refusals.{clash, and-fst, and-snd, or-fst, or-snd, of-choice}
-use Rattle.laws.proofs.Rings.{map-take}
+use Rattle.laws.proofs.Rings.{map-take, map-map}
 use Rattle.laws.proofs.RingScan.{places-length}
 use Rattle.protocol.specs.State.{Station, remembered, lineAt}
 use Rattle.protocol.specs.Memory.{capacity, here, gone, Memory, Number, sameNumber, Query, queryAt, queriesIn}
-use Rattle.protocol.specs.Memory.{Found, Absent, At, later, pickFound, find, isFound, askerOf, noTwice, left}
+use Rattle.protocol.specs.Memory.{Found, Absent, At, later, pickFound, find, isFound, askerOf, hitsOf, noTwice}
+use Rattle.protocol.specs.Memory.{left}
 use Rattle.protocol.specs.Order.{inOrder}
 use Rattle.protocol.specs.Outcomes.{Outcome}
 use Rattle.protocol.specs.Calls.{opening}
 use Rattle.protocol.specs.Runs.{Call, Made, World, outcomeOf, step, run, start}
-use Rattle.protocol.specs.Kept.{Sized, Kept, asked, leftBy}
-use Rattle.protocol.specs.Demand2.{took, broughtNumber, broughtBy, closed, openings, Past, past}
+use Rattle.protocol.specs.Kept.{Sized, Kept, asked, leftBy, hitBy}
+use Rattle.protocol.specs.Demand2.{took, broughtNumber, broughtBy, closed, gotHit, openings, Past, past}
+use Rattle.protocol.specs.Demand2.{hitsBefore, hitsSince, standingIn}
 use Rattle.protocol.specs.Demand2.{allTaken, lastTaken, Origin, Unknown, Here, From, Gone, pickOrigin, originOf}
 use Rattle.protocol.specs.Demand2.{lookUp, origin, askerNow, standing, MemoryHistory}
 use Rattle.protocol.proofs.InOrder.{fitsIn, asker-iff, state-facts}
+use Rattle.protocol.proofs.Memory.{same-number, number-itself, seen-any}
 use Rattle.protocol.proofs.Kept.{order-kept-by-lists}
-use Rattle.protocol.proofs.Effects.{Takes, Closes, Passes, Effect, call-effect}
+use Rattle.protocol.proofs.Effects.{Takes, Closes, Answers, Passes, Effect, call-effect}
 
 -- Origins
 abbrev pub known : Origin → Bool
@@ -61,41 +64,37 @@ from-line true b k n l e q = differ (cc)
 from-line false true k n l e q = differ (cc)
 from-line false false k n l e q = (refl, refl, (cc), (cc))
 
-known-of : (a b : Bool) (k n : ℕ) → known (pickOrigin a Here (pickOrigin b Gone (From k n))) ≡ true
+pub known-of : (a b : Bool) (k n : ℕ) → known (pickOrigin a Here (pickOrigin b Gone (From k n))) ≡ true
 known-of true b k n = refl
 known-of false true k n = refl
 known-of false false k n = refl
 
--- one number, by its halves
-pub same-number : (x y : Number) → sameNumber x y ≡ true → x ≡ y
-same-number x y e =
-    let a : x .lo ≡ y .lo = eqb-true (x .lo) (y .lo) (and-fst (eqb (x .lo) (y .lo)) (eqb (x .hi) (y .hi)) e) in
-    let b : x .hi ≡ y .hi = eqb-true (x .hi) (y .hi) (and-snd (eqb (x .lo) (y .lo)) (eqb (x .hi) (y .hi)) e) in
-    λ i. record { lo = a i; hi = b i }
-
 -- a look-up in the remembered queries is one in the log
-pub record SameLookUp (f : Found) (o : Origin) : Type 0 where
+pub record SameLookUp (f : Found) (o : Origin) (hits : ℕ) : Type 0 where
   pub found : isFound f ≡ known o
   pub asker : askerOf f ≡ askerNow o
+  pub counted : isFound f ≡ true → hitsOf f ≡ hits
 
-same-later : (f : Found) (o : Origin) → SameLookUp f o → SameLookUp (later f) o
-same-later Absent o h = h
-same-later (At n a) o h = record { found = h .found; asker = h .asker }
+same-later : (f : Found) (o : Origin) (hits : ℕ) → SameLookUp f o hits → SameLookUp (later f) o hits
+same-later Absent o hits h = h
+same-later (At n a k) o hits h = record { found = h .found; asker = h .asker; counted = h .counted }
 
-pub same-lookUp : (ps : List Past) (x : Number) → SameLookUp (find (map standing ps) x) (lookUp ps x)
+pub same-lookUp : (hits : Number → ℕ) (ps : List Past) (x : Number)
+    → SameLookUp (find (map (standing hits) ps) x) (lookUp ps x) (hits x)
 unfolding find
-same-lookUp [] x = record { found = refl; asker = refl }
-same-lookUp (p ∷ ps) x = go (sameNumber (p .number) x) (same-lookUp ps x)
+same-lookUp hits [] x = record { found = refl; asker = refl; counted = λ e. absurd (clash e refl) }
+same-lookUp hits (p ∷ ps) x = go (sameNumber (p .number) x) refl (same-lookUp hits ps x)
   where
     rest : Found
-    rest = find (map standing ps) x
+    rest = find (map (standing hits) ps) x
 
-    go : (b : Bool) → SameLookUp rest (lookUp ps x)
-        → SameLookUp (pickFound b (At 0 (askerNow (originOf p))) (later rest)) (pickOrigin b (originOf p) (lookUp ps x))
-    go true h =
+    go : (b : Bool) → sameNumber (p .number) x ≡ b → SameLookUp rest (lookUp ps x) (hits x)
+        → SameLookUp (pickFound b (At 0 (askerNow (originOf p)) (hits (p .number))) (later rest))
+        (pickOrigin b (originOf p) (lookUp ps x)) (hits x)
+    go true e h =
         let k = known-of (eqb (p .asker) here) (eqb (p .asker) gone || p .shut) (p .asker) (p .opening) in
-        record { found = sym k; asker = refl }
-    go false h = same-later rest (lookUp ps x) h
+        record { found = sym k; asker = refl; counted = λ _. ap hits (same-number (p .number) x e) }
+    go false e h = same-later rest (lookUp ps x) (hits x) h
 
 -- a query that was remembered before the log began
 abbrev pub before : (ℕ → Bool) → Query → Past
@@ -123,33 +122,34 @@ or-turn true b c = refl
 or-turn false true c = sym (or-true c)
 or-turn false false c = sym (or-false c)
 
-module _ (l : ℕ) (h : l ≤ 7) where
+module _ (hits : Number → ℕ) (l : ℕ) (h : l ≤ 7) where
   not-here : eqb here l ≡ false
   not-here = ne-eqb here l (λ e. absurd (omega arith))
 
   standing-left : (shut shut′ : ℕ → Bool) → ((k : ℕ) → shut′ k ≡ (shut k || eqb k l)) → (x : Number) (who n : ℕ)
-      → standing (past shut′ x who n) ≡ leftBy l (standing (past shut x who n))
+      → standing hits (past shut′ x who n) ≡ leftBy l (standing hits (past shut x who n))
   standing-left shut shut′ e x who n =
       let q : askerNow (originOf (past shut′ x who n)) ≡ left l (askerNow (originOf (past shut x who n)))
       = ap (λ b. askerNow (pickOrigin (eqb who here) Here (pickOrigin (eqb who gone || b) Gone (From who n)))) (e who)
       ∙ asker-left l who n not-here (eqb who here) (eqb who gone) (shut who) in
-      λ i. record { number = x; asker = q i }
+      λ i. record { number = x; asker = q i; hits = hits x }
 
   base-left : (shut shut′ : ℕ → Bool) → ((k : ℕ) → shut′ k ≡ (shut k || eqb k l)) → (base : List Query)
-      → map standing (map (before shut′) base) ≡ map (leftBy l) (map standing (map (before shut) base))
+      → map (standing hits) (map (before shut′) base) ≡ map (leftBy l) (map (standing hits) (map (before shut) base))
   base-left shut shut′ e [] = refl
   base-left shut shut′ e (q ∷ qs) =
       ap₂ _∷_ (standing-left shut shut′ e (q .number) (q .asker) 0) (base-left shut shut′ e qs)
 
   -- a choice between two histories
-  choice-left : (b : Bool) (p p′ : Past) (xs xs′ ys ys′ : List Past) → standing p′ ≡ leftBy l (standing p)
-      → map standing xs′ ≡ map (leftBy l) (map standing xs) → map standing ys′ ≡ map (leftBy l) (map standing ys)
-      → map standing (cond b (p′ ∷ xs′) ys′) ≡ map (leftBy l) (map standing (cond b (p ∷ xs) ys))
+  choice-left : (b : Bool) (p p′ : Past) (xs xs′ ys ys′ : List Past) → standing hits p′ ≡ leftBy l (standing hits p)
+      → map (standing hits) xs′ ≡ map (leftBy l) (map (standing hits) xs) → map (standing hits) ys′ ≡ map (leftBy l)
+      (map (standing hits) ys)
+      → map (standing hits) (cond b (p′ ∷ xs′) ys′) ≡ map (leftBy l) (map (standing hits) (cond b (p ∷ xs) ys))
   choice-left true p p′ xs xs′ ys ys′ e f g = ap₂ _∷_ e f
   choice-left false p p′ xs xs′ ys ys′ e f g = g
 
   taken-left : (base : List Query) (ds : List Made) (shut shut′ : ℕ → Bool) → ((k : ℕ) → shut′ k ≡ (shut k || eqb k l))
-      → map standing (allTaken shut′ ds base) ≡ map (leftBy l) (map standing (allTaken shut ds base))
+      → map (standing hits) (allTaken shut′ ds base) ≡ map (leftBy l) (map (standing hits) (allTaken shut ds base))
   unfolding allTaken
   taken-left base [] shut shut′ e = base-left shut shut′ e base
   taken-left base (d ∷ ds) shut shut′ e =
@@ -193,7 +193,7 @@ AllSince base w =
 pub record Invariant (base : List Query) (w : World) : Type 0 where
   pub sized : Sized (w .state)
   pub order : inOrder (w .state) ≡ true
-  pub memory : remembered (w .state) ≡ map standing (lastTaken capacity (w .log) base)
+  pub memory : remembered (w .state) ≡ standingIn capacity (w .log) base
   pub since : AllSince base w
 
 pub no-from : (n : ℕ) (x : Number) (l e : ℕ) → lookUp (take n []) x ≡ From l e → ⊥
@@ -244,19 +244,47 @@ module _ (s : Station) (area : List ℕ) (shut : ℕ → Bool) (x : Number) (l e
       (since-start n ps (and-snd (fits p) (all fits ps) f))
       (pick-from (sameNumber (p .number) x) (originOf (before shut p)) (lookUp (take n (map (before shut) ps)) x) l e q)
 
-standing-now : (x : Number) (who n : ℕ) → asked x who ≡ standing (past (λ l. false) x who n)
-standing-now x who n =
+-- one that has just been taken, or that was remembered at the start, with its hits
+standing-now : (hits : Number → ℕ) (x : Number) (who n k : ℕ) → hits x ≡ k
+    → record { number = x; asker = who; hits = k } ≡ standing hits (past (λ l. false) x who n)
+standing-now hits x who n k h =
     let q : who ≡ askerNow (originOf (past (λ l. false) x who n)) = go (eqb who here) (eqb who gone) refl refl in
-    λ i. record { number = x; asker = q i }
+    λ i. record { number = x; asker = q i; hits = sym h i }
   where
     go : (a b : Bool) → eqb who here ≡ a → eqb who gone ≡ b → who ≡ askerNow (originOf (past (λ l. false) x who n))
     go true b e f = rw e (eqb-true who here e)
     go false true e f = rw (e, f) (eqb-true who gone f)
     go false false e f = rw (e, f)
 
-standing-base : (qs : List Query) → qs ≡ map standing (map (before (λ l. false)) qs)
-standing-base [] = refl
-standing-base (q ∷ qs) = ap₂ _∷_ (standing-now (q .number) (q .asker) 0) (standing-base qs)
+standing-base : (hits : Number → ℕ) (qs : List Query) → all (λ q. eqb (hits (q .number)) (q .hits)) qs ≡ true
+    → qs ≡ map (standing hits) (map (before (λ l. false)) qs)
+standing-base hits [] h = refl
+standing-base hits (q ∷ qs) h =
+    let same : Query → Bool = λ p. eqb (hits (p .number)) (p .hits) in
+    ap₂ _∷_
+    (standing-now hits (q .number) (q .asker) 0 (q .hits)
+    (eqb-true (hits (q .number)) (q .hits) (and-fst (same q) (all same qs) h)))
+    (standing-base hits qs (and-snd (same q) (all same qs) h))
+
+-- in a list without a number twice, the count of a number is that of the query that has it
+counts-shifted : (q : Query) (base qs : List Query) → any (λ p. sameNumber (p .number) (q .number)) qs ≡ false
+    → all (λ p. eqb (hitsBefore base (p .number)) (p .hits)) qs ≡ true
+    → all (λ p. eqb (hitsBefore (q ∷ base) (p .number)) (p .hits)) qs ≡ true
+counts-shifted q base [] u h = refl
+counts-shifted q base (p ∷ ps) u h =
+    let same : Query → Bool = λ p. sameNumber (p .number) (q .number) in
+    let is : Query → Bool = λ p. eqb (hitsBefore base (p .number)) (p .hits) in
+    rw (or-fst (same p) (any same ps) u, and-fst (is p) (all is ps) h)
+    (counts-shifted q base ps (or-snd (same p) (any same ps) u) (and-snd (is p) (all is ps) h))
+
+counts-own : (qs : List Query) → noTwice qs ≡ true → all (λ q. eqb (hitsBefore qs (q .number)) (q .hits)) qs ≡ true
+unfolding noTwice
+counts-own [] h = refl
+counts-own (q ∷ qs) h =
+    let others : Bool = any (λ p. sameNumber (p .number) (q .number)) qs in
+    rw (number-itself (q .number), eq-eqb (q .hits) (q .hits) refl)
+    (counts-shifted q qs qs (not-true others (and-fst (not others) (noTwice qs) h))
+    (counts-own qs (and-snd (not others) (noTwice qs) h)))
 
 pub remembered-length : (s : Station) → length (remembered s) ≤ capacity
 unfolding queriesIn keptPlaces
@@ -276,16 +304,37 @@ begins s area z o =
     record {
       sized = z;
       order = o;
-      memory = standing-base (remembered s) ∙ ap (map standing) (sym (take-all capacity ps n));
+      memory = standing-base (hitsBefore (remembered s)) (remembered s)
+          (counts-own (remembered s) (state-facts s o .twice))
+          ∙ ap (map (standing (hitsBefore (remembered s)))) (sym (take-all capacity ps n));
       since = λ shut n x l e q. since-start s area shut x l e n (remembered s) (state-facts s o .askers) q;
     }
 
 -- one call more
-push : (n : ℕ) (q : Query) (p : Past) (ps : List Past) → q ≡ standing p
-    → take (suc n) (q ∷ map standing (take (suc n) ps)) ≡ map standing (take (suc n) (p ∷ ps))
-push n q p ps e =
+push : (hits : Number → ℕ) (n : ℕ) (q : Query) (p : Past) (ps : List Past) → q ≡ standing hits p
+    → take (suc n) (q ∷ map (standing hits) (take (suc n) ps)) ≡ map (standing hits) (take (suc n) (p ∷ ps))
+push hits n q p ps e =
     ap₂ _∷_ e
-    (sym (map-take standing n (take (suc n) ps)) ∙ ap (map standing) (take-take n (suc n) ps (omega arith)))
+    (sym (map-take (standing hits) n (take (suc n) ps))
+    ∙ ap (map (standing hits)) (take-take n (suc n) ps (omega arith)))
+
+-- the hits of queries with other numbers than x
+others-hits : (hits hits′ : Number → ℕ) (x : Number)
+    → ((y : Number) → sameNumber y x ≡ false → hits′ y ≡ hits y) → (ps : List Past)
+    → any (λ q. sameNumber (q .number) x) (map (standing hits) ps) ≡ false
+    → map (standing hits) ps ≡ map (standing hits′) ps
+others-hits hits hits′ x same [] u = refl
+others-hits hits hits′ x same (p ∷ ps) u =
+    let is : Query → Bool = λ q. sameNumber (q .number) x in
+    let here′ : sameNumber (p .number) x ≡ false
+    = or-fst (sameNumber (p .number) x) (any is (map (standing hits) ps)) u in
+    ap₂ _∷_
+    (λ i. record {
+      number = p .number;
+      asker = askerNow (originOf p);
+      hits = sym (same (p .number) here′) i;
+    })
+    (others-hits hits hits′ x same ps (or-snd (sameNumber (p .number) x) (any is (map (standing hits) ps)) u))
 
 module _ (base : List Query) (w : World) (v : Invariant base w) (c : Call) where
   abbrev s : Station
@@ -305,7 +354,21 @@ module _ (base : List Query) (w : World) (v : Invariant base w) (c : Call) where
   taken shut = allTaken shut (w .log) base
 
   abbrev Remembers : Type 0
-  Remembers = remembered (o .state) ≡ map standing (lastTaken capacity (d ∷ w .log) base)
+  Remembers = remembered (o .state) ≡ standingIn capacity (d ∷ w .log) base
+
+  -- the hits that each has had, before the call and after it
+  abbrev hits : Number → ℕ
+  hits = hitsSince (w .log) base
+
+  abbrev hits′ : Number → ℕ
+  hits′ = hitsSince (d ∷ w .log) base
+
+  -- a call that takes and answers nothing leaves them
+  same-hits : took c (o .answer) ≡ false → ((x : Number) → gotHit c (o .answer) x ≡ false) → hits ≡ hits′
+  same-hits t u = λ i x. sym (hits-kept x) i
+    where
+      hits-kept : (x : Number) → hits′ x ≡ hits x
+      hits-kept x = rw (t, u x)
 
   eff : Effect s c o
   eff = call-effect w (v .sized) (v .order) c
@@ -326,10 +389,24 @@ module _ (base : List Query) (w : World) (v : Invariant base w) (c : Call) where
     took-memory : Remembers
     took-memory =
         t .memory
-        ∙ ap (λ qs. take capacity (asked (broughtNumber c) (broughtBy c) ∷ qs)) (v .memory)
-        ∙ push 511 (asked (broughtNumber c) (broughtBy c)) (newest base d (w .log) (λ l. false)) (taken (λ l. false))
-        (standing-now (broughtNumber c) (broughtBy c) (openings (broughtBy c) (w .log)))
-        ∙ ap (λ ps. map standing (take capacity ps)) (sym (taken-took base d (w .log) (λ l. false) (t .taken)))
+        ∙ ap (λ qs. take capacity (asked (broughtNumber c) (broughtBy c) ∷ qs))
+        (v .memory ∙ others-hits hits hits′ (broughtNumber c) other (take capacity (taken (λ l. false))) unseen)
+        ∙ push hits′ 511 (asked (broughtNumber c) (broughtBy c)) (newest base d (w .log) (λ l. false))
+        (taken (λ l. false))
+        (standing-now hits′ (broughtNumber c) (broughtBy c) (openings (broughtBy c) (w .log)) 0 none)
+        ∙ ap (λ ps. map (standing hits′) (take capacity ps))
+        (sym (taken-took base d (w .log) (λ l. false) (t .taken)))
+      where
+        none : hits′ (broughtNumber c) ≡ 0
+        none = rw (t .taken, number-itself (broughtNumber c))
+
+        other : (y : Number) → sameNumber y (broughtNumber c) ≡ false → hits′ y ≡ hits y
+        other y e = rw (t .taken, e, t .unanswered y)
+
+        unseen : any (λ q. sameNumber (q .number) (broughtNumber c))
+            (map (standing hits) (take capacity (taken (λ l. false)))) ≡ false
+        unseen = ap (any (λ q. sameNumber (q .number) (broughtNumber c))) (sym (v .memory))
+            ∙ sym (seen-any s (broughtNumber c)) ∙ t .unseen
 
     carried : (shut : ℕ → Bool) (l e : ℕ) → Since shut w l e → Since shut (step w c) l e
     carried shut l e h = carry shut shut l e h (h .unshut) (t .unclosed l)
@@ -353,18 +430,45 @@ module _ (base : List Query) (w : World) (v : Invariant base w) (c : Call) where
   closed-memory : Closes s c o → Remembers
   closed-memory t =
       t .memory
-      ∙ ap (map (leftBy (t .line))) (v .memory ∙ map-take standing capacity (taken (λ l. false)))
-      ∙ map-take (leftBy (t .line)) capacity (map standing (taken (λ l. false)))
-      ∙ ap (take capacity) (sym (taken-left (t .line) (t .below) base (w .log) (λ l. false) shuts (t .closes)))
-      ∙ sym (map-take standing capacity (taken shuts))
-      ∙ ap (λ ps. map standing (take capacity ps)) (sym (taken-passed base d (w .log) (λ l. false) (t .passed)))
+      ∙ ap (map (leftBy (t .line)))
+      (v .memory
+      ∙ ap (λ (f : Number → ℕ). map (standing f) (take capacity (taken (λ l. false))))
+      (same-hits (t .passed) (t .unanswered))
+      ∙ map-take (standing hits′) capacity (taken (λ l. false)))
+      ∙ map-take (leftBy (t .line)) capacity (map (standing hits′) (taken (λ l. false)))
+      ∙ ap (take capacity) (sym (taken-left hits′ (t .line) (t .below) base (w .log) (λ l. false) shuts (t .closes)))
+      ∙ sym (map-take (standing hits′) capacity (taken shuts))
+      ∙ ap (λ ps. map (standing hits′) (take capacity ps))
+      (sym (taken-passed base d (w .log) (λ l. false) (t .passed)))
+
+  -- no line closed
+  same-taken : took c (o .answer) ≡ false → ((l : ℕ) → closed c (o .answer) l ≡ false)
+      → map (standing hits′) (take capacity (taken (λ l. false))) ≡ standingIn capacity (d ∷ w .log) base
+  same-taken t u =
+      ap (λ (f : ℕ → Bool). map (standing hits′) (take capacity (taken f))) (λ i l. sym (u l) i)
+      ∙ ap (λ ps. map (standing hits′) (take capacity ps)) (sym (taken-passed base d (w .log) (λ l. false) t))
+
+  answered-memory : Answers s c o → Remembers
+  answered-memory t =
+      t .memory
+      ∙ ap (map (hitBy (broughtNumber c))) (v .memory)
+      ∙ map-map (standing hits) (hitBy (broughtNumber c)) (take capacity (taken (λ l. false)))
+      ∙ ap (λ (f : Past → Query). map f (take capacity (taken (λ l. false)))) (λ i p. one-more p i)
+      ∙ same-taken (t .passed) (t .unclosed)
+    where
+      one-more : (p : Past) → hitBy (broughtNumber c) (standing hits p) ≡ standing hits′ p
+      one-more p =
+          let e : hits′ (p .number) ≡ cond (sameNumber (p .number) (broughtNumber c)) (suc (hits (p .number)))
+          (hits (p .number)) = rw (t .passed, t .answers (p .number)) in
+          λ i. record { number = p .number; asker = askerNow (originOf p); hits = sym e i }
 
   passed-memory : Passes s c o → Remembers
   passed-memory t =
       t .memory
       ∙ v .memory
-      ∙ ap (λ (f : ℕ → Bool). map standing (take capacity (taken f))) (λ i l. sym (t .unclosed l) i)
-      ∙ ap (λ ps. map standing (take capacity ps)) (sym (taken-passed base d (w .log) (λ l. false) (t .passed)))
+      ∙ ap (λ (f : Number → ℕ). map (standing f) (take capacity (taken (λ l. false))))
+      (same-hits (t .passed) (t .unanswered))
+      ∙ same-taken (t .passed) (t .unclosed)
 
   pub goes-on : Invariant base (step w c)
   goes-on =
@@ -372,10 +476,11 @@ module _ (base : List Query) (w : World) (v : Invariant base w) (c : Call) where
       record {
         sized = k .sized;
         order = k .order;
-        memory = ⊎-elim took-memory (⊎-elim closed-memory passed-memory) (eff .does);
+        memory = ⊎-elim took-memory (⊎-elim closed-memory (⊎-elim answered-memory passed-memory)) (eff .does);
         since = ⊎-elim
             (λ t shut n x l e q. took-since t shut n x l e (rw (taken-took base d (w .log) shut (t .taken)) at q))
-            (⊎-elim (λ t. passed-since (t .passed)) (λ t. passed-since (t .passed)))
+            (⊎-elim (λ t. passed-since (t .passed))
+            (⊎-elim (λ t. passed-since (t .passed)) (λ t. passed-since (t .passed))))
             (eff .does);
       }
 
@@ -393,5 +498,5 @@ memory-history s area cs z o =
 
 -- a look-up in the state is one in the log
 pub looked-up : (base : List Query) (w : World) → Invariant base w → (x : Number)
-    → SameLookUp (find (remembered (w .state)) x) (origin capacity (w .log) base x)
-looked-up base w v x = rw (v .memory) (same-lookUp (lastTaken capacity (w .log) base) x)
+    → SameLookUp (find (remembered (w .state)) x) (origin capacity (w .log) base x) (hitsSince (w .log) base x)
+looked-up base w v x = rw (v .memory) (same-lookUp (hitsSince (w .log) base) (lastTaken capacity (w .log) base) x)

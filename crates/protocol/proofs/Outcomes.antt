@@ -14,7 +14,7 @@ use Rattle.laws.specs.Tests.{firstOf, all, any}
 use Rattle.laws.proofs.Refusals.{clash, or-fst, or-snd, no-refusal, NoRefusal, answer-in, refusal-in}
 use Rattle.laws.proofs.Rings.{map-getD}
 use Rattle.wire.specs.Header.{largestMessage, kindOf, sizeOf}
-use Rattle.protocol.specs.State.{Station, seen, lookedUp, lineAt, withLine}
+use Rattle.protocol.specs.State.{Station, lineOnly, seen, lookedUp, lineAt, withLine}
 use Rattle.protocol.specs.Memory.{Number, numberIn}
 use Rattle.protocol.specs.Lines.{lineNumbers, eachLine, nowhere}
 use Rattle.protocol.specs.Order.{inOrder}
@@ -52,7 +52,7 @@ stored-again s l i = record { room = s .room; lines = set-getD (s .lines) l nowh
 module _ (P : Outcome → Type 0) (s : Station) (l : ℕ) (x : Number) where
   pub of-stored : (n : ℕ) (route : List ℕ) (r : Step)
       → (n ≡ 0 → P (stored s l x r)) → ((n ≡ 0 → ⊥) → P (quiet n s route))
-      → P (stored s l x (refusedOr n (record { line = lineAt s l; taken = false }) route r))
+      → P (stored s l x (refusedOr n (lineOnly (lineAt s l)) route r))
   of-stored n route r f g =
       of-refused (λ (r : Step). P (stored s l x r)) n _ route r f
       (λ ne. subst (λ (y : Station). P (quiet n y route)) (sym (stored-again s l)) (g ne))

@@ -1,9 +1,9 @@
 -- The six calls: fresh, opening, closing, an arriving message, an own query, a look-up. Contracts cite these. A rule
 -- takes what it reads; a call applies the rules to its state, and stores what they come to.
 use Prim.Native.Nat.{ℕ, _+_, _*_, _/_}
-use mathlib.Core.Bool.{Bool, true, false, cond, not, _&&_, _||_}
+use mathlib.Core.Bool.{Bool, true, false, cond, not, _||_}
 use mathlib.Core.List.{List, [], _∷_, _++_}
-use lib.Dec.{eqb, leb, ltb}
+use lib.Dec.{eqb, ltb}
 use lib.ListN.{length, replicate}
 use Rattle.laws.specs.Tests.{firstOf, any}
 use Rattle.laws.specs.Parts.{over}
@@ -29,7 +29,7 @@ use Rattle.protocol.specs.declared.Report.{Report}
 use Rattle.protocol.specs.Memory.{Memory, Number, memoryOf, capacity, here, nobodyAsked, numberIn, ageBehind}
 use Rattle.protocol.specs.Memory.{remember, leftAll}
 use Rattle.protocol.specs.Lines.{lineCount, emptyLine, withTable, heldBy, lineIn}
-use Rattle.protocol.specs.State.{Station, Change, stationOf, lineAt, withLine, withMemory, lookedUp}
+use Rattle.protocol.specs.State.{Station, lineOnly, stationOf, lineAt, withLine, withMemory, lookedUp}
 use Rattle.protocol.specs.Order.{inOrder}
 use Rattle.protocol.specs.Outcomes.{Terms, Outcome, Step, quiet, sends, refusedOr, writtenFor, pickResult, stored}
 use Rattle.protocol.specs.Outcomes.{handsUp, reportOf, usedOf}
@@ -51,7 +51,8 @@ abbrev pub freshLines : List Line
 freshLines = replicate lineCount (emptyLine false)
 
 abbrev pub freshMemory : Memory
-freshMemory = memoryOf (replicate capacity 0) (replicate capacity 0) (replicate capacity 0) 0 0
+freshMemory =
+    memoryOf (replicate capacity 0) (replicate capacity 0) (replicate capacity 0) (replicate capacity 0) 0 0
 
 unfoldable pub fresh : ℕ → Outcome
 fresh n = quiet (freshAnswer n) (stationOf (freshRoom n) freshLines freshMemory) []
@@ -106,11 +107,8 @@ early s l m out route = firstOf (earlyRules (inOrder s) (s .room) out route l (l
 unfoldable pub updateStep : ℕ → ℕ → Line → List ℕ → List ℕ → Step
 updateStep room l x m route =
     quiet (updateAnswer room (heldBy x room l route) (headerIn m .ttl) (headerIn m .hops) (payloadOf m))
-    (record {
-      line = withTable x (updated room (heldBy x room l route) (headerIn m .ttl) (headerIn m .hops)
-          (payloadOf m) .table);
-      taken = false;
-    })
+    (lineOnly
+    (withTable x (updated room (heldBy x room l route) (headerIn m .ttl) (headerIn m .hops) (payloadOf m) .table)))
     (over (l * room) (updated room (heldBy x room l route) (headerIn m .ttl) (headerIn m .hops) (payloadOf m) .entries)
     route)
 
@@ -122,7 +120,7 @@ byType limit room lines l k m t route =
     (pickResult (eqb (headerIn m .kind) routeUpdate) (updateStep room l (lineIn lines l) m route)
     (pickResult (eqb (headerIn m .kind) queryType) (queryStep limit room lines l k m route)
     (pickResult (eqb (headerIn m .kind) hitType) (hitStep (lineIn lines l) k m route)
-    (quiet 7 (record { line = lineIn lines l; taken = false }) route)))))
+    (quiet 7 (lineOnly (lineIn lines l)) route)))))
 
 -- what a message by line l does to a state by its type
 abbrev pub arrived : ℕ → Station → ℕ → List ℕ → Terms → List ℕ → Outcome

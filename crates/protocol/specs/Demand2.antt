@@ -15,7 +15,7 @@ use Rattle.wire.specs.Header.{kindOf, ttlOf, hopsOf, sizeOf, payloadOf, numberO
 use Rattle.keywords.specs.Keywords.{keywordsOf}
 use Rattle.tables.specs.Admission.{withholds}
 use Rattle.protocol.specs.State.{Station, remembered, lineAt, heldAt}
-use Rattle.protocol.specs.Memory.{capacity, here, gone, Number, numberIn, sameNumber, Query, noTwice}
+use Rattle.protocol.specs.Memory.{capacity, here, gone, Number, numberIn, sameNumber, Query, queryAt, noTwice}
 use Rattle.protocol.specs.Order.{inOrder}
 use Rattle.protocol.specs.Outcomes.{Terms, Outcome, nobody, onlyTo}
 use Rattle.protocol.specs.Queries.{textIn}
@@ -23,7 +23,7 @@ use Rattle.protocol.specs.Calls.{fresh}
 use Rattle.protocol.specs.Runs.{Area, Call, Open, Close, Message, Ask, Made, World, lent, outcomeOf, step, run}
 use Rattle.protocol.specs.Runs.{start}
 use Rattle.protocol.specs.Periods.{lifeLeft}
-use Rattle.protocol.specs.Kept.{Sized}
+use Rattle.protocol.specs.Kept.{Sized, hitBy}
 use Rattle.protocol.specs.Arrived.{Areas, Arrived, SentIfArrived}
 use Rattle.protocol.specs.Frames.{NotSearched, TableOnly, MarkedBroken, PartOnly, Silent}
 use Rattle.protocol.specs.Written.{NoHit, WrittenFor}
@@ -63,6 +63,13 @@ closed (Close k) n l = eqb l k && eqb n 0
 closed (Message k m t a) n l = false
 closed (Ask number text t a) n l = false
 
+-- one by which the query with number x got a hit, passed back or delivered
+abbrev pub gotHit : Call → ℕ → Number → Bool
+gotHit (Open k) n x = false
+gotHit (Close k) n x = false
+gotHit (Message k m t a) n x = eqb (kindOf m) 0x81 && (eqb n 0 && sameNumber x (numberIn m))
+gotHit (Ask number text t a) n x = false
+
 -- how often line l was opened
 abbrev pub openings : ℕ → List Made → ℕ
 openings l [] = 0
@@ -92,6 +99,18 @@ allTaken shut (d ∷ ds) base =
 -- the last n of them
 abbrev pub lastTaken : ℕ → List Made → List Query → List Past
 lastTaken n log base = take n (allTaken (λ l. false) log base)
+
+-- The hits of the number x that were passed back or delivered since its query was taken; a query that was remembered
+-- before the log began had had some by then
+abbrev pub hitsBefore : List Query → Number → ℕ
+hitsBefore [] x = 0
+hitsBefore (q ∷ qs) x = cond (sameNumber x (q .number)) (q .hits) (hitsBefore qs x)
+
+abbrev pub hitsSince : List Made → List Query → Number → ℕ
+hitsSince [] base x = hitsBefore base x
+hitsSince (d ∷ ds) base x =
+    cond (took (d .call) (d .outcome .answer) && sameNumber x (broughtNumber (d .call))) 0
+    (cond (gotHit (d .call) (d .outcome .answer) x) (suc (hitsSince ds base x)) (hitsSince ds base x))
 
 -- numbers are the same exactly if their 16 bytes are
 abbrev pub SameBytes : Type 0
@@ -127,19 +146,22 @@ abbrev pub origin : ℕ → List Made → List Query → Number → Origin
 origin n log base x = lookUp (lastTaken n log base) x
 
 -- What stands in a state is this history: the remembered queries are the last n taken, the newest first, each with its
--- asker now
+-- asker now and the hits that it has had since
 abbrev pub askerNow : Origin → ℕ
 askerNow Unknown = 10
 askerNow Here = here
 askerNow (From l n) = l
 askerNow Gone = gone
 
-abbrev pub standing : Past → Query
-standing p = record { number = p .number; asker = askerNow (originOf p) }
+abbrev pub standing : (Number → ℕ) → Past → Query
+standing hits p = record { number = p .number; asker = askerNow (originOf p); hits = hits (p .number) }
+
+abbrev pub standingIn : ℕ → List Made → List Query → List Query
+standingIn n log base = map (standing (hitsSince log base)) (lastTaken n log base)
 
 pub record MemoryIs (n : ℕ) (s : Station) (log : List Made) (base : List Query) : Type 0 where
-  pub last : remembered s ≡ map standing (lastTaken n log base)
-  pub once : noTwice (map standing (lastTaken n log base)) ≡ true
+  pub last : remembered s ≡ standingIn n log base
+  pub once : noTwice (standingIn n log base) ≡ true
 
 abbrev pub MemoryHistory : Type 0
 MemoryHistory =
@@ -190,28 +212,52 @@ pub record OwnTo (limit : ℕ) (s : Station) (route number text : List ℕ) (o :
   pub search : NotSearched o
   pub lines : o .state .lines ≡ s .lines
 
--- Hits. What one with TTL 1 or more and 27 bytes of payload is answered, by where its query came from. It goes back
--- over a line that is open, and that has been since the query came: it has been opened as often now as it had been then
-abbrev pub HitBy : Origin → World → List ℕ → Outcome → Type 0
-HitBy Unknown w m o = o .answer ≡ 10
-HitBy Gone w m o = o .answer ≡ 11
-HitBy Here w m o = (o .answer ≡ 0) × (o .delivered ≡ true) × (o .to ≡ nobody) × (o .sent ≡ [])
-HitBy (From l n) w m o =
-    (l ≤ 7)
-    × (lineAt (w .state) l .live ≡ true)
-    × (openings l (w .log) ≡ n)
-    × (ttlOf m ≡ 1 → o .answer ≡ 8)
-    × (2 ≤ ttlOf m → hopsOf m ≡ 255 → o .answer ≡ 12)
-    × (2 ≤ ttlOf m → (hopsOf m ≡ 255 → ⊥)
-    → (o .answer ≡ 0) × (o .delivered ≡ false) × (o .to ≡ onlyTo l)
-    × (o .sent ≡ message (numberOf m) 0x81 (ttlOf m - 1) (hopsOf m + 1) (payloadOf m)))
+-- Hits. What one with TTL 1 or more and 27 bytes of payload is answered, by where its query came from and how many
+-- hits that has had: at most 200, and at 200 it gets no more
+abbrev pub Counted : ℕ → Outcome → Type 0 → Type 0
+Counted hits o fewer = (hits ≤ 200) × (hits ≡ 200 → o .answer ≡ 21) × (hits < 200 → fewer)
 
-pub record HitRouted (from : Origin) (w : World) (m : List ℕ) (o : Outcome) : Type 0 where
-  pub leaves : o .state ≡ w .state
+-- It goes back over a line that is open, and that has been since the query came: it has been opened as often now as it
+-- had been then
+pub record GoesBack (l n : ℕ) (w : World) : Type 0 where
+  pub below : l ≤ 7
+  pub live : lineAt (w .state) l .live ≡ true
+  pub opening : openings l (w .log) ≡ n
+
+pub record PassedBack (l : ℕ) (m : List ℕ) (o : Outcome) : Type 0 where
+  pub spent : ttlOf m ≡ 1 → o .answer ≡ 8
+  pub full : 2 ≤ ttlOf m → hopsOf m ≡ 255 → o .answer ≡ 12
+  pub goes : 2 ≤ ttlOf m → (hopsOf m ≡ 255 → ⊥)
+      → (o .answer ≡ 0) × (o .delivered ≡ false) × (o .to ≡ onlyTo l)
+      × (o .sent ≡ message (numberOf m) 0x81 (ttlOf m - 1) (hopsOf m + 1) (payloadOf m))
+
+abbrev pub HitBy : Origin → ℕ → World → List ℕ → Outcome → Type 0
+HitBy Unknown hits w m o = o .answer ≡ 10
+HitBy Gone hits w m o = o .answer ≡ 11
+HitBy Here hits w m o =
+    Counted hits o ((o .answer ≡ 0) × (o .delivered ≡ true) × (o .to ≡ nobody) × (o .sent ≡ []))
+HitBy (From l n) hits w m o = GoesBack l n w × Counted hits o (PassedBack l m o)
+
+-- a hit that is passed back or delivered raises its query's count by one, and of the state changes nothing else; any
+-- other changes nothing
+pub record OneHitMore (n : Number) (s s′ : Station) : Type 0 where
+  pub room : s′ .room ≡ s .room
+  pub lines : s′ .lines ≡ s .lines
+  pub memory : remembered s′ ≡ map (hitBy n) (remembered s)
+  pub rest : (s′ .memory .lo ≡ s .memory .lo) × (s′ .memory .hi ≡ s .memory .hi)
+      × (s′ .memory .asker ≡ s .memory .asker) × (s′ .memory .count ≡ s .memory .count)
+      × (s′ .memory .next ≡ s .memory .next)
+  -- the count at a place with another number stays, kept or not
+  pub beside : (p : ℕ) → sameNumber (queryAt (s .memory) p .number) n ≡ false
+      → getD (s′ .memory .hits) p 0 ≡ getD (s .memory .hits) p 0
+
+pub record HitRouted (from : Origin) (hits : ℕ) (w : World) (m : List ℕ) (o : Outcome) : Type 0 where
+  pub counts : o .answer ≡ 0 → OneHitMore (numberIn m) (w .state) (o .state)
+  pub leaves : (o .answer ≡ 0 → ⊥) → o .state ≡ w .state
   pub search : NotSearched o
   pub short : sizeOf m < 27 → o .answer ≡ 6
   pub spent : 27 ≤ sizeOf m → ttlOf m ≡ 0 → o .answer ≡ 8
-  pub by : 27 ≤ sizeOf m → 1 ≤ ttlOf m → HitBy from w m o
+  pub by : 27 ≤ sizeOf m → 1 ≤ ttlOf m → HitBy from hits w m o
 
 -- One call, with the world before it and the queries remembered before its log began. Whatever has arrived is decided
 -- by its type, and nothing else is; a refused call sends nothing
@@ -221,7 +267,8 @@ pub record MessageRouted (limit n : ℕ) (base : List Query) (w : World) (l : �
   pub query : kindOf m ≡ 0x80 → Answered (Acceptable limit (w .state) l m out route)
       (origin n (w .log) base (numberIn m)) o
   pub goes : kindOf m ≡ 0x80 → o .answer ≡ 0 → QueryTo limit (w .state) route l m o
-  pub hit : kindOf m ≡ 0x81 → Arrived (w .state) l m out route → HitRouted (origin n (w .log) base (numberIn m)) w m o
+  pub hit : kindOf m ≡ 0x81 → Arrived (w .state) l m out route
+      → HitRouted (origin n (w .log) base (numberIn m)) (hitsSince (w .log) base (numberIn m)) w m o
   pub noHit : kindOf m ≡ 0x80 → NoHit 0x80 o
   pub pings : kindOf m ≡ 0x00 → NotSearched o
   -- an update changes its line's table and nothing else, and a refused one only that table's mark

@@ -80,6 +80,7 @@ pub record InOrderWords (s : Station) : Type 0 where
       → OneNumber s (queryPlace (s .memory .next) i) (queryPlace (s .memory .next) j) → ⊥
   pub askers : (i : ℕ) → i < s .memory .count
       → AskerWords s (getD (s .memory .asker) (queryPlace (s .memory .next) i) 0)
+  pub hits : (i : ℕ) → i < s .memory .count → getD (s .memory .hits) (queryPlace (s .memory .next) i) 0 ≤ 200
   pub lines : (l : ℕ) → l < 8 → LineWords (s .room) (lineAt s l)
 
 -- a state whose arrays are as long as their types have them is in order exactly if these hold of it

@@ -1,12 +1,12 @@
 -- What every call keeps: a state in order stays in order, a state out of order comes back untouched, and a refusal
 -- leaves what stands.
 -- And what a call does to the remembered queries and the stored pongs, as newest-first lists.
-use Prim.Native.Nat.{ℕ, _/_, _≤_, _<_}
+use Prim.Native.Nat.{ℕ, suc, _/_, _≤_, _<_}
 use mathlib.Core.Path.{_≡_}
 use mathlib.Core.Bool.{Bool, true, false, cond, _&&_}
 use mathlib.Core.List.{List, [], _∷_, map}
 use lib.Dec.{eqb, leb, ltb}
-use lib.ListN.{length, take}
+use lib.ListN.{length, take, replicate}
 use Rattle.laws.specs.Tests.{all}
 use Rattle.wire.specs.Header.{kindOf, routeUpdate}
 use Rattle.tables.specs.Tables.{marked, broken}
@@ -14,7 +14,8 @@ use Rattle.protocol.specs.declared.Pong.{Pong}
 use Rattle.protocol.specs.declared.Line.{Line}
 use Rattle.protocol.specs.declared.Age.{Age}
 use Rattle.protocol.specs.State.{Station, remembered, lineAt, withLine}
-use Rattle.protocol.specs.Memory.{capacity, Number, Query, queriesIn, remember, left}
+use Rattle.protocol.specs.Memory.{capacity, hitLimit, Number, sameNumber, Query, queriesIn, noTwice, At, find}
+use Rattle.protocol.specs.Memory.{remember, raise, left}
 use Rattle.protocol.specs.Lines.{lineCount, withTable, withPong, pongCapacity, storedPongs}
 use Rattle.protocol.specs.Order.{inOrder}
 use Rattle.protocol.specs.Outcomes.{Terms, Outcome, quiet, handsUp}
@@ -31,6 +32,7 @@ pub record Sized (s : Station) : Type 0 where
   pub lo : length (s .memory .lo) ≡ capacity
   pub hi : length (s .memory .hi) ≡ capacity
   pub asker : length (s .memory .asker) ≡ capacity
+  pub hits : length (s .memory .hits) ≡ capacity
   pub pongs : all sizedLine (s .lines) ≡ true
 
 -- a state after a call, and the state before it
@@ -39,12 +41,13 @@ pub record Kept (s s′ : Station) : Type 0 where
   pub sized : Sized s′
   pub room : s′ .room ≡ s .room
 
--- a fresh state is in order and all its lines are closed
+-- a fresh state is in order, all its lines are closed, and no place has a hit
 pub record FreshFacts (n : ℕ) : Type 0 where
   pub order : inOrder (fresh n .state) ≡ true
   pub sized : Sized (fresh n .state)
   pub room : fresh n .state .room ≡ cond (ltb n 32) 0 (n / 8)
   pub closed : (l : ℕ) → l < lineCount → lineAt (fresh n .state) l .live ≡ false
+  pub hits : fresh n .state .memory .hits ≡ replicate 512 0
 
 abbrev pub FreshInOrder : Type 0
 FreshInOrder = (n : ℕ) → FreshFacts n
@@ -120,12 +123,21 @@ pub record RefusalFrame : Type 0 where
   pub freshRefused : (n : ℕ) → n < 32 → FreshRefused n
   pub freshTaken : (n : ℕ) → 32 ≤ n → (fresh n .answer ≡ 0) × (fresh n .state .room ≡ n / 8)
 
--- the remembered queries after one more, after a closing, and the stored pongs after one more
+-- the remembered queries after one more, after a closing, after a hit of the number n that was passed back or
+-- delivered, and the stored pongs after one more
 abbrev pub asked : Number → ℕ → Query
-asked n who = record { number = n; asker = who }
+asked n who = record { number = n; asker = who; hits = 0 }
 
 abbrev pub leftBy : ℕ → Query → Query
-leftBy l q = record { number = q .number; asker = left l (q .asker) }
+leftBy l q = record { number = q .number; asker = left l (q .asker); hits = q .hits }
+
+abbrev pub hitBy : Number → Query → Query
+hitBy n q =
+    record {
+      number = q .number;
+      asker = q .asker;
+      hits = cond (sameNumber (q .number) n) (suc (q .hits)) (q .hits);
+    }
 
 abbrev pub RemembersNewest : Type 0
 RemembersNewest =
@@ -135,6 +147,13 @@ RemembersNewest =
 
 abbrev pub RemembersLeft : Type 0
 RemembersLeft = (s : Station) (l : ℕ) → Sized s → remembered (closedState s l) ≡ map (leftBy l) (remembered s)
+
+-- a query that was found and has had fewer than 200 hits has had one more, and no other query has
+abbrev pub RemembersHit : Type 0
+RemembersHit =
+    (s : Station) (n : Number) (after who hits : ℕ)
+    → Sized s → noTwice (remembered s) ≡ true → find (remembered s) n ≡ At after who hits → hits < hitLimit
+    → queriesIn capacity (raise capacity (s .memory) after) ≡ map (hitBy n) (remembered s)
 
 abbrev pub StoresNewest : Type 0
 StoresNewest =

@@ -12,11 +12,13 @@ use Rattle.protocol.specs.Memory.{gone, Query}
 use Rattle.protocol.specs.Outcomes.{Outcome}
 use Rattle.protocol.specs.Frames.{Bare, Beside, Silent}
 
--- the line is bare, the others are as they were, and the remembered queries are these
+-- the line is bare, the others are as they were, the remembered queries are these, and no place has another count of
+-- hits
 pub record Renewed (live : Bool) (l : ℕ) (queries : List Query) (s s′ : Station) : Type 0 where
   pub line : Bare live (lineAt s′ l)
   pub beside : Beside l s s′
   pub memory : remembered s′ ≡ queries
+  pub hits : s′ .memory .hits ≡ s .memory .hits
 
 -- answered 0 exactly where the line is one of eight and stands as it must, else 3
 pub record LineAnswered (must : Bool) (s : Station) (l : ℕ) (o : Outcome) : Type 0 where
@@ -29,9 +31,9 @@ pub record OpenRouted (s : Station) (l : ℕ) (o : Outcome) : Type 0 where
   pub answered : LineAnswered false s l o
   pub leaves : l ≤ 7 → lineAt s l .live ≡ false → Renewed true l (remembered s) s (o .state)
 
--- a closing needs an open one; the queries that it brought are gone
+-- a closing needs an open one; the queries that it brought are gone, and keep their counts of hits
 abbrev pub goneBy : ℕ → Query → Query
-goneBy l q = record { number = q .number; asker = cond (eqb (q .asker) l) gone (q .asker) }
+goneBy l q = record { number = q .number; asker = cond (eqb (q .asker) l) gone (q .asker); hits = q .hits }
 
 pub record CloseRouted (s : Station) (l : ℕ) (o : Outcome) : Type 0 where
   pub answered : LineAnswered true s l o

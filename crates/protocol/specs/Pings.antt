@@ -1,9 +1,9 @@
 -- Pings and pongs (RULES 10), over what the rules read.
-use Prim.Native.Nat.{ℕ, zero, suc, _+_, _-_, min, max}
-use mathlib.Core.Bool.{Bool, true, false, cond, not, _&&_, _||_}
+use Prim.Native.Nat.{ℕ, zero, suc, _+_, min, max}
+use mathlib.Core.Bool.{Bool, cond, not, _&&_, _||_}
 use mathlib.Core.List.{List, [], _∷_, _++_, map}
 use lib.Dec.{eqb, leb, ltb}
-use lib.ListN.{length, take, drop}
+use lib.ListN.{length, take}
 use Rattle.laws.specs.Tests.{firstOf}
 use Rattle.laws.specs.Bytes.{littleBytes}
 use Rattle.wire.specs.declared.Header.{Header}
@@ -12,7 +12,7 @@ use Rattle.protocol.specs.declared.Pong.{Pong}
 use Rattle.protocol.specs.declared.Line.{Line}
 use Rattle.protocol.specs.declared.Own.{Own}
 use Rattle.protocol.specs.Lines.{lineNumbers, isOther, lineIn, pingedAt, withPong, pongHops, storedPongs, elapsed}
-use Rattle.protocol.specs.State.{Change}
+use Rattle.protocol.specs.State.{lineOnly}
 use Rattle.protocol.specs.Outcomes.{Terms, Step, quiet, sends, nobody, onlyTo, refusedOr}
 
 -- TTL 1 with Hops 0 or 1 asks this station alone
@@ -96,13 +96,13 @@ backTo written l = cond (eqb written 0) nobody (onlyTo l)
 abbrev pub pingTaken : List Line → ℕ → Terms → List ℕ → List ℕ → Step
 pingTaken lines l t m route =
     sends (backTo (length (pongsBack lines l t m)) l) (pongsBack lines l t m)
-    (quiet 0 (record { line = timeKept (lineIn lines l) (isProbe (headerIn m)) (t .clock); taken = false }) route)
+    (quiet 0 (lineOnly (timeKept (lineIn lines l) (isProbe (headerIn m)) (t .clock))) route)
 
 -- a ping by line l
 unfoldable pub pingStep : List Line → ℕ → Terms → List ℕ → List ℕ → Step
 pingStep lines l t m route =
     refusedOr (firstOf (pingRules (lineIn lines l .pinged) (lineIn lines l .pingtime) (t .clock) (headerIn m)))
-    (record { line = lineIn lines l; taken = false }) route
+    (lineOnly (lineIn lines l)) route
     (pingTaken lines l t m route)
 
 -- an arriving pong: its first 14 bytes are stored; the eleventh takes the oldest's place
@@ -115,5 +115,5 @@ arrivedPong clock m = record { bytes = take 14 (payloadOf m); hops = headerIn m 
 -- a pong by a line with this record
 unfoldable pub pongStep : Line → ℕ → List ℕ → List ℕ → Step
 pongStep x clock m route =
-    refusedOr (firstOf (pongRules (headerIn m))) (record { line = x; taken = false }) route
-    (quiet 0 (record { line = withPong x (arrivedPong clock m); taken = false }) route)
+    refusedOr (firstOf (pongRules (headerIn m))) (lineOnly x) route
+    (quiet 0 (lineOnly (withPong x (arrivedPong clock m))) route)

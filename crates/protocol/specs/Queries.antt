@@ -14,7 +14,7 @@ use Rattle.protocol.specs.declared.Line.{Line}
 use Rattle.protocol.specs.declared.Lookup.{Lookup}
 use Rattle.protocol.specs.Memory.{ageBehind}
 use Rattle.protocol.specs.Lines.{isOther, eachLine, lineIn, heldFor}
-use Rattle.protocol.specs.State.{Change}
+use Rattle.protocol.specs.State.{lineOnly}
 use Rattle.protocol.specs.Outcomes.{Step, quiet, sends, searches, handsUp, refusedOr, writtenFor}
 
 -- the usual life
@@ -83,14 +83,14 @@ queryTaken limit room lines l m route =
     searches 25 (length (textIn (payloadOf m)))
     (sends (queryLines limit room lines l m route)
     (writtenFor (queryLines limit room lines l m route) (queryOn limit m))
-    (quiet 0 (record { line = lineIn lines l; taken = true }) route))
+    (quiet 0 (record { line = lineIn lines l; taken = true; answered = false }) route))
 
 -- an arriving query by line l, of whose number the look-up found k
 unfoldable pub queryStep : ℕ → ℕ → List Line → ℕ → Lookup → List ℕ → List ℕ → Step
 queryStep limit room lines l k m route =
     handsUp (ageBehind (queryBefore limit (headerIn m) (hasText (payloadOf m))) k)
     (refusedOr (firstOf (queryRules limit (headerIn m) (hasText (payloadOf m)) k))
-    (record { line = lineIn lines l; taken = false }) route
+    (lineOnly (lineIn lines l)) route
     (queryTaken limit room lines l m route))
 
 -- own queries: TTL the limit, Hops 0, speed 0, to every line that is open and lets it pass (RULES 8)

@@ -1,13 +1,14 @@
 -- The state of a station: one record, with the lines and the ring of remembered queries within. In code the room and
 -- the lines go by value and the ring is lent.
 use Prim.Native.Nat.{ℕ}
-use mathlib.Core.Bool.{Bool, _&&_}
+use mathlib.Core.Bool.{Bool, false}
 use mathlib.Core.List.{List}
 use lib.ListN.{set}
 use Rattle.tables.specs.Tables.{Held}
 use Rattle.protocol.specs.declared.Line.{Line}
 use Rattle.protocol.specs.declared.Lookup.{Lookup}
-use Rattle.protocol.specs.Memory.{Memory, Number, Query, capacity, queriesIn, find, isFound, lookupOf, rememberIf}
+use Rattle.protocol.specs.Memory.{Memory, Number, Query, capacity, queriesIn, find, isFound, lookupOf}
+use Rattle.protocol.specs.Memory.{rememberIf, raiseIf}
 use Rattle.protocol.specs.Lines.{lineIn, heldFor}
 
 -- the room for each neighbour's table, the eight lines, and the remembered queries
@@ -43,11 +44,21 @@ lookedUp s x = lookupOf (find (remembered s) x)
 abbrev pub seen : Station → Number → Bool
 seen s x = isFound (find (remembered s) x)
 
--- what a message leaves of the state: the record of its line, and whether its number is to be remembered
+-- what a message leaves of the state: the record of its line, whether its number is to be remembered, and whether the
+-- query with its number has had one hit more
 pub record Change : Type 0 where
   pub line : Line
   pub taken : Bool
+  pub answered : Bool
+
+-- the line's record and nothing else
+abbrev pub lineOnly : Line → Change
+lineOnly x = record { line = x; taken = false; answered = false }
 
 -- the state after a message with this number by line l
+abbrev pub memoryAfter : Station → ℕ → Number → Change → Memory
+memoryAfter s l x c =
+    rememberIf (c .taken) capacity (raiseIf (c .answered) capacity (s .memory) (lookedUp s x .after)) x l
+
 abbrev pub stateAfter : Station → ℕ → Number → Change → Station
-stateAfter s l x c = stationOf (s .room) (set (s .lines) l (c .line)) (rememberIf (c .taken) capacity (s .memory) x l)
+stateAfter s l x c = stationOf (s .room) (set (s .lines) l (c .line)) (memoryAfter s l x c)

@@ -19,6 +19,9 @@ pub const GONE: u8 = 9;
 
 pub const NOBODY: u8 = 10;
 
+// The most hits of one query that are passed back or delivered.
+pub const HITS: u8 = 200;
+
 // The usual life of a query.
 pub const LIMIT: u8 = 7;
 
@@ -69,12 +72,13 @@ pub struct Own {
 }
 
 // What a look-up of a number finds among the remembered queries: whether it is there, how many were remembered after
-// it, and who asked.
+// it, who asked, and how many hits of it were passed back or delivered.
 #[repr(C)]
 pub struct Lookup {
     pub found: bool,
     pub after: usize,
     pub asker: u8,
+    pub hits: u8,
 }
 
 // The age of a query: whether its number was looked up and found, and how many queries were remembered after it, which
