@@ -24,6 +24,7 @@ use memory::Survey;
 use memory::leave::leave;
 use memory::order::survey;
 use memory::remember::fresh;
+use memory::remember::raise;
 use memory::remember::remember;
 use protocol::Finding;
 use protocol::HERE;
@@ -74,6 +75,7 @@ fn survey_ring<'a>(
     lo: &'a [u64; 512],
     hi: &'a [u64; 512],
     asker: &'a [u8; 512],
+    hits: &'a [u8; 512],
     count: usize,
     next: usize,
     lines: [Line; 8],
@@ -81,14 +83,16 @@ fn survey_ring<'a>(
     high: u64,
 ) -> Survey
     ensures order { λ r.
-        let memory = memoryOf (now (lo .entry)) (now (hi .entry)) (now (asker .entry)) count next in
+        let memory = memoryOf (now (lo .entry)) (now (hi .entry)) (now (asker .entry))
+        (now (hits .entry)) count next in
         ⌜ r .order ≡ memoryInOrder capacity (λ k. getD (livesIn lines) k false) memory ⌝ }
     ensures known { λ r.
-        let memory = memoryOf (now (lo .entry)) (now (hi .entry)) (now (asker .entry)) count next in
+        let memory = memoryOf (now (lo .entry)) (now (hi .entry)) (now (asker .entry))
+        (now (hits .entry)) count next in
         ⌜ r .known ≡ lookupOf (find (queriesIn capacity memory) (numberFrom low high)) ⌝ }
 {
     let live = lives(lines);
-    survey(lo, hi, asker, count, next, live, low, high)
+    survey(lo, hi, asker, hits, count, next, live, low, high)
 }
 
 // A fresh state over a route area of so many bytes.
@@ -97,16 +101,18 @@ pub extern "C" fn lunozhar_fresh_lent(
     lo: &mut [u64; 512],
     hi: &mut [u64; 512],
     asker: &mut [u8; 512],
+    hits: &mut [u8; 512],
     count: &mut usize,
     next: &mut usize,
     route_len: usize,
 ) -> Beginning
     ensures { λ r.
         let after = stationOf (r .room) (r .lines)
-        (memoryOf (now (lo .exit)) (now (hi .exit)) (now (asker .exit)) (now (count .exit)) (now (next .exit))) in
+        (memoryOf (now (lo .exit)) (now (hi .exit)) (now (asker .exit)) (now (hits .exit)) (now (count .exit))
+        (now (next .exit))) in
         ⌜ Changed (fresh «route_len») (r .answer) after ⌝ }
 {
-    fresh(lo, hi, asker, count, next);
+    fresh(lo, hi, asker, hits, count, next);
     begin(route_len)
 }
 
@@ -116,6 +122,7 @@ pub extern "C" fn lunozhar_open_lent<'a>(
     lo: &'a [u64; 512],
     hi: &'a [u64; 512],
     asker: &'a [u8; 512],
+    hits: &'a [u8; 512],
     count: usize,
     next: usize,
     room: usize,
@@ -123,13 +130,14 @@ pub extern "C" fn lunozhar_open_lent<'a>(
     line: u32,
 ) -> LineChange
     ensures { λ r.
-        let memory = memoryOf (now (lo .entry)) (now (hi .entry)) (now (asker .entry)) count next in
+        let memory = memoryOf (now (lo .entry)) (now (hi .entry)) (now (asker .entry))
+        (now (hits .entry)) count next in
         let before = stationOf room (lines .at) memory in
         let after = stationOf room (set (lines .at) (line % 8) (r .line)) memory in
         ⌜ Changed (opening before line) (r .answer) after ⌝ }
 {
     let at = lines.at;
-    let s = survey_ring(lo, hi, asker, count, next, at, ONES, ONES);
+    let s = survey_ring(lo, hi, asker, hits, count, next, at, ONES, ONES);
     open_line(s.order, room, at, line)
 }
 
@@ -139,6 +147,7 @@ pub extern "C" fn lunozhar_close_lent(
     lo: &mut [u64; 512],
     hi: &mut [u64; 512],
     asker: &mut [u8; 512],
+    hits: &mut [u8; 512],
     count: usize,
     next: usize,
     room: usize,
@@ -146,13 +155,14 @@ pub extern "C" fn lunozhar_close_lent(
     line: u32,
 ) -> LineChange
     ensures { λ r.
-        let before = stationOf room (lines .at) (memoryOf (now (lo .entry)) (now (hi .entry)) (now (asker .entry)) count next) in
+        let before = stationOf room (lines .at)
+        (memoryOf (now (lo .entry)) (now (hi .entry)) (now (asker .entry)) (now (hits .entry)) count next) in
         let after = stationOf room (set (lines .at) (line % 8) (r .line))
-        (memoryOf (now (lo .exit)) (now (hi .exit)) (now (asker .exit)) count next) in
+        (memoryOf (now (lo .exit)) (now (hi .exit)) (now (asker .exit)) (now (hits .exit)) count next) in
         ⌜ Changed (closing before line) (r .answer) after ⌝ }
 {
     let at = lines.at;
-    let s = survey_ring(lo, hi, asker, count, next, at, ONES, ONES);
+    let s = survey_ring(lo, hi, asker, hits, count, next, at, ONES, ONES);
     let change = close_line(s.order, room, at, line);
     leave(asker, leaver(change.answer, line));
     change
@@ -164,6 +174,7 @@ pub extern "C" fn lunozhar_message_lent(
     lo: &mut [u64; 512],
     hi: &mut [u64; 512],
     asker: &mut [u8; 512],
+    hits: &mut [u8; 512],
     count: &mut usize,
     next: &mut usize,
     room: usize,
@@ -177,19 +188,23 @@ pub extern "C" fn lunozhar_message_lent(
 ) -> Arrival
     ensures { λ r.
         let before = stationOf room (lines .at)
-        (memoryOf (now (lo .entry)) (now (hi .entry)) (now (asker .entry)) (now (count .entry)) (now (next .entry))) in
+        (memoryOf (now (lo .entry)) (now (hi .entry)) (now (asker .entry)) (now (hits .entry)) (now (count .entry))
+        (now (next .entry))) in
         let after = stationOf room (set (lines .at) (line % 8) (r .line))
-        (memoryOf (now (lo .exit)) (now (hi .exit)) (now (asker .exit)) (now (count .exit)) (now (next .exit))) in
+        (memoryOf (now (lo .exit)) (now (hi .exit)) (now (asker .exit)) (now (hits .exit)) (now (count .exit))
+        (now (next .exit))) in
         let terms = termsOf clock own (length (now (out .entry))) in
         ⌜ MessageMet before line (now (message .entry)) terms (now (route .entry)) (r .report) after
         (now (out .entry)) (now (out .exit)) (now (route .exit)) ⌝ }
 {
     let at = lines.at;
     let h = read_header(message);
-    let s = survey_ring(lo, hi, asker, *count, *next, at, h.lo, h.hi);
+    let s = survey_ring(lo, hi, asker, hits, *count, *next, at, h.lo, h.hi);
     let a = arrive(s, room, at, line, clock, own, message, out, route);
     let by = (line % 8) as u8;
-    remember(lo, hi, asker, count, next, a.remember, h.lo, h.hi, by);
+    let known = s.known;
+    raise(hits, *next, known.after, a.answered);
+    remember(lo, hi, asker, hits, count, next, a.remember, h.lo, h.hi, by);
     let after = a.line;
     let report = a.report;
     Arrival {
@@ -204,6 +219,7 @@ pub extern "C" fn lunozhar_feed_lent(
     lo: &mut [u64; 512],
     hi: &mut [u64; 512],
     asker: &mut [u8; 512],
+    hits: &mut [u8; 512],
     count: &mut usize,
     next: &mut usize,
     room: usize,
@@ -218,20 +234,35 @@ pub extern "C" fn lunozhar_feed_lent(
 ) -> Fed
     ensures { λ r.
         let before = stationOf room (lines .at)
-        (memoryOf (now (lo .entry)) (now (hi .entry)) (now (asker .entry)) (now (count .entry)) (now (next .entry))) in
+        (memoryOf (now (lo .entry)) (now (hi .entry)) (now (asker .entry)) (now (hits .entry)) (now (count .entry))
+        (now (next .entry))) in
         let after = stationOf room (set (lines .at) (line % 8) (r .line))
-        (memoryOf (now (lo .exit)) (now (hi .exit)) (now (asker .exit)) (now (count .exit)) (now (next .exit))) in
+        (memoryOf (now (lo .exit)) (now (hi .exit)) (now (asker .exit)) (now (hits .exit)) (now (count .exit))
+        (now (next .exit))) in
         let terms = termsOf clock own (length (now (out .entry))) in
         let fed = feedOutcome before line (now (bytes .entry)) (now (held .entry)) terms (now (route .entry)) in
         ⌜ FeedMet fed (r .report) (r .within) (r .waits) after (now (out .entry)) (now (out .exit)) (now (held .exit)) (now (route .exit)) ⌝ }
 {
     let at = lines.at;
     let h = header_of(at, line, held, bytes);
-    let s = survey_ring(lo, hi, asker, *count, *next, at, h.lo, h.hi);
+    let s = survey_ring(lo, hi, asker, hits, *count, *next, at, h.lo, h.hi);
     let f = feed(s, room, at, line, clock, own, bytes, held, out, route);
     let a = f.action;
     let from = (line % 8) as u8;
-    remember(lo, hi, asker, count, next, a.remember, h.lo, h.hi, from);
+    let known = s.known;
+    raise(hits, *next, known.after, a.answered);
+    remember(
+        lo,
+        hi,
+        asker,
+        hits,
+        count,
+        next,
+        a.remember,
+        h.lo,
+        h.hi,
+        from,
+    );
     let after = a.line;
     let report = a.report;
     Fed {
@@ -248,6 +279,7 @@ pub extern "C" fn lunozhar_ask_lent(
     lo: &mut [u64; 512],
     hi: &mut [u64; 512],
     asker: &mut [u8; 512],
+    hits: &mut [u8; 512],
     count: &mut usize,
     next: &mut usize,
     room: usize,
@@ -259,18 +291,20 @@ pub extern "C" fn lunozhar_ask_lent(
 ) -> Report
     ensures { λ r.
         let before = stationOf room (lines .at)
-        (memoryOf (now (lo .entry)) (now (hi .entry)) (now (asker .entry)) (now (count .entry)) (now (next .entry))) in
+        (memoryOf (now (lo .entry)) (now (hi .entry)) (now (asker .entry)) (now (hits .entry)) (now (count .entry))
+        (now (next .entry))) in
         let after = stationOf room (lines .at)
-        (memoryOf (now (lo .exit)) (now (hi .exit)) (now (asker .exit)) (now (count .exit)) (now (next .exit))) in
+        (memoryOf (now (lo .exit)) (now (hi .exit)) (now (asker .exit)) (now (hits .exit)) (now (count .exit))
+        (now (next .exit))) in
         ⌜ OwnMet before (number .bytes) (now (text .entry)) (now (route .entry)) r after (now (out .entry)) (now (out .exit)) ⌝ }
 {
     let at = lines.at;
     let bytes = number.bytes;
     let h = read_header(&bytes);
-    let s = survey_ring(lo, hi, asker, *count, *next, at, h.lo, h.hi);
+    let s = survey_ring(lo, hi, asker, hits, *count, *next, at, h.lo, h.hi);
     let report = ask(s, room, at, bytes, text, out, route);
     let taken = report.answer == 0;
-    remember(lo, hi, asker, count, next, taken, h.lo, h.hi, HERE);
+    remember(lo, hi, asker, hits, count, next, taken, h.lo, h.hi, HERE);
     report
 }
 
@@ -280,6 +314,7 @@ pub extern "C" fn lunozhar_look_up_lent<'a>(
     lo: &'a [u64; 512],
     hi: &'a [u64; 512],
     asker: &'a [u8; 512],
+    hits: &'a [u8; 512],
     count: usize,
     next: usize,
     room: usize,
@@ -287,13 +322,14 @@ pub extern "C" fn lunozhar_look_up_lent<'a>(
     number: Number,
 ) -> Finding
     ensures { λ r.
-        let s = stationOf room (lines .at) (memoryOf (now (lo .entry)) (now (hi .entry)) (now (asker .entry)) count next) in
+        let s = stationOf room (lines .at)
+        (memoryOf (now (lo .entry)) (now (hi .entry)) (now (asker .entry)) (now (hits .entry)) count next) in
         ⌜ r ≡ lookingUp s (numberIn (number .bytes)) ⌝ }
 {
     let at = lines.at;
     let bytes = number.bytes;
     let h = read_header(&bytes);
-    let s = survey_ring(lo, hi, asker, count, next, at, h.lo, h.hi);
+    let s = survey_ring(lo, hi, asker, hits, count, next, at, h.lo, h.hi);
     let known = s.known;
     let order = in_order(s.order, room, at);
     look_up(order, known)
@@ -305,6 +341,7 @@ pub extern "C" fn lunozhar_table_for_lent<'a>(
     lo: &'a [u64; 512],
     hi: &'a [u64; 512],
     asker: &'a [u8; 512],
+    hits: &'a [u8; 512],
     count: usize,
     next: usize,
     room: usize,
@@ -316,14 +353,16 @@ pub extern "C" fn lunozhar_table_for_lent<'a>(
     route: &[u8],
 ) -> Made
     ensures told { λ r.
-        let s = stationOf room (lines .at) (memoryOf (now (lo .entry)) (now (hi .entry)) (now (asker .entry)) count next) in
+        let s = stationOf room (lines .at)
+        (memoryOf (now (lo .entry)) (now (hi .entry)) (now (asker .entry)) (now (hits .entry)) count next) in
         ⌜ r ≡ tableFor usualLimit s line (now (names .entry)) size (length (now (out .entry))) (length (now (route .entry))) ⌝ }
     ensures bytes { λ _.
-        let s = stationOf room (lines .at) (memoryOf (now (lo .entry)) (now (hi .entry)) (now (asker .entry)) count next) in
+        let s = stationOf room (lines .at)
+        (memoryOf (now (lo .entry)) (now (hi .entry)) (now (asker .entry)) (now (hits .entry)) count next) in
         ⌜ now (out .exit) ≡ tableOutFor usualLimit s line (now (names .entry)) size (now (out .entry)) (now (route .entry)) ⌝ }
 {
     let at = lines.at;
-    let s = survey_ring(lo, hi, asker, count, next, at, ONES, ONES);
+    let s = survey_ring(lo, hi, asker, hits, count, next, at, ONES, ONES);
     let order = in_order(s.order, room, at);
     make_table(order, room, at, line, names, size, out, route)
 }
@@ -334,17 +373,19 @@ pub extern "C" fn lunozhar_in_order_lent<'a>(
     lo: &'a [u64; 512],
     hi: &'a [u64; 512],
     asker: &'a [u8; 512],
+    hits: &'a [u8; 512],
     count: usize,
     next: usize,
     room: usize,
     lines: Lines,
 ) -> bool
     ensures { λ r.
-        let s = stationOf room (lines .at) (memoryOf (now (lo .entry)) (now (hi .entry)) (now (asker .entry)) count next) in
+        let s = stationOf room (lines .at)
+        (memoryOf (now (lo .entry)) (now (hi .entry)) (now (asker .entry)) (now (hits .entry)) count next) in
         ⌜ r ≡ inOrder s ⌝ }
 {
     let at = lines.at;
-    let s = survey_ring(lo, hi, asker, count, next, at, ONES, ONES);
+    let s = survey_ring(lo, hi, asker, hits, count, next, at, ONES, ONES);
     in_order(s.order, room, at)
 }
 

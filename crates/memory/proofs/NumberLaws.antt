@@ -26,10 +26,10 @@ found-any [] q = refl
 found-any (x ∷ xs) q = by (sameAs q x) (find xs (q .number)) (found-any xs q)
   where
     by : (t : Bool) (f : Found) → isFound f ≡ any (sameAs q) xs
-        → isFound (pickFound t (At 0 (x .asker)) (later f)) ≡ (t || any (sameAs q) xs)
+        → isFound (pickFound t (At 0 (x .asker) (x .hits)) (later f)) ≡ (t || any (sameAs q) xs)
     by true f e = refl
     by false Absent e = e
-    by false (At n a) e = e
+    by false (At n a h) e = e
 
 -- the number at the ring's next place, looked up among those before it
 pub found-before : (n : ℕ) (q : Memory) (hi : ℕ) (r : Lookup)
@@ -42,13 +42,13 @@ found-before n q hi r h m e f =
 
 found-none : (f : Found) → isFound f ≡ false → f ≡ Absent
 found-none Absent e = refl
-found-none (At n a) e = cc
+found-none (At n a h) e = cc
 
 -- a number with a bit that its word lacks is not found among the queries passed
 pub lacks-absent : (filter : List ℕ) (qs : List Query) (low high : ℕ) → Passed filter qs
     → (bitOr (getD filter (low % 1024) 0) low ≡ getD filter (low % 1024) 0 → ⊥) → find qs (numberFrom low high) ≡ Absent
 lacks-absent filter qs low high known lacks =
-    let q : Query = record { number = numberFrom low high; asker = 0 } in
+    let q : Query = record { number = numberFrom low high; asker = 0; hits = 0 } in
     found-none (find qs (q .number)) (found-any qs q ∙ unmarked-new filter q (ne-eqb _ _ lacks) qs (known .has))
 
 pub passed-none : (filter : List ℕ) → length filter ≡ 1024 → Passed filter []
@@ -116,14 +116,14 @@ module _ (query : ℕ → Query) (c : ℕ) where
 
 -- the filter is brought on by a number with a bit that its word lacks
 pub on-none : (lo : List ℕ) (from : ℕ) (filter : List ℕ) → BroughtOn lo from from filter filter
-on-none lo from filter hi asker n known = let e : n + (from - from) ≡ n = omega arith in rw e known
+on-none lo from filter hi asker hits n known = let e : n + (from - from) ≡ n = omega arith in rw e known
 
 pub on-more : (lo : List ℕ) (from p : ℕ) (old filter : List ℕ) → from ≤ p → p < length lo → length filter ≡ 1024
     → marked filter (getD lo p 0) ≡ false
     → BroughtOn lo from p old filter → BroughtOn lo from (p + 1) old (joined filter (getD lo p 0))
-on-more lo from p old filter m h size new on hi asker n known =
-    let query = queryAt (memoryOf lo hi asker 0 0) in
-    let now = on hi asker n known in
+on-more lo from p old filter m h size new on hi asker hits n known =
+    let query = queryAt (memoryOf lo hi asker hits 0 0) in
+    let now = on hi asker hits n known in
     let e : n + (p + 1 - from) ≡ n + (p - from) + 1 = omega arith in
     rw e
     (passed-with query (length lo) p (n + (p - from)) filter (joined filter (getD lo p 0)) h now

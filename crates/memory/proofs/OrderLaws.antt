@@ -1,6 +1,6 @@
--- A ring that fits and one that does not; the test of order put together: the ring fits, the askers fit, and no
--- number stands twice.
-use mathlib.Core.Path.{_≡_, refl, _∙_}
+-- A ring that fits and one that does not; the test of order put together: the ring fits, the askers and the counts of
+-- hits fit, and no number stands twice.
+use mathlib.Core.Path.{_≡_, refl}
 use mathlib.Core.Bool.{Bool, true, false, _&&_, and-true}
 use mathlib.Core.List.{[]}
 use Prim.Native.Nat.{ℕ, _≤_, _<_}
@@ -11,7 +11,7 @@ use Rattle.laws.specs.Tests.{all}
 use Rattle.laws.specs.Ring.{placesBefore, ringFits, keptPlaces}
 use Rattle.laws.proofs.Truth.{both-left, both-right}
 use Rattle.laws.proofs.Refusals.{all-map}
-use Rattle.protocol.specs.Memory.{Memory, queriesIn, noTwice, askerFits, memoryInOrder}
+use Rattle.protocol.specs.Memory.{Memory, queryAt, queriesIn, noTwice, askerFits, hitsFit, memoryInOrder}
 use Rattle.memory.specs.Queries.{queriesBefore}
 
 module _ (n next count : ℕ) (fits : ringFits n next count ≡ true) where
@@ -40,14 +40,27 @@ module _ (n : ℕ) (q : Memory) where
     unfolding memoryInOrder
     order-unfit f =
         first-two (leb (q .count) n) (ltb (q .next) n)
-        (noTwice (queriesIn n q) && (all (λ x. askerFits live (x .asker)) (queriesIn n q) && true)) f
+        (noTwice (queriesIn n q)
+        && (all (λ x. askerFits live (x .asker)) (queriesIn n q)
+        && (all (λ x. hitsFit (x .hits)) (queriesIn n q) && true)))
+        f
 
-    pub order-fit : length (q .asker) ≡ n → ringFits n (q .next) (q .count) ≡ true
+    pub order-fit : length (q .asker) ≡ n → length (q .hits) ≡ n → ringFits n (q .next) (q .count) ≡ true
         → memoryInOrder n live q
         ≡ (noTwice (queriesBefore n q)
-        && all (λ p. askerFits live (getD (q .asker) p 0)) (placesBefore (length (q .asker)) (q .next) (q .count)))
+        && (all (λ p. askerFits live (getD (q .asker) p 0)) (placesBefore (length (q .asker)) (q .next) (q .count))
+        && all (λ p. hitsFit (getD (q .hits) p 0)) (placesBefore (length (q .hits)) (q .next) (q .count))))
     unfolding memoryInOrder
-    order-fit same f =
+    order-fit same also f =
         let m = le-leb (q .count) n (fits-count n (q .next) (q .count) f) in
         let h = lt-ltb (q .next) n (fits-next n (q .next) (q .count) f) in
-        rw (kept-all f, m, h, and-true, all-map, same)
+        rw (
+          kept-all f,
+          m,
+          h,
+          and-true,
+          all-map (queryAt q) (λ x. askerFits live (x .asker)),
+          all-map (queryAt q) (λ x. hitsFit (x .hits)),
+          same,
+          also,
+        )

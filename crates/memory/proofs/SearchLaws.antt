@@ -15,13 +15,13 @@ use Rattle.memory.proofs.OrderLaws.{fits-next, kept-all}
 
 behind-none : (f : Found) → behind 0 f ≡ f
 behind-none Absent = refl
-behind-none (At n a) = let e : 0 + n ≡ n = omega arith in rw e
+behind-none (At n a h) = let e : 0 + n ≡ n = omega arith in rw e
 
-behind-pick : (t : Bool) (i a : ℕ) (f : Found)
-    → behind i (pickFound t (At 0 a) (later f)) ≡ pickFound t (At i a) (behind (i + 1) f)
-behind-pick true i a f = let e : i + 0 ≡ i = omega arith in rw e
-behind-pick false i a Absent = refl
-behind-pick false i a (At n b) = let e : i + suc n ≡ i + 1 + n = omega arith in rw e
+behind-pick : (t : Bool) (i a h : ℕ) (f : Found)
+    → behind i (pickFound t (At 0 a h) (later f)) ≡ pickFound t (At i a h) (behind (i + 1) f)
+behind-pick true i a h f = let e : i + 0 ≡ i = omega arith in rw e
+behind-pick false i a h Absent = refl
+behind-pick false i a h (At n b k) = let e : i + suc n ≡ i + 1 + n = omega arith in rw e
 
 module _ (query : ℕ → Query) (c : ℕ) (x : Number) where
   -- what is left of a look-up: n queries before place p, i passed
@@ -35,7 +35,8 @@ module _ (query : ℕ → Query) (c : ℕ) (x : Number) where
   -- after i of the n before `from`: the next is the one, or it is passed
   module _ (from n passed i : ℕ) (more : i < n) (enough : n ≤ from) (inside : from ≤ c) where
     pub left-turn : leftOf (from - i) (n - i) (passed + i)
-        ≡ pickFound (sameNumber (query (from - 1 - i) .number) x) (At (passed + i) (query (from - 1 - i) .asker))
+        ≡ pickFound (sameNumber (query (from - 1 - i) .number) x)
+        (At (passed + i) (query (from - 1 - i) .asker) (query (from - 1 - i) .hits))
         (leftOf (from - (i + 1)) (n - (i + 1)) (passed + (i + 1)))
     unfolding find
     left-turn =
@@ -45,20 +46,21 @@ module _ (query : ℕ → Query) (c : ℕ) (x : Number) where
         let f : passed + i + 1 ≡ passed + (i + 1) = omega arith in
         rw (e, b, d, ← f)
         (behind-pick (sameNumber (query (from - (i + 1)) .number) x) (passed + i) (query (from - (i + 1)) .asker)
+        (query (from - (i + 1)) .hits)
         (find (map query (placesBefore c (from - (i + 1)) (n - (i + 1)))) x))
 
 -- a look-up in two parts
 abbrev orElse : Found → Found → Found
 orElse Absent g = g
-orElse (At n a) g = At n a
+orElse (At n a h) g = At n a h
 
 first-found : (f g : Found) → isFound f ≡ true → orElse f g ≡ f
 first-found Absent g e = cc
-first-found (At n a) g e = refl
+first-found (At n a h) g e = refl
 
 second-found : (f g : Found) → isFound f ≡ false → orElse f g ≡ g
 second-found Absent g e = refl
-second-found (At n a) g e = cc
+second-found (At n a h) g e = cc
 
 find-append : (xs ys : List Query) (x : Number)
     → find (xs ++ ys) x ≡ orElse (find xs x) (behind (length xs) (find ys x))
@@ -67,12 +69,12 @@ find-append [] ys x = sym (behind-none (find ys x))
 find-append (q ∷ xs) ys x = rw (find-append xs ys x) (by (sameNumber (q .number) x) (find xs x) (find ys x))
   where
     by : (t : Bool) (f g : Found)
-        → pickFound t (At 0 (q .asker)) (later (orElse f (behind (length xs) g)))
-        ≡ orElse (pickFound t (At 0 (q .asker)) (later f)) (behind (suc (length xs)) g)
+        → pickFound t (At 0 (q .asker) (q .hits)) (later (orElse f (behind (length xs) g)))
+        ≡ orElse (pickFound t (At 0 (q .asker) (q .hits)) (later f)) (behind (suc (length xs)) g)
     by true f g = refl
-    by false (At n a) g = refl
+    by false (At n a h) g = refl
     by false Absent Absent = refl
-    by false Absent (At n a) = let e : suc (length xs + n) ≡ suc (length xs) + n = omega arith in rw e
+    by false Absent (At n a h) = let e : suc (length xs + n) ≡ suc (length xs) + n = omega arith in rw e
 
 module _ (n : ℕ) (q : Memory) (x : Number) (first : ℕ)
     (fits : ringFits n (q .next) (q .count) ≡ true) (is : first ≡ min (q .count) (q .next)) where

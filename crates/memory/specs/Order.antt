@@ -28,12 +28,12 @@ pub record Passed (filter : List ℕ) (qs : List Query) : Type 0 where
   pub has : all (λ q. marked filter (q .number .lo)) qs ≡ true
 
 -- the filter was brought on from `from` to p: where the queries before the one were passed, those before the other
--- are, whatever their second halves and their askers
+-- are, whatever their second halves, their askers and their counts of hits
 abbrev pub BroughtOn : List ℕ → ℕ → ℕ → List ℕ → List ℕ → Type 0
 BroughtOn lo from p old filter =
-    (hi asker : List ℕ) (n : ℕ)
-    → Passed old (queriesBefore (length lo) (memoryOf lo hi asker n from))
-    → Passed filter (queriesBefore (length lo) (memoryOf lo hi asker (n + (p - from)) p))
+    (hi asker hits : List ℕ) (n : ℕ)
+    → Passed old (queriesBefore (length lo) (memoryOf lo hi asker hits n from))
+    → Passed filter (queriesBefore (length lo) (memoryOf lo hi asker hits (n + (p - from)) p))
 
 -- brought on to `to`, or to a place whose number has no bit that its word lacks
 pub record Filled (lo : List ℕ) (from to p : ℕ) (old filter : List ℕ) : Type 0 where

@@ -11,4 +11,4 @@ queriesBefore n q = map (queryAt q) (placesBefore n (q .next) (q .count))
 -- what is found behind n queries
 abbrev pub behind : ℕ → Found → Found
 behind n Absent = Absent
-behind n (At m a) = At (n + m) a
+behind n (At m a h) = At (n + m) a h

@@ -37,20 +37,32 @@ fn no_twice_in<'a>(
     lo: &'a [u64],
     hi: &'a [u64],
     asker: &'a [u8],
+    hits: &'a [u8],
     from: usize,
     to: usize,
     passed: usize,
     filter: &mut [u64; 1024],
 ) -> bool
     requires { ⌜ (from ≤ to) × (to ≤ length (now lo)) × (passed + (to - from) ≤ length (now lo)) ⌝ }
-    requires { ⌜ Passed (now filter) (queriesBefore (length (now lo)) (memoryOf (now lo) (now hi) (now asker) passed from)) ⌝ }
+    requires { ⌜ Passed (now filter)
+        (queriesBefore (length (now lo)) (memoryOf (now lo) (now hi) (now asker) (now hits) passed from)) ⌝ }
     ensures { λ r.
-        let ring = memoryOf (now (lo .entry)) (now (hi .entry)) (now (asker .entry)) (passed + (to - from)) to in
+        let ring = memoryOf (now (lo .entry)) (now (hi .entry)) (now (asker .entry)) (now (hits .entry))
+        (passed + (to - from)) to in
         ⌜ Tested r (now (filter .exit)) (queriesBefore (length (now (lo .entry))) ring) ⌝ }
 {
     let mut p = fill(lo, from, to, filter);
     while p < to {
-        let r = find(lo, hi, asker, passed + (p - from), p, lo[p], word_at(hi, p));
+        let r = find(
+            lo,
+            hi,
+            asker,
+            hits,
+            passed + (p - from),
+            p,
+            lo[p],
+            word_at(hi, p),
+        );
         if r.found {
             return false;
         }
@@ -65,20 +77,21 @@ pub(crate) fn no_twice<'a>(
     lo: &'a [u64],
     hi: &'a [u64],
     asker: &'a [u8],
+    hits: &'a [u8],
     count: usize,
     next: usize,
     filter: &mut [u64; 1024],
 ) -> bool
     requires { ⌜ (next < length (now lo)) × (count ≤ length (now lo)) × (length (now filter) ≡ 1024) ⌝ }
     ensures { λ r.
-        let ring = memoryOf (now (lo .entry)) (now (hi .entry)) (now (asker .entry)) count next in
+        let ring = memoryOf (now (lo .entry)) (now (hi .entry)) (now (asker .entry)) (now (hits .entry)) count next in
         ⌜ Tested r (now (filter .exit)) (queriesBefore (length (now (lo .entry))) ring) ⌝ }
 {
     let first = below(count, next);
     let rest = count - first;
     let capacity = lo.len();
-    if !no_twice_in(lo, hi, asker, capacity - rest, capacity, 0, filter) {
+    if !no_twice_in(lo, hi, asker, hits, capacity - rest, capacity, 0, filter) {
         return false;
     }
-    no_twice_in(lo, hi, asker, next - first, next, rest, filter)
+    no_twice_in(lo, hi, asker, hits, next - first, next, rest, filter)
 }

@@ -17,6 +17,7 @@ pub(crate) fn absent() -> Lookup
         found: false,
         after: 0,
         asker: NOBODY,
+        hits: 0,
     }
 }
 
@@ -26,6 +27,7 @@ fn newest<'a>(
     lo: &'a [u64],
     hi: &'a [u64],
     asker: &'a [u8],
+    hits: &'a [u8],
     from: usize,
     n: usize,
     passed: usize,
@@ -34,7 +36,7 @@ fn newest<'a>(
 ) -> Lookup
     requires { ⌜ (n ≤ from) × (from ≤ length (now lo)) × (passed + n < 18446744073709551616) ⌝ }
     ensures { λ r.
-        let ring = memoryOf (now (lo .entry)) (now (hi .entry)) (now (asker .entry)) n from in
+        let ring = memoryOf (now (lo .entry)) (now (hi .entry)) (now (asker .entry)) (now (hits .entry)) n from in
         ⌜ r ≡ lookupOf (behind passed (find (queriesBefore (length (now (lo .entry))) ring) (numberFrom a b))) ⌝ }
 {
     let mut i = 0;
@@ -46,6 +48,7 @@ fn newest<'a>(
                     found: true,
                     after: passed + i,
                     asker: byte_at(asker, p),
+                    hits: byte_at(hits, p),
                 };
             }
         }
@@ -59,13 +62,14 @@ pub fn find<'a>(
     lo: &'a [u64],
     hi: &'a [u64],
     asker: &'a [u8],
+    hits: &'a [u8],
     count: usize,
     next: usize,
     a: u64,
     b: u64,
 ) -> Lookup
     ensures { λ r.
-        let ring = memoryOf (now (lo .entry)) (now (hi .entry)) (now (asker .entry)) count next in
+        let ring = memoryOf (now (lo .entry)) (now (hi .entry)) (now (asker .entry)) (now (hits .entry)) count next in
         ⌜ r ≡ lookupOf (find (queriesIn (length (now (lo .entry))) ring) (numberFrom a b)) ⌝ }
 {
     let capacity = lo.len();
@@ -74,9 +78,9 @@ pub fn find<'a>(
         return absent();
     }
     let first = below(count, next);
-    let r = newest(lo, hi, asker, next, first, 0, a, b);
+    let r = newest(lo, hi, asker, hits, next, first, 0, a, b);
     if r.found {
         return r;
     }
-    newest(lo, hi, asker, capacity, count - first, first, a, b)
+    newest(lo, hi, asker, hits, capacity, count - first, first, a, b)
 }

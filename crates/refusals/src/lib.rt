@@ -13,6 +13,7 @@ ghost use Rattle.protocol.specs.Hits.{hitRules};
 ghost use Rattle.protocol.specs.Calls.{otherRoom, unfitAreas, earlyRules, openingRules, closingRules, ownRules};
 use protocol::GONE;
 use protocol::HERE;
+use protocol::HITS;
 use protocol::LARGEST_TEXT;
 use protocol::LINES;
 use protocol::Lookup;
@@ -181,10 +182,19 @@ pub fn query(limit: u8, h: Header, ended: bool, known: Lookup) -> u8
     query_number(ended, unfit, known.found)
 }
 
-// Payload too short, no TTL, no such query, its line closed since, and for one that goes on: no TTL left, Hops that
-// can't grow.
-fn hit_number(short: bool, ttl0: bool, found: bool, gone: bool, ttl1: bool, hops255: bool) -> u8
-    ensures { λ r. ⌜ r ≡ firstOf ((short, 6) ∷ (ttl0, 8) ∷ (not found, 10) ∷ (gone, 11) ∷ (ttl1, 8) ∷ (hops255, 12) ∷ []) ⌝ }
+// Payload too short, no TTL, no such query, its line closed since, hits enough, and for one that goes on: no TTL left,
+// Hops that can't grow.
+fn hit_number(
+    short: bool,
+    ttl0: bool,
+    found: bool,
+    gone: bool,
+    full: bool,
+    ttl1: bool,
+    hops255: bool,
+) -> u8
+    ensures { λ r. ⌜ r ≡ firstOf
+        ((short, 6) ∷ (ttl0, 8) ∷ (not found, 10) ∷ (gone, 11) ∷ (full, 21) ∷ (ttl1, 8) ∷ (hops255, 12) ∷ []) ⌝ }
 {
     if short {
         return 6;
@@ -197,6 +207,9 @@ fn hit_number(short: bool, ttl0: bool, found: bool, gone: bool, ttl1: bool, hops
     }
     if gone {
         return 11;
+    }
+    if full {
+        return 21;
     }
     if ttl1 {
         return 8;
@@ -218,6 +231,7 @@ pub fn hit(h: Header, known: Lookup) -> u8
         h.ttl == 0,
         known.found,
         gone,
+        known.hits == HITS,
         away & (h.ttl == 1),
         away & (h.hops == 255),
     )

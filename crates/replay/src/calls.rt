@@ -21,6 +21,7 @@ pub(crate) struct Ring {
     pub(crate) lo: [u64; 512],
     pub(crate) hi: [u64; 512],
     pub(crate) asker: [u8; 512],
+    pub(crate) hits: [u8; 512],
     pub(crate) count: usize,
     pub(crate) next: usize,
 }
@@ -44,11 +45,19 @@ pub(crate) struct Held {
     pub(crate) bringing: Bringing,
 }
 
-fn ring_of(lo: [u64; 512], hi: [u64; 512], asker: [u8; 512], count: usize, next: usize) -> Ring {
+fn ring_of(
+    lo: [u64; 512],
+    hi: [u64; 512],
+    asker: [u8; 512],
+    hits: [u8; 512],
+    count: usize,
+    next: usize,
+) -> Ring {
     Ring {
         lo,
         hi,
         asker,
+        hits,
         count,
         next,
     }
@@ -92,13 +101,22 @@ pub(crate) fn started(calls: bool) -> Held {
     let mut lo = [0u64; 512];
     let mut hi = [0u64; 512];
     let mut asker = [0u8; 512];
+    let mut hits = [0u8; 512];
     let mut count: usize = 0;
     let mut next: usize = 0;
-    let b = calls::lunozhar_fresh_lent(&mut lo, &mut hi, &mut asker, &mut count, &mut next, 32);
+    let b = calls::lunozhar_fresh_lent(
+        &mut lo,
+        &mut hi,
+        &mut asker,
+        &mut hits,
+        &mut count,
+        &mut next,
+        32,
+    );
     let at = b.lines;
     let lines = Lines { at };
     Held {
-        ring: ring_of(lo, hi, asker, count, next),
+        ring: ring_of(lo, hi, asker, hits, count, next),
         room: b.room,
         lines,
         own: own(calls),
@@ -130,8 +148,19 @@ pub(crate) fn opened(w: Held, line: u32) -> Held {
     let lo = ring.lo;
     let hi = ring.hi;
     let asker = ring.asker;
+    let hits = ring.hits;
     let lines = w.lines;
-    let c = calls::lunozhar_open_lent(&lo, &hi, &asker, ring.count, ring.next, w.room, lines, line);
+    let c = calls::lunozhar_open_lent(
+        &lo,
+        &hi,
+        &asker,
+        &hits,
+        ring.count,
+        ring.next,
+        w.room,
+        lines,
+        line,
+    );
     let x = c.line;
     stored(after(w, ring, quiet(c.answer)), line, x)
 }
@@ -141,11 +170,13 @@ pub(crate) fn closed(w: Held, line: u32) -> Held {
     let mut lo = ring.lo;
     let mut hi = ring.hi;
     let mut asker = ring.asker;
+    let mut hits = ring.hits;
     let lines = w.lines;
     let c = calls::lunozhar_close_lent(
         &mut lo,
         &mut hi,
         &mut asker,
+        &mut hits,
         ring.count,
         ring.next,
         w.room,
@@ -154,6 +185,7 @@ pub(crate) fn closed(w: Held, line: u32) -> Held {
     );
     let x = c.line;
     ring.asker = asker;
+    ring.hits = hits;
     stored(after(w, ring, quiet(c.answer)), line, x)
 }
 
@@ -169,6 +201,7 @@ pub(crate) fn message(
     let mut lo = ring.lo;
     let mut hi = ring.hi;
     let mut asker = ring.asker;
+    let mut hits = ring.hits;
     let mut count = ring.count;
     let mut next = ring.next;
     let lines = w.lines;
@@ -177,6 +210,7 @@ pub(crate) fn message(
         &mut lo,
         &mut hi,
         &mut asker,
+        &mut hits,
         &mut count,
         &mut next,
         w.room,
@@ -190,7 +224,7 @@ pub(crate) fn message(
     );
     let x = a.line;
     let report = a.report;
-    let ring = ring_of(lo, hi, asker, count, next);
+    let ring = ring_of(lo, hi, asker, hits, count, next);
     stored(after(w, ring, report), line, x)
 }
 
@@ -222,6 +256,7 @@ pub(crate) fn brought(
     let mut lo = ring.lo;
     let mut hi = ring.hi;
     let mut asker = ring.asker;
+    let mut hits = ring.hits;
     let mut count = ring.count;
     let mut next = ring.next;
     let lines = w.lines;
@@ -230,6 +265,7 @@ pub(crate) fn brought(
         &mut lo,
         &mut hi,
         &mut asker,
+        &mut hits,
         &mut count,
         &mut next,
         w.room,
@@ -242,7 +278,7 @@ pub(crate) fn brought(
         out,
         route,
     );
-    told_of_bytes(w, ring_of(lo, hi, asker, count, next), line, f)
+    told_of_bytes(w, ring_of(lo, hi, asker, hits, count, next), line, f)
 }
 
 pub(crate) fn asked(w: Held, bytes: [u8; 16], text: &[u8], out: &mut [u8], route: &[u8]) -> Held {
@@ -250,6 +286,7 @@ pub(crate) fn asked(w: Held, bytes: [u8; 16], text: &[u8], out: &mut [u8], route
     let mut lo = ring.lo;
     let mut hi = ring.hi;
     let mut asker = ring.asker;
+    let mut hits = ring.hits;
     let mut count = ring.count;
     let mut next = ring.next;
     let lines = w.lines;
@@ -258,6 +295,7 @@ pub(crate) fn asked(w: Held, bytes: [u8; 16], text: &[u8], out: &mut [u8], route
         &mut lo,
         &mut hi,
         &mut asker,
+        &mut hits,
         &mut count,
         &mut next,
         w.room,
@@ -267,7 +305,7 @@ pub(crate) fn asked(w: Held, bytes: [u8; 16], text: &[u8], out: &mut [u8], route
         out,
         route,
     );
-    after(w, ring_of(lo, hi, asker, count, next), report)
+    after(w, ring_of(lo, hi, asker, hits, count, next), report)
 }
 
 // The number is looked up.
@@ -278,12 +316,14 @@ pub(crate) fn looked_up(w: Held, bytes: [u8; 16]) -> Finding
     let lo = ring.lo;
     let hi = ring.hi;
     let asker = ring.asker;
+    let hits = ring.hits;
     let lines = w.lines;
     let number = Number { bytes };
     calls::lunozhar_look_up_lent(
         &lo,
         &hi,
         &asker,
+        &hits,
         ring.count,
         ring.next,
         w.room,
@@ -307,11 +347,13 @@ pub(crate) fn made(
     let lo = ring.lo;
     let hi = ring.hi;
     let asker = ring.asker;
+    let hits = ring.hits;
     let lines = w.lines;
     calls::lunozhar_table_for_lent(
         &lo,
         &hi,
         &asker,
+        &hits,
         ring.count,
         ring.next,
         w.room,

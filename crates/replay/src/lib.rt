@@ -52,7 +52,7 @@ pub fn waits(answer: u8) -> bool
 // Which event a word names.
 fn kind_of(row: &[u8], k: usize) -> usize {
     words::index(
-        b"open close message ask feed terms kept line fill pending held room table",
+        b"open close message ask feed terms kept line fill pending held room table hits",
         rows::word(row, k, 0),
     )
 }
@@ -64,7 +64,7 @@ fn width(kind: usize) -> usize
     match kind {
         0 | 1 | 8 | 10 | 11 => 2,
         2 | 4 | 5 | 9 => 4,
-        3 => 3,
+        3 | 13 => 3,
         6 | 12 => 6,
         7 => 14,
         _ => 1,

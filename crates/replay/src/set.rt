@@ -19,6 +19,13 @@ fn kept(mut ring: Ring, row: &[u8], k: usize) -> Ring {
     ring
 }
 
+// `hits I N`: the count of hits at a place
+fn counted(mut ring: Ring, row: &[u8], k: usize) -> Ring {
+    let i = rows::size(row, k, 1) % 512;
+    ring.hits[i] = rows::byte(row, k, 2);
+    ring
+}
+
 fn numbered() -> [u64; 512] {
     let mut lo = [0u64; 512];
     let mut i: usize = 0;
@@ -34,10 +41,12 @@ fn filled(who: u8) -> Ring {
     let lo = numbered();
     let hi = [0; 512];
     let asker = [who; 512];
+    let hits = [0; 512];
     Ring {
         lo,
         hi,
         asker,
+        hits,
         count: 512,
         next: 0,
     }
@@ -163,6 +172,10 @@ pub(crate) fn by_hand(mut w: Held, kind: usize, row: &[u8], k: usize) -> Held {
         }
         11 => {
             w.room = rows::size(row, k, 1);
+            w
+        }
+        13 => {
+            w.ring = counted(ring, row, k);
             w
         }
         _ => w,

@@ -27,6 +27,7 @@ use Rattle.protocol.specs.declared.Age.{Age}
 use Rattle.protocol.specs.declared.Report.{Report}
 use Rattle.protocol.specs.Memory.{noAge, ageAfter, pickAge, ageBehind}
 use Rattle.protocol.specs.Lines.{lineIn, withTable, partOf, heldFor}
+use Rattle.protocol.specs.State.{lineOnly}
 use Rattle.protocol.specs.Outcomes.{Step, onlyTo, writtenFor, handsUp, refusedOr}
 use Rattle.protocol.specs.Queries.{untilZero, textIn, hasText, queryOn, queryBefore, queryRules, lifeOf, queryTo}
 use Rattle.protocol.specs.Queries.{queryLines, queryTaken, queryStep}
@@ -48,7 +49,7 @@ use Rattle.station.proofs.AgeLaws.{repeat-is, does-aged}
 -- ---- a step that is picked by its number
 
 abbrev picked : ℕ → Line → List ℕ → Step → Step
-picked n x area r = refusedOr n (record { line = x; taken = false }) area r
+picked n x area r = refusedOr n (lineOnly x) area r
 
 module _ (n : ℕ) (x : Line) (area : List ℕ) (r : Step) (out : List ℕ) where
   pub step-refused : {a : ℕ} {act : Action} → a ≡ n → (a ≡ 0 → ⊥) → act ≡ quietAction a x
@@ -205,8 +206,8 @@ module _ (h : Header) (k : Lookup) {a : ℕ} (e : a ≡ firstOf (hitRules h k)) 
   pub hit-goes : Goes h
   hit-goes =
       let p = no-refusal (hitRules h k) refl (sym e ∙ z) in
-      let t : eqb (h .ttl) 1 ≡ false = rw (ne-eqb (k .asker) 8 ne) at (p .1 .1 .1 .1 .0) in
-      let u : eqb (h .hops) 255 ≡ false = rw (ne-eqb (k .asker) 8 ne) at (p .1 .1 .1 .1 .1 .0) in
+      let t : eqb (h .ttl) 1 ≡ false = rw (ne-eqb (k .asker) 8 ne) at (p .1 .1 .1 .1 .1 .0) in
+      let u : eqb (h .hops) 255 ≡ false = rw (ne-eqb (k .asker) 8 ne) at (p .1 .1 .1 .1 .1 .1 .0) in
       record {
         lives = omega (arith, eqb-false (h .ttl) 0 (p .1 .0), eqb-false (h .ttl) 1 t);
         rises = eqb-false (h .hops) 255 u;
@@ -233,22 +234,25 @@ module _ (x : Line) (h : Header) (k : Lookup) (m area out : List ℕ) (p : Senda
       → Does (hitStep x k m area) act out out
   hit-refused z ea = rw ea (hit-aged (step-refused _ x area (hitTaken x k m area) out hit-number z refl))
 
+  -- one that is delivered or passed back: its query has had one hit more
+  abbrev hitAction : Report → Action
+  hitAction q = record { report = q; line = x; remember = false; answered = true }
+
   module _ (z : a ≡ 0) {q : Report} (eq : q ≡ quietReport 0) where
     pub hit-here : k .asker ≡ 8 → Does (hitStep x k m area)
-        (agedAction age (record { report = deliveredIn q; line = x; remember = false })) out out
+        (agedAction age (hitAction (deliveredIn q))) out out
     hit-here f =
         let t = eq-eqb (k .asker) 8 f in
         hit-aged (step-taken _ x area (hitTaken x k m area) out hit-number z
         (record {
-          action = ap (λ (q : Report). record { report = deliveredIn q; line = x; remember = false }) eq ∙ rw t;
+          action = ap (λ (q : Report). hitAction (deliveredIn q)) eq ∙ rw t;
           output = rw t;
         }))
 
     pub hit-on : {w : ℕ} {to : List Bool} {out′ : List ℕ} → (k .asker ≡ 8 → ⊥) → ((i : ℕ) → getD m i 0 < 256)
         → w ≡ countIf (passable m (23 + h .size) out) (23 + h .size) → to ≡ onlyTo (k .asker)
         → out′ ≡ passedInto m (23 + h .size) (h .ttl - 1) (h .hops + 1) out
-        → Does (hitStep x k m area) (agedAction age (record { report = sentIn q w to; line = x; remember = false }))
-        out out′
+        → Does (hitStep x k m area) (agedAction age (hitAction (sentIn q w to))) out out′
     hit-on {w} {to} f bytes ew et eo =
         let t = ne-eqb (k .asker) 8 f in
         let eb = hit-bytes m (p .message .whole) bytes (kind-is m out p) in
@@ -256,7 +260,7 @@ module _ (x : Line) (h : Header) (k : Lookup) (m area out : List ℕ) (p : Senda
         ap (λ (j : Header). passedInto m (23 + h .size) (j .ttl - 1) (j .hops + 1) out) (p .message .header) in
         hit-aged (step-taken _ x area (hitTaken x k m area) out hit-number z
         (record {
-          action = ap (λ (q : Report). record { report = sentIn q w to; line = x; remember = false }) eq
+          action = ap (λ (q : Report). hitAction (sentIn q w to)) eq
               ∙ rw (t, pass-count m out p _ _ eb ew, et);
           output = rw t (pass-bytes m out p _ _ eb (eo ∙ ends));
         }))
@@ -346,10 +350,11 @@ module _ (limit room : ℕ) (lines : List Line) (l : ℕ) (m route out : List �
       → n ≡ length (textIn (payloadOf m))
       → out′ ≡ over 0 (writtenFor (queryLines limit room lines l m route) (queryOn limit m)) out
       → Does (queryTaken limit room lines l m route)
-      (record { report = searchedIn q w to n; line = x; remember = true }) out out′
+      (record { report = searchedIn q w to n; line = x; remember = true; answered = false }) out out′
   query-done {q} {w} {n} {to} {x} eq ex et ew en eo =
       record {
-        action = ap (λ (q : Report). record { report = searchedIn q w to n; line = x; remember = true }) eq
+        action = ap
+            (λ (q : Report). record { report = searchedIn q w to n; line = x; remember = true; answered = false }) eq
             ∙ rw (ex, et, ew ∙ counted (any (λ b. b) (queryLines limit room lines l m route)), en);
         output = eo;
       }
@@ -436,7 +441,12 @@ module _ (limit room l : ℕ) (v : View) (h : Header) (k : Lookup) (m out route 
 
       pub query-passed : {q : Report} → q ≡ quietReport 0
           → Does (queryStep limit room lines l k m route)
-          (record { report = searchedIn q w to (t .length); line = v .line; remember = true }) out out′
+          (record {
+            report = searchedIn q w to (t .length);
+            line = v .line;
+            remember = true;
+            answered = false;
+          }) out out′
       query-passed {q} eq =
           query-aged (ap (λ (q : Report). q .age) eq ∙ rw z)
           (step-taken _ (lineIn lines l) route (queryTaken limit room lines l m route) out query-number z

@@ -53,12 +53,17 @@ use Rattle.protocol.specs.Memory.{
   noTwice,
   askerFits,
   memoryInOrder,
+  hitsFit,
   rememberIf,
+  raised,
+  raise,
+  raiseIf,
   left,
   leftAll,
 }
 use Rattle.protocol.specs.Lines.{lineIn, livesIn, nowhere, emptyLine, withPong}
-use Rattle.protocol.specs.State.{Station, Change, stationOf, lookedUp, lineAt, withLine, withMemory, stateAfter}
+use Rattle.protocol.specs.State.{Station, Change, lineOnly, stationOf, lookedUp, lineAt, withLine, withMemory}
+use Rattle.protocol.specs.State.{stateAfter}
 use Rattle.protocol.specs.Order.{linesInOrder, inOrder}
 use Rattle.protocol.specs.Outcomes.{Terms, Result, Outcome, Step, quiet, sends, writtenFor, pickResult, refusedOr}
 use Rattle.protocol.specs.Outcomes.{handsUp, stored, unused, usedOf}
@@ -188,7 +193,7 @@ afterHit = hitType ∷ afterQuery
 -- it is done as its type's step is; x is its line's record as the step has it
 module _ (room : ℕ) (lines : List Line) (l : ℕ) (k : Lookup) (m : List ℕ) (t : Terms) (route out : List ℕ) where
   abbrev unchanged : Change
-  unchanged = record { line = lineIn lines l; taken = false }
+  unchanged = lineOnly (lineIn lines l)
 
   by-step : {n : ℕ} (r : Step) {a : Action} {out′ route′ : List ℕ} → n ≡ 0
       → byType usualLimit room lines l k m t route ≡ r
@@ -220,7 +225,7 @@ module _ (room : ℕ) (lines : List Line) (l : ℕ) (k : Lookup) (m : List ℕ) 
         (route-kept (firstOf (pongRules (headerIn m))) unchanged route stays refl)
       where
         stays : Step
-        stays = quiet 0 (record { line = withPong (lineIn lines l) (arrivedPong (t .clock) m); taken = false }) route
+        stays = quiet 0 (lineOnly (withPong (lineIn lines l) (arrivedPong (t .clock) m))) route
 
     pub act-update : {x : Line} → x ≡ lineIn lines l → Other n h m afterPong → h .kind ≡ routeUpdate → {route′ : List ℕ}
         → a ≡ actionOf (updateStep room l x m route) → route′ ≡ updateStep room l x m route .route
@@ -291,8 +296,8 @@ module _ (room : ℕ) (lines : List Line) (q : Memory) where
       lines) → b ≡ inOrder state
   unfolding inOrder memoryInOrder
   order-is e =
-      e ∙ ap (λ x. every (leb (q .count) capacity ∷ ltb (q .next) capacity ∷ noTwice (queriesIn capacity q) ∷ x ∷ [])
-      && linesInOrder room lines)
+      e ∙ ap (λ x. every (leb (q .count) capacity ∷ ltb (q .next) capacity ∷ noTwice (queriesIn capacity q) ∷ x
+      ∷ all (λ p. hitsFit (p .hits)) (queriesIn capacity q) ∷ []) && linesInOrder room lines)
       (all-same _ _ (λ x. fits-same (x .asker)) (queriesIn capacity q))
 
   module _ (line : ℕ) where
@@ -351,6 +356,29 @@ module _ (m : List ℕ) {h : Header} (eh : h ≡ headerIn m) (q : Memory) where
       → q′ ≡ rememberIf taken capacity q (numberIn m) who
   ring-after taken who e = e ∙ ap (λ (h : Header). rememberIf taken capacity q (numberFrom (h .lo) (h .hi)) who) eh
 
+  -- the same, and the query with this number has had one hit more, or none
+  abbrev withHits : List ℕ → Memory
+  withHits hits = memoryOf (q .lo) (q .hi) (q .asker) hits (q .count) (q .next)
+
+  raised-is : (answered : Bool) (after : ℕ) {hits : List ℕ}
+      → hits ≡ cond answered (raised capacity (q .next) after (q .hits)) (q .hits)
+      → withHits hits ≡ raiseIf answered capacity q after
+  unfolding raise
+  raised-is true after e = ap withHits e
+  raised-is false after e = ap withHits e
+
+  pub ring-counted : (taken answered : Bool) (who : ℕ) {k : Lookup}
+      → k ≡ lookupOf (find (queriesIn capacity q) (numberIn m)) → {hits : List ℕ}
+      → hits ≡ cond answered (raised capacity (q .next) (k .after) (q .hits)) (q .hits) → {q′ : Memory}
+      → q′ ≡ rememberIf taken capacity (withHits hits) (numberFrom (h .lo) (h .hi)) who
+      → q′ ≡ rememberIf taken capacity
+      (raiseIf answered capacity q (lookupOf (find (queriesIn capacity q) (numberIn m)) .after)) (numberIn m) who
+  ring-counted taken answered who {k} ek {hits} eh′ e =
+      e
+      ∙ ap (λ (h : Header). rememberIf taken capacity (withHits hits) (numberFrom (h .lo) (h .hi)) who) eh
+      ∙ ap (λ (r : Memory). rememberIf taken capacity r (numberIn m) who)
+      (raised-is answered (k .after) eh′ ∙ ap (λ (k : Lookup). raiseIf answered capacity q (k .after)) ek)
+
 -- areas that fit
 pub areas-fit : (room out route : ℕ) → unfitAreas room out route ≡ false → (largestMessage ≤ out) × (route / 8 ≡ room)
 areas-fit room out route e =
@@ -387,7 +415,7 @@ module _ (order : Bool) (room out route line : ℕ) (live : Bool) (m : List ℕ)
 
 -- what a message leaves of the state, as it is handed on
 abbrev pub changeOf : Action → Change
-changeOf a = record { line = a .line; taken = a .remember }
+changeOf a = record { line = a .line; taken = a .remember; answered = a .answered }
 
 -- what is handed on of a message meets its outcome, once the line's record is stored and its number remembered, if
 -- it is to be
@@ -461,10 +489,10 @@ module _ (room : ℕ) (lines : List Line) (q : Memory) (m : List ℕ) (t : Terms
 
         refused : eqb n 0 ≡ false → Goal (quiet n S route)
         refused b =
-            let e : Handed (quiet n (record { line = lineIn lines (line % 8); taken = false }) route) m a
+            let e : Handed (quiet n (lineOnly (lineIn lines (line % 8))) route) m a
             out out′ route′ = rw b at d in
             let w = met-by (line % 8) (numberIn m)
-            (quiet n (record { line = lineIn lines (line % 8); taken = false }) route) e in
+            (quiet n (lineOnly (lineIn lines (line % 8))) route) e in
             record {
               report = w .report;
               state = w .state ∙ ap (λ (x : List Line). stationOf room x q) (set-getD lines (line % 8) nowhere);
@@ -582,7 +610,8 @@ module _ (room : ℕ) (lines : List Line) (q : Memory) (line : ℕ) where
         by false e =
             record {
               answered = refl;
-              state = ap₂ (λ (x : List Line) a. stationOf room x (memoryOf (q .lo) (q .hi) a (q .count) (q .next)))
+              state = ap₂
+                  (λ (x : List Line) a. stationOf room x (memoryOf (q .lo) (q .hi) a (q .hits) (q .count) (q .next)))
                   (set-getD lines (line % 8) nowhere) (gone-stays (q .asker));
             }
 

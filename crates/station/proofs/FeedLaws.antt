@@ -19,7 +19,7 @@ use Rattle.wire.specs.Header.{headerIn, sizeOf}
 use Rattle.protocol.specs.declared.Line.{Line}
 use Rattle.protocol.specs.declared.Lookup.{Lookup}
 use Rattle.protocol.specs.Lines.{lineIn, lineNumbers}
-use Rattle.protocol.specs.State.{Change}
+use Rattle.protocol.specs.State.{Change, lineOnly}
 use Rattle.protocol.specs.Outcomes.{Terms}
 use Rattle.protocol.specs.Queries.{usualLimit}
 use Rattle.protocol.specs.Calls.{byType, extentRules, unfitAreas}
@@ -35,7 +35,7 @@ use Rattle.station.specs.declared.lines.View.{View}
 use Rattle.station.specs.declared.feeding.Feeding.{Feeding}
 use Rattle.station.specs.Actions.{viewOf, Fit}
 use Rattle.station.specs.Calls.{bothInOrder}
-use Rattle.station.specs.Feeding.{fedStep, lineOnly, droppedStep, FeedHanded, quietFeeding, wholeFeeding}
+use Rattle.station.specs.Feeding.{fedStep, droppedStep, FeedHanded, quietFeeding, wholeFeeding}
 use Rattle.station.specs.Feeding.{unfinishedFeeding, heldIf, messageOf, takenStep, Ends}
 use Rattle.station.proofs.CallLaws.{Done, areas-fit}
 

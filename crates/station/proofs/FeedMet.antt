@@ -15,9 +15,9 @@ use Rattle.laws.specs.Tests.{firstOf}
 use Rattle.laws.proofs.Refusals.{clash, or-fst, no-refusal, NoRefusal}
 use Rattle.protocol.specs.declared.Line.{Line}
 use Rattle.protocol.specs.declared.Lookup.{Lookup}
-use Rattle.protocol.specs.Memory.{Memory, Number, capacity, numberIn, rememberIf}
+use Rattle.protocol.specs.Memory.{Memory, Number, numberIn}
 use Rattle.protocol.specs.Lines.{lineIn, nowhere}
-use Rattle.protocol.specs.State.{Station, Change, stationOf, lookedUp, stateAfter}
+use Rattle.protocol.specs.State.{Station, Change, lineOnly, stationOf, lookedUp, memoryAfter, stateAfter}
 use Rattle.protocol.specs.Order.{inOrder}
 use Rattle.protocol.specs.Outcomes.{Terms, Step, leaving, refusedOr, stored}
 use Rattle.protocol.specs.Queries.{usualLimit}
@@ -48,7 +48,7 @@ use Rattle.receiving.specs.Feeding.{
 use Rattle.receiving.proofs.Extents.{IsExtent, Four, Five, Zero, extent-cases, front-least, front-long, front-extent}
 use Rattle.station.specs.declared.feeding.Feeding.{Feeding}
 use Rattle.station.specs.Calls.{bothInOrder}
-use Rattle.station.specs.Feeding.{lineOnly, droppedStep, fedBy, fedStep, FeedHanded, FeedMet}
+use Rattle.station.specs.Feeding.{droppedStep, fedBy, fedStep, FeedHanded, FeedMet}
 use Rattle.station.proofs.CallLaws.{changeOf}
 
 -- ---- lists
@@ -111,8 +111,7 @@ met-fed s l x d =
 dropped-stored : (s : Station) (l : ℕ) (x : Number) (r : Step)
     → dropped l (stored s l x r) ≡ stored s l x (droppedStep r)
 dropped-stored s l x r =
-    ap (λ (lines : List Line). leaving (stationOf (s .room) lines
-    (rememberIf (r .state .taken) capacity (s .memory) x l)) r)
+    ap (λ (lines : List Line). leaving (stationOf (s .room) lines (memoryAfter s l x (r .state))) r)
     (set-again (holding 0) (s .lines) l (r .state .line) nowhere)
 
 module _ (room : ℕ) (lines : List Line) (q : Memory) (bytes held : List ℕ) (t : Terms) (route : List ℕ) where

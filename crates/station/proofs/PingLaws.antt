@@ -18,6 +18,7 @@ use Rattle.protocol.specs.declared.Line.{Line}
 use Rattle.protocol.specs.declared.Own.{Own}
 use Rattle.protocol.specs.declared.Report.{Report}
 use Rattle.protocol.specs.Lines.{lineIn, withPong}
+use Rattle.protocol.specs.State.{lineOnly}
 use Rattle.protocol.specs.Outcomes.{Terms, termsOf, Step, quiet}
 use Rattle.protocol.specs.Pings.{
   isProbe,
@@ -73,14 +74,15 @@ module _ (lines : List Line) (l : ℕ) (x : Line) (ex : x ≡ lineIn lines l) (h
         → w ≡ length (pongsWritten (length out) lines l clock own number (h .hops) probe)
         → out′ ≡ over 0 (pongsWritten (length out) lines l clock own number (h .hops) probe) out
         → to ≡ backTo w l → y ≡ timeKept x probe clock → q ≡ quietReport 0
-        → Does step (record { report = sentIn q w to; line = y; remember = false }) out out′
+        → Does step (record { report = sentIn q w to; line = y; remember = false; answered = false }) out out′
     unfolding pingStep
     ping-done {w} {to} {y} ew eo et ey eq =
         let w-is : w ≡ length (pongsBack lines l terms m) = ew ∙ ap length sent-is in
         let probe-is : probe ≡ isProbe (headerIn m) = ep ∙ ap isProbe (p .header) in
         step-taken _ (lineIn lines l) area (pingTaken lines l terms m area) out ping-number z
         (record {
-          action = ap (λ (q : Report). record { report = sentIn q w to; line = y; remember = false }) eq
+          action = ap
+              (λ (q : Report). record { report = sentIn q w to; line = y; remember = false; answered = false }) eq
               ∙ rw (et, ey, w-is, probe-is, ex);
           output = eo ∙ ap (λ b. over 0 b out) sent-is;
         })
@@ -93,7 +95,7 @@ module _ (x : Line) (h : Header) (clock : ℕ) (m area : List ℕ) (p : Whole h 
   pong-number = e ∙ ap (λ (h : Header). firstOf (pongRules h)) (p .header)
 
   abbrev stored : Step
-  stored = quiet 0 (record { line = withPong x (arrivedPong clock m); taken = false }) area
+  stored = quiet 0 (lineOnly (withPong x (arrivedPong clock m))) area
 
   pub pong-refused : {act : Action} → (a ≡ 0 → ⊥) → act ≡ quietAction a x → act ≡ actionOf (pongStep x clock m area)
   unfolding pongStep

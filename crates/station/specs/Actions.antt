@@ -13,7 +13,7 @@ use Rattle.protocol.specs.declared.Age.{Age}
 use Rattle.protocol.specs.declared.Report.{Report}
 use Rattle.protocol.specs.Memory.{noAge}
 use Rattle.protocol.specs.Lines.{lineIn, livesIn, tablesIn}
-use Rattle.protocol.specs.State.{Change}
+use Rattle.protocol.specs.State.{Change, lineOnly}
 use Rattle.protocol.specs.Order.{linesInOrder}
 use Rattle.protocol.specs.Outcomes.{Terms, Step, nobody, refusedOr, reportOf}
 use Rattle.protocol.specs.Queries.{usualLimit}
@@ -23,7 +23,13 @@ use Rattle.station.specs.declared.lines.View.{View}
 
 -- a step as the code hands it on, with the bytes used, which are told last
 abbrev pub handedOn : Step → ℕ → Action
-handedOn r used = record { report = reportOf r used; line = r .state .line; remember = r .state .taken }
+handedOn r used =
+    record {
+      report = reportOf r used;
+      line = r .state .line;
+      remember = r .state .taken;
+      answered = r .state .answered;
+    }
 
 abbrev pub actionOf : Step → Action
 actionOf r = handedOn r 0
@@ -49,7 +55,7 @@ quietReport n =
     }
 
 abbrev pub quietAction : ℕ → Line → Action
-quietAction n x = record { report = quietReport n; line = x; remember = false }
+quietAction n x = record { report = quietReport n; line = x; remember = false; answered = false }
 
 -- a report and an action with another age
 abbrev pub agedReport : Age → Report → Report
@@ -67,7 +73,13 @@ agedReport a q =
     }
 
 abbrev pub agedAction : Age → Action → Action
-agedAction a act = record { report = agedReport a (act .report); line = act .line; remember = act .remember }
+agedAction a act =
+    record {
+      report = agedReport a (act .report);
+      line = act .line;
+      remember = act .remember;
+      answered = act .answered;
+    }
 
 -- a step is met by what is handed on and by the output area after it
 pub record Does (r : Step) (a : Action) (out out′ : List ℕ) : Type 0 where
@@ -101,4 +113,4 @@ pub record Fit (room : ℕ) (h : Header) (m : List ℕ) (out route : ℕ) : Type
 -- what a message by line l does whose first refusal is n (0 for none)
 abbrev pub acting : ℕ → ℕ → List Line → ℕ → Lookup → List ℕ → Terms → List ℕ → Step
 acting n room lines l k m t route =
-    refusedOr n (record { line = lineIn lines l; taken = false }) route (byType usualLimit room lines l k m t route)
+    refusedOr n (lineOnly (lineIn lines l)) route (byType usualLimit room lines l k m t route)

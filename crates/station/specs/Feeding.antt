@@ -13,7 +13,7 @@ use Rattle.protocol.specs.declared.Line.{Line}
 use Rattle.protocol.specs.declared.Lookup.{Lookup}
 use Rattle.protocol.specs.declared.Report.{Report}
 use Rattle.protocol.specs.Lines.{lineIn}
-use Rattle.protocol.specs.State.{Station, Change}
+use Rattle.protocol.specs.State.{Station, Change, lineOnly}
 use Rattle.protocol.specs.Outcomes.{Terms, Step, quiet, leaving}
 use Rattle.protocol.specs.Queries.{usualLimit}
 use Rattle.protocol.specs.Calls.{byType}
@@ -38,13 +38,11 @@ use Rattle.receiving.specs.Feeding.{
 use Rattle.station.specs.declared.actions.Action.{Action}
 use Rattle.station.specs.declared.feeding.Feeding.{Feeding}
 
--- the line's record after, and nothing remembered
-abbrev pub lineOnly : Line → Change
-lineOnly x = record { line = x; taken = false }
-
 -- the step of a whole message, with nothing held of its line
 abbrev pub droppedStep : Step → Step
-droppedStep r = leaving (record { line = holding 0 (r .state .line); taken = r .state .taken }) r
+droppedStep r =
+    leaving
+    (record { line = holding 0 (r .state .line); taken = r .state .taken; answered = r .state .answered }) r
 
 -- by a line with this record, at place l
 abbrev pub fedBy : Bool → Lookup → ℕ → List Line → ℕ → ℕ → Line → List ℕ → List ℕ → Terms → List ℕ → Fed Change
@@ -82,7 +80,13 @@ usedIn r used =
     }
 
 abbrev pub usedBy : Action → ℕ → Action
-usedBy a used = record { report = usedIn (a .report) used; line = a .line; remember = a .remember }
+usedBy a used =
+    record {
+      report = usedIn (a .report) used;
+      line = a .line;
+      remember = a .remember;
+      answered = a .answered;
+    }
 
 -- answered n, so many bytes used, with this record of the line
 abbrev pub quietFeeding : ℕ → ℕ → Line → Bool → Feeding
@@ -93,7 +97,12 @@ quietFeeding n used x waits =
 abbrev pub wholeFeeding : Action → ℕ → Bool → Feeding
 wholeFeeding a used within =
     record {
-      action = record { report = usedIn (a .report) used; line = holding 0 (a .line); remember = a .remember };
+      action = record {
+        report = usedIn (a .report) used;
+        line = holding 0 (a .line);
+        remember = a .remember;
+        answered = a .answered;
+      };
       within = within;
       waits = false;
     }

@@ -7,12 +7,14 @@ use protocol::Line;
 use protocol::Report;
 use refusals::ages::no_age;
 
-// What the caller is told, the record of the message's line after it, and whether its number is to be remembered.
+// What the caller is told, the record of the message's line after it, whether its number is to be remembered, and
+// whether the query with its number has had one hit more.
 #[repr(C)]
 pub struct Action {
     pub report: Report,
     pub line: Line,
     pub remember: bool,
+    pub answered: bool,
 }
 
 // Answered, and nothing is used, sent, searched, delivered or handed up.
@@ -34,7 +36,7 @@ pub(crate) fn quiet(answer: u8) -> Report
     }
 }
 
-// The same, with this record of the line; nothing is remembered.
+// The same, with this record of the line; nothing is remembered or counted.
 pub(crate) fn quietly(answer: u8, line: Line) -> Action
     ensures { λ r. ⌜ r ≡ quietAction answer line ⌝ }
 {
@@ -43,6 +45,7 @@ pub(crate) fn quietly(answer: u8, line: Line) -> Action
         report,
         line,
         remember: false,
+        answered: false,
     }
 }
 
@@ -56,6 +59,7 @@ pub(crate) fn refused(answer: u8, line: Line, age: Age) -> Action
         report,
         line,
         remember: false,
+        answered: false,
     }
 }
 

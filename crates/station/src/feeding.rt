@@ -116,6 +116,7 @@ fn whole_feeding(a: Action, used: usize, within: bool) -> Feeding
         report,
         line,
         remember: a.remember,
+        answered: a.answered,
     };
     Feeding {
         action,
@@ -203,7 +204,8 @@ fn taken(
 }
 
 // Bytes by a line, given whether the ring is in order and what it knows of the number that they bring. The record that
-// comes back belongs at line % 8, and the ring takes the number in where it is to be remembered.
+// comes back belongs at line % 8, and the ring takes the number in where it is to be remembered, or counts the
+// hit.
 pub fn feed(
     s: Survey,
     room: usize,

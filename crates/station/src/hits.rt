@@ -38,6 +38,7 @@ pub(crate) fn hit_step(line: Line, h: Header, known: Lookup, m: &[u8], out: &mut
             report,
             line,
             remember: false,
+            answered: true,
         };
     }
     let n = HEADER_SIZE + h.size as usize;
@@ -48,5 +49,6 @@ pub(crate) fn hit_step(line: Line, h: Header, known: Lookup, m: &[u8], out: &mut
         report,
         line,
         remember: false,
+        answered: true,
     }
 }

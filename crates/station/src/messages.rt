@@ -29,7 +29,7 @@ fn used_of(answer: u8, size: u32) -> usize
 }
 
 // An arriving message, given whether the ring is in order and what it knows of the number. The record that comes back
-// belongs at line % 8, and the ring takes the number in where it is to be remembered.
+// belongs at line % 8, and the ring takes the number in where it is to be remembered, or counts the hit.
 pub fn arrive(
     s: Survey,
     room: usize,
@@ -82,5 +82,6 @@ pub fn arrive(
         report,
         line: after,
         remember: a.remember,
+        answered: a.answered,
     }
 }

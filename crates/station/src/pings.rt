@@ -81,6 +81,7 @@ pub(crate) fn ping_step(
         report,
         line,
         remember: false,
+        answered: false,
     }
 }
 

@@ -73,5 +73,6 @@ pub(crate) fn query_step(
         report,
         line,
         remember: true,
+        answered: false,
     }
 }

@@ -16,7 +16,7 @@ use Rattle.tables.specs.Patch.{numbers, added, allFit}
 use Rattle.tables.specs.Updates.{updateAnswer, updated, goodReset, goodPatch, inTurn, inRange, resetBy, movedOn}
 use Rattle.tables.specs.Updates.{patchBy, brokenBy}
 use Rattle.tables.specs.Admission.{withholds}
-use Rattle.protocol.specs.Memory.{queriesIn, find, remember, noTwice, memoryInOrder}
+use Rattle.protocol.specs.Memory.{queriesIn, find, remember, raise, noTwice, memoryInOrder}
 use Rattle.protocol.specs.Lines.{storedPongs}
 use Rattle.protocol.specs.Order.{lineInOrder, inOrder}
 use Rattle.protocol.specs.Queries.{untilZero, queryStep}
@@ -90,7 +90,7 @@ hits : sessionText (fileOf hitEvents)
     ++ codes "5 0 0 2\n6 0 0 1\n7 0 0 0\n8 8 - -\n9 8 - 2\n10 10 - -\n"
 unfolding event offsets joined fileOf query hit hitEvents goodOffsets goodEvent decimal sentText ageText rowText callOf
     rowsFrom allRows sessionText keptPlaces message isSeparator lower keywordsOf pieces filled goodLength tableInOrder
-    withholds queriesIn find remember noTwice memoryInOrder storedPongs lineInOrder inOrder untilZero queryStep hitStep
+    withholds queriesIn find remember raise noTwice memoryInOrder storedPongs lineInOrder inOrder untilZero queryStep hitStep
     fresh opening early byType arriving
 hits = refl
 

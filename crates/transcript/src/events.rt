@@ -69,6 +69,7 @@ pub(crate) fn act(
     lo: &mut [u64; 512],
     hi: &mut [u64; 512],
     asker: &mut [u8; 512],
+    hits: &mut [u8; 512],
     count: &mut usize,
     next: &mut usize,
     room: usize,
@@ -80,13 +81,16 @@ pub(crate) fn act(
     requires { ⌜ (length (now area) ≡ outputSize) × (6 ≤ length (now event)) ⌝ }
     ensures result { λ r.
         let before = stationOf room lines
-        (memoryOf (now (lo .entry)) (now (hi .entry)) (now (asker .entry)) (now (count .entry)) (now (next .entry))) in
+        (memoryOf (now (lo .entry)) (now (hi .entry)) (now (asker .entry)) (now (hits .entry)) (now (count .entry))
+        (now (next .entry))) in
         let after = stationOf room (r .lines)
-        (memoryOf (now (lo .exit)) (now (hi .exit)) (now (asker .exit)) (now (count .exit)) (now (next .exit))) in
+        (memoryOf (now (lo .exit)) (now (hi .exit)) (now (asker .exit)) (now (hits .exit)) (now (count .exit))
+        (now (next .exit))) in
         ⌜ Answers (outcomeBy before (now (route .entry)) (now (event .entry))) r after ⌝ }
     ensures after { λ _.
         let before = stationOf room lines
-        (memoryOf (now (lo .entry)) (now (hi .entry)) (now (asker .entry)) (now (count .entry)) (now (next .entry))) in
+        (memoryOf (now (lo .entry)) (now (hi .entry)) (now (asker .entry)) (now (hits .entry)) (now (count .entry))
+        (now (next .entry))) in
         ⌜ now (route .exit) ≡ routeBy before (now (route .entry)) (now (event .entry)) ⌝ }
 {
     let line = line_of(event);
@@ -95,12 +99,12 @@ pub(crate) fn act(
     let p = *next;
     let all = Lines { at: lines };
     if kind == 0 {
-        let opened = lunozhar_open_lent(lo, hi, asker, n, p, room, all, line);
+        let opened = lunozhar_open_lent(lo, hi, asker, hits, n, p, room, all, line);
         let x = opened.line;
         return hand_on(lines, line, x, opened.answer, [false; 8], no_age());
     }
     if kind == 1 {
-        let closed = lunozhar_close_lent(lo, hi, asker, n, p, room, all, line);
+        let closed = lunozhar_close_lent(lo, hi, asker, hits, n, p, room, all, line);
         let x = closed.line;
         return hand_on(lines, line, x, closed.answer, [false; 8], no_age());
     }
@@ -110,6 +114,7 @@ pub(crate) fn act(
         lo,
         hi,
         asker,
+        hits,
         count,
         next,
         room,

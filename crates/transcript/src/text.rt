@@ -25,6 +25,7 @@ fn put_rows(
     lo: &mut [u64; 512],
     hi: &mut [u64; 512],
     asker: &mut [u8; 512],
+    hits: &mut [u8; 512],
     count: &mut usize,
     next: &mut usize,
     room: usize,
@@ -39,7 +40,8 @@ fn put_rows(
     requires { ⌜ RowsFit (now file) n (length (now area)) (length (now out)) at ⌝ }
     ensures { λ r.
         let s = stationOf room lines
-        (memoryOf (now (lo .entry)) (now (hi .entry)) (now (asker .entry)) (now (count .entry)) (now (next .entry))) in
+        (memoryOf (now (lo .entry)) (now (hi .entry)) (now (asker .entry)) (now (hits .entry)) (now (count .entry))
+        (now (next .entry))) in
         ⌜ Put at (rowsFrom (now (file .entry)) s (now (route .entry)) (countFrom 0 n))
         (now (out .entry)) (now (out .exit)) r ⌝ }
 {
@@ -52,6 +54,7 @@ fn put_rows(
             lo,
             hi,
             asker,
+            hits,
             count,
             next,
             room,
@@ -79,12 +82,14 @@ fn put_session(file: &[u8], out: &mut [u8]) -> usize
     let mut lo = [0u64; 512];
     let mut hi = [0u64; 512];
     let mut asker = [0u8; 512];
+    let mut hits = [0u8; 512];
     let mut remembered: usize = 0;
     let mut next: usize = 0;
     let begun = lunozhar::calls::lunozhar_fresh_lent(
         &mut lo,
         &mut hi,
         &mut asker,
+        &mut hits,
         &mut remembered,
         &mut next,
         route.len(),
@@ -96,6 +101,7 @@ fn put_session(file: &[u8], out: &mut [u8]) -> usize
         &mut lo,
         &mut hi,
         &mut asker,
+        &mut hits,
         &mut remembered,
         &mut next,
         begun.room,

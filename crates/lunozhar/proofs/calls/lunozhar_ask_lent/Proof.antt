@@ -9,13 +9,13 @@ use Rattle.lunozhar.proofs.calls.lunozhar_ask_lent.Tie as tie
 returns : tie.Need-returns
 returns c =
     let before5 = c .before .before .before .before .before in
-    let at-ask = before5 .before .before .before .before in
+    let at-ask = before5 .before .before .before .before .before in
     let at-survey = at-ask .before .before in
     let at-given = at-survey .before .before .before in
-    let at-header = at-given .before .before .before in
+    let at-header = at-given .before .before .before .before in
     let before3 = at-header .before .before .before in
     let a = before3 .before .before .before .before .args in
-    let q = memoryOf (a .lo .now) (a .hi .now) (a .asker .now) (a .count .now) (a .next .now) in
+    let q = memoryOf (a .lo .now) (a .hi .now) (a .asker .now) (a .hits .now) (a .count .now) (a .next .now) in
     let number = at-header .read-header .ensures in
     let s = at-survey .survey-ring in
     let order = surveyed-order (a .room) (a .lines .at) q (s .ensures .0) in

@@ -13,7 +13,7 @@ returns c =
     let at-survey = c .before .before .before in
     let at-header = at-survey .before in
     let a = at-header .before .before .before .before .args in
-    let q = memoryOf (a .lo .now) (a .hi .now) (a .asker .now) (a .count) (a .next) in
+    let q = memoryOf (a .lo .now) (a .hi .now) (a .asker .now) (a .hits .now) (a .count) (a .next) in
     let number = at-header .read-header .ensures in
     let s = at-survey .survey-ring in
     c .look-up .ensures

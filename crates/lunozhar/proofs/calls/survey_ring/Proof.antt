@@ -11,7 +11,7 @@ use Rattle.lunozhar.proofs.calls.survey_ring.Tie as tie
 returns : tie.Need-returns
 returns c =
     let a = c .before .before .args in
-    let q = memoryOf (a .lo .now) (a .hi .now) (a .asker .now) (a .count) (a .next) in (
+    let q = memoryOf (a .lo .now) (a .hi .now) (a .asker .now) (a .hits .now) (a .count) (a .next) in (
       c .survey .ensures .0
           ∙ ap (λ (live : List Bool). memoryInOrder capacity (λ k. getD live k false) q) (c .before .lives .ensures),
       c .survey .ensures .1,

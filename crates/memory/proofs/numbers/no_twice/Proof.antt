@@ -20,16 +20,18 @@ sub-no-twice-in : tie.Need-sub-no-twice-in
 sub-no-twice-in c = search needs
 
 no-twice-in-requires : tie.Need-no-twice-in-requires
-no-twice-in-requires c κs =
-    ((search needs, search needs, search needs), passed-none _ (c .before .before .before .before .before .pre .2))
+no-twice-in-requires c κs = (
+  (search needs, search needs, search needs),
+  passed-none _ (c .before .before .before .before .before .before .pre .2),
+)
 
 returns : tie.Need-returns
 returns c =
     let first = c .before .before .before in
-    let start = first .before .before .before .before in
+    let start = first .before .before .before .before .before in
     let a = start .args in
     let r = c .before .no-twice-in in
-    end-twice (queryAt (memoryOf (a .lo .now) (a .hi .now) (a .asker .now) 0 0)) (length (a .lo .now))
+    end-twice (queryAt (memoryOf (a .lo .now) (a .hi .now) (a .asker .now) (a .hits .now) 0 0)) (length (a .lo .now))
     (a .next) (a .count) (first .below .result) (start .pre .0) (start .pre .1) (first .below .ensures)
     (rw (not-true (r .result) (c .if1 .taken)) at (r .ensures))
 
@@ -39,11 +41,12 @@ sub-no-twice-in-2 c = search needs
 no-twice-in-requires-2 : tie.Need-no-twice-in-requires-2
 no-twice-in-requires-2 c κs =
     let first = c .before .before .before .before in
-    let start = first .before .before .before .before in
+    let start = first .before .before .before .before .before in
     let a = start .args in
     let r = c .before .before .no-twice-in in (
       (search needs, search needs, search needs),
-      end-passed (queryAt (memoryOf (a .lo .now) (a .hi .now) (a .asker .now) 0 0)) (length (a .lo .now))
+      end-passed (queryAt (memoryOf (a .lo .now) (a .hi .now) (a .asker .now) (a .hits .now) 0 0))
+          (length (a .lo .now))
           (a .next) (a .count) (first .below .result) (start .pre .0) (start .pre .1) (first .below .ensures) _
           (rw (not-false (r .result) (c .before .if1 .left)) at (r .ensures)),
     )
@@ -51,7 +54,7 @@ no-twice-in-requires-2 c κs =
 returns-2 : tie.Need-returns-2
 returns-2 c =
     let first = c .before .before .before .before .before in
-    let a = first .before .before .before .before .args in
+    let a = first .before .before .before .before .before .args in
     let f = first .below .result in
     let e : a .count - f + (a .next - (a .next - f)) ≡ a .count = omega (arith, first .below .ensures) in
     rw e at (c .no-twice-in2 .ensures)

@@ -12,24 +12,24 @@ use Rattle.memory.proofs.numbers.no_twice_in.Statement.{statement}
 use Rattle.memory.proofs.numbers.no_twice_in.Tie as tie
 
 abbrev Inv-loop : tie.InvT-loop
-Inv-loop lo hi asker from to passed filter₀ p₀ filter p =
+Inv-loop lo hi asker hits from to passed filter₀ p₀ filter p =
     (from ≤ p)
     × (p ≤ to)
     × (p < to → marked filter (getD lo p 0) ≡ true)
-    × Passed filter (before (queryAt (memoryOf lo hi asker 0 0)) (length lo) p (passed + (p - from)))
+    × Passed filter (before (queryAt (memoryOf lo hi asker hits 0 0)) (length lo) p (passed + (p - from)))
 
 abbrev μ-loop : tie.MeasureT-loop
-μ-loop lo hi asker from to passed filter₀ p₀ filter p = to - p
+μ-loop lo hi asker hits from to passed filter₀ p₀ filter p = to - p
 
 fill-requires : tie.Need-fill-requires Inv-loop μ-loop
-fill-requires c κs = let pre = c .before .before .before .before .pre in (pre .0 .0, pre .0 .1, pre .1 .size)
+fill-requires c κs = let pre = c .before .before .before .before .before .pre in (pre .0 .0, pre .0 .1, pre .1 .size)
 
 loop-holds : tie.Need-loop-holds Inv-loop μ-loop
 loop-holds c =
-    let start = c .before .before .before .before .before in
+    let start = c .before .before .before .before .before .before in
     let a = start .args in
     let f = c .fill .ensures in
-    (f .low, f .high, f .stopped, f .on (a .hi .now) (a .asker .now) (a .passed) (start .pre .1))
+    (f .low, f .high, f .stopped, f .on (a .hi .now) (a .asker .now) (a .hits .now) (a .passed) (start .pre .1))
 
 sub-find : tie.Need-sub-find Inv-loop μ-loop
 sub-find c = search needs
@@ -54,10 +54,10 @@ returns c =
     let looked = c .before in
     let head = looked .before .before .before .before in
     let filled = head .before in
-    let start = filled .before .before .before .before .before in
+    let start = filled .before .before .before .before .before .before in
     let a = start .args in
     let p = head .loop .p in
-    let ring = memoryOf (a .lo .now) (a .hi .now) (a .asker .now) (a .passed + (p - a .from)) p in
+    let ring = memoryOf (a .lo .now) (a .hi .now) (a .asker .now) (a .hits .now) (a .passed + (p - a .from)) p in
     let told =
     found-before (length (a .lo .now)) ring _ (looked .find .result) (omega (arith, start .pre))
     (omega (arith, start .pre)) (looked .before .word-at .ensures) (looked .find .ensures) in
@@ -72,7 +72,7 @@ fill-requires-2 c κs =
     let looked = c .before .before in
     let head = looked .before .before .before .before in
     let filled = head .before in
-    (search needs, filled .before .before .before .before .before .pre .0 .1, head .loop .inv .3 .size)
+    (search needs, filled .before .before .before .before .before .before .pre .0 .1, head .loop .inv .3 .size)
 
 loop-less : tie.Need-loop-less Inv-loop μ-loop
 loop-less c = omega (arith, c .fill2 .ensures .low)
@@ -83,11 +83,11 @@ loop-again c =
     let looked = tested .before in
     let head = looked .before .before .before .before in
     let filled = head .before in
-    let start = filled .before .before .before .before .before in
+    let start = filled .before .before .before .before .before .before in
     let a = start .args in
     let l = head .loop in
     let n = a .passed + (l .p - a .from) in
-    let ring = memoryOf (a .lo .now) (a .hi .now) (a .asker .now) n (l .p) in
+    let ring = memoryOf (a .lo .now) (a .hi .now) (a .asker .now) (a .hits .now) n (l .p) in
     let told =
     found-before (length (a .lo .now)) ring _ (looked .find .result) (omega (arith, start .pre))
     (omega (arith, start .pre)) (looked .before .word-at .ensures) (looked .find .ensures) in
@@ -96,14 +96,18 @@ loop-again c =
     (l .inv .3) (sym told ∙ tested .if1 .left) (l .inv .3 .size) (l .inv .2 (search needs)) (λ _ e. e) in
     let f = c .fill2 .ensures in
     let p = c .fill2 .result in
-    let e : n + 1 + (p - (l .p + 1)) ≡ a .passed + (p - a .from) = omega (arith, f .low) in
-    (omega (arith, f .low), f .high, f .stopped, rw e at (f .on (a .hi .now) (a .asker .now) (n + 1) one))
+    let e : n + 1 + (p - (l .p + 1)) ≡ a .passed + (p - a .from) = omega (arith, f .low) in (
+      omega (arith, f .low),
+      f .high,
+      f .stopped,
+      rw e at (f .on (a .hi .now) (a .asker .now) (a .hits .now) (n + 1) one),
+    )
 
 returns-2 : tie.Need-returns-2 Inv-loop μ-loop
 returns-2 c =
     let head = c .before in
     let filled = head .before in
-    let e : head .loop .p ≡ filled .before .before .before .before .before .args .to = omega arith in
+    let e : head .loop .p ≡ filled .before .before .before .before .before .before .args .to = omega arith in
     rw e at (head .loop .inv .3)
 
 pub no-twice-in-spec : {M : Type 1} → statement M

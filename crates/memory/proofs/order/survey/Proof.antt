@@ -23,11 +23,12 @@ absent-requires c κs = search needs
 returns : tie.Need-returns
 returns c =
     let told = c .before .before .before in
-    let a = told .before .before .before .before .before .args in
+    let a = told .before .before .before .before .before .before .args in
     let o = told .in-order in
     let e : length (a .lo .now) ≡ 512 = omega arith in
     let known = rw e at (o .ensures .1 (c .before .before .if1 .taken)) in
-    let qs = queriesIn capacity (memoryOf (a .lo .now) (a .hi .now) (a .asker .now) (a .count) (a .next)) in
+    let qs = queriesIn capacity
+    (memoryOf (a .lo .now) (a .hi .now) (a .asker .now) (a .hits .now) (a .count) (a .next)) in
     let none = lacks-absent _ qs (a .low) (a .high) known (c .before .if2 .taken) in
     (rw e at (o .ensures .0), c .absent .ensures ∙ ap lookupOf (sym none))
 
@@ -36,8 +37,8 @@ find-requires c κs = search needs
 
 returns-2 : tie.Need-returns-2
 returns-2 c =
-    let told = c .before .before .before .before .before in
-    let a = told .before .before .before .before .before .args in
+    let told = c .before .before .before .before .before .before in
+    let a = told .before .before .before .before .before .before .args in
     let e : length (a .lo .now) ≡ 512 = omega arith in
     (rw e at (told .in-order .ensures .0), rw e at (c .find .ensures))
 

@@ -1,5 +1,4 @@
 -- Not taken, the ring is as it was; taken, it is stored place by place.
-use mathlib.Core.Path.{_≡_}
 use native.Mathlib.Nat.{mod-add-mod}
 use borrow.Author.Needs.{needs}
 use borrow.Author.Tests.{not-true, not-false}
@@ -25,6 +24,9 @@ element-write-hi c = search needs
 element-write-asker : tie.Need-element-write-asker
 element-write-asker c = search needs
 
+element-write-hits : tie.Need-element-write-hits
+element-write-hits c = search needs
+
 one-more-requires : tie.Need-one-more-requires
 one-more-requires c κs = search needs
 
@@ -48,6 +50,7 @@ remember-spec =
     mul-hi
     element-write-hi
     element-write-asker
+    element-write-hits
     one-more-requires
     add-next
     returns-2)

@@ -17,9 +17,9 @@ absent-requires c κs = search needs
 returns : tie.Need-returns
 unfolding find
 returns c =
-    let a = c .before .before .before .before .before .args in
+    let a = c .before .before .before .before .before .before .args in
     let n = length (a .lo .now) in
-    let ring = memoryOf (a .lo .now) (a .hi .now) (a .asker .now) (a .count) (a .next) in
+    let ring = memoryOf (a .lo .now) (a .hi .now) (a .asker .now) (a .hits .now) (a .count) (a .next) in
     let f = not-true (ringFits n (a .next) (a .count)) (c .before .if1 .taken) in
     c .absent .ensures ∙ rw (kept-none n ring f)
 
@@ -28,7 +28,7 @@ below-requires c κs = search needs
 
 newest-requires : tie.Need-newest-requires
 newest-requires c κs =
-    let a = c .before .before .before .before .before .args in
+    let a = c .before .before .before .before .before .before .args in
     let n = length (a .lo .now) in
     let h = fits-next n (a .next) (a .count) (not-false (ringFits n (a .next) (a .count)) (c .before .if1 .left)) in
     (search needs, search needs, search needs)
@@ -36,10 +36,10 @@ newest-requires c κs =
 returns-2 : tie.Need-returns-2
 returns-2 c =
     let tested = c .before .before .before in
-    let a = tested .before .before .before .before .args in
+    let a = tested .before .before .before .before .before .args in
     let n = length (a .lo .now) in
     let f = not-false (ringFits n (a .next) (a .count)) (tested .if1 .left) in
-    let ring = memoryOf (a .lo .now) (a .hi .now) (a .asker .now) (a .count) (a .next) in
+    let ring = memoryOf (a .lo .now) (a .hi .now) (a .asker .now) (a .hits .now) (a .count) (a .next) in
     let r = c .before .newest in
     let first = c .before .before .below in
     let found = sym (ap (λ (x : Lookup). x .found) (r .ensures)) ∙ c .if2 .taken in
@@ -51,7 +51,7 @@ sub-newest c = search needs
 newest-requires-2 : tie.Need-newest-requires-2
 newest-requires-2 c κs =
     let tested = c .before .before .before in
-    let a = tested .before .before .before .before .args in
+    let a = tested .before .before .before .before .before .args in
     let n = length (a .lo .now) in
     let m = fits-count n (a .next) (a .count) (not-false (ringFits n (a .next) (a .count)) (tested .if1 .left)) in
     (search needs, search needs, search needs)
@@ -59,10 +59,10 @@ newest-requires-2 c κs =
 returns-3 : tie.Need-returns-3
 returns-3 c =
     let tested = c .before .before .before .before in
-    let a = tested .before .before .before .before .args in
+    let a = tested .before .before .before .before .before .args in
     let n = length (a .lo .now) in
     let f = not-false (ringFits n (a .next) (a .count)) (tested .if1 .left) in
-    let ring = memoryOf (a .lo .now) (a .hi .now) (a .asker .now) (a .count) (a .next) in
+    let ring = memoryOf (a .lo .now) (a .hi .now) (a .asker .now) (a .hits .now) (a .count) (a .next) in
     let r = c .before .before .newest in
     let first = c .before .before .before .below in
     let none = sym (ap (λ (x : Lookup). x .found) (r .ensures)) ∙ c .before .if2 .left in

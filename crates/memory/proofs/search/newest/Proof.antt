@@ -13,30 +13,30 @@ use Rattle.memory.proofs.search.newest.Statement.{statement}
 use Rattle.memory.proofs.search.newest.Tie as tie
 
 abbrev Inv-loop : tie.InvT-loop
-Inv-loop lo hi asker from n passed a b i₀ i =
-    let left = leftOf (queryAt (memoryOf lo hi asker 0 0)) (length lo) (numberFrom a b) in
+Inv-loop lo hi asker hits from n passed a b i₀ i =
+    let left = leftOf (queryAt (memoryOf lo hi asker hits 0 0)) (length lo) (numberFrom a b) in
     (i ≤ n) × (left (from - i) (n - i) (passed + i) ≡ left from n passed)
 
 abbrev μ-loop : tie.MeasureT-loop
-μ-loop lo hi asker from n passed a b i₀ i = n - i
+μ-loop lo hi asker hits from n passed a b i₀ i = n - i
 
 loop-holds : tie.Need-loop-holds Inv-loop μ-loop
 loop-holds c = (search needs, simp (sub-zero, add-zero))
 
 -- the query at hand is the one, or those behind it decide
 turn : (c : tie.In-loop Inv-loop μ-loop)
-    → (let a = c .before .before .before .before .before .args in
-    let ring = memoryOf (a .lo .now) (a .hi .now) (a .asker .now) 0 0 in
+    → (let a = c .before .before .before .before .before .before .args in
+    let ring = memoryOf (a .lo .now) (a .hi .now) (a .asker .now) (a .hits .now) 0 0 in
     let left = leftOf (queryAt ring) (length (a .lo .now)) (numberFrom (a .a) (a .b)) in
     let i = c .before .loop .i in
     let q = queryAt ring (a .from - 1 - i) in
-    pickFound (sameNumber (q .number) (numberFrom (a .a) (a .b))) (At (a .passed + i) (q .asker))
+    pickFound (sameNumber (q .number) (numberFrom (a .a) (a .b))) (At (a .passed + i) (q .asker) (q .hits))
     (left (a .from - (i + 1)) (a .n - (i + 1)) (a .passed + (i + 1)))
     ≡ left (a .from) (a .n) (a .passed))
 turn c =
-    let a = c .before .before .before .before .before .args in
+    let a = c .before .before .before .before .before .before .args in
     let l = c .before .loop in
-    let ring = memoryOf (a .lo .now) (a .hi .now) (a .asker .now) 0 0 in
+    let ring = memoryOf (a .lo .now) (a .hi .now) (a .asker .now) (a .hits .now) 0 0 in
     sym
     (left-turn (queryAt ring) (length (a .lo .now)) (numberFrom (a .a) (a .b)) (a .from) (a .n) (a .passed) (l .i)
     (search needs) (search needs) (search needs))
@@ -44,10 +44,11 @@ turn c =
 
 returns : tie.Need-returns Inv-loop μ-loop
 returns c =
-    let same = sym (c .before .before .word-at .ensures) ∙ c .before .if2 .taken in
-    let half = c .before .before .before in
+    let looked = c .before .before in
+    let same = sym (looked .before .word-at .ensures) ∙ looked .if2 .taken in
+    let half = looked .before .before in
     let e = rw (eq-eqb _ _ (half .if1 .taken), eq-eqb _ _ same) at (turn (half .before .before)) in
-    rw (← e, c .byte-at .ensures)
+    rw (← e, c .before .byte-at .ensures, c .byte-at2 .ensures)
 
 loop-again : tie.Need-loop-again Inv-loop μ-loop
 loop-again c =
@@ -62,9 +63,9 @@ loop-again c =
 returns-2 : tie.Need-returns-2 Inv-loop μ-loop
 returns-2 c =
     let head = c .before .before in
-    let a = head .before .before .before .before .args in
+    let a = head .before .before .before .before .before .args in
     let l = head .loop in
-    let ring = memoryOf (a .lo .now) (a .hi .now) (a .asker .now) 0 0 in
+    let ring = memoryOf (a .lo .now) (a .hi .now) (a .asker .now) (a .hits .now) 0 0 in
     let e =
     left-end (queryAt ring) (length (a .lo .now)) (numberFrom (a .a) (a .b)) (a .from - l .i) (a .n - l .i)
     (a .passed + l .i) (omega arith) in
@@ -74,5 +75,6 @@ pub newest-spec : {M : Type 1} → statement M
 newest-spec =
     tie.close
     (tie.spec Inv-loop μ-loop loop-holds (λ c. search needs) (λ c. search needs) (λ c. search needs) (λ c. search needs)
-    (λ c κs. search needs) (λ c. search needs) (λ c κs. search needs) returns (λ c. search needs) (λ c. search needs)
+    (λ c κs. search needs) (λ c. search needs) (λ c κs. search needs) (λ c κs. search needs) returns
+    (λ c. search needs) (λ c. search needs)
     loop-again (λ c κs. search needs) returns-2)

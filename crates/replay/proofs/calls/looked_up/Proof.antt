@@ -17,15 +17,15 @@ abbrev Told : Finding → Type 0
 Told f = (f .answer ≡ 0) ⊎ (f ≡ unfound (f .answer))
 
 -- by whether the state is in order, and whether the number was found
-told-by : (order found : Bool) (after asker : ℕ)
-    → Told (findingBy order (record { found = found; after = after; asker = asker }))
-told-by true true after asker = inl refl
-told-by true false after asker = inr refl
-told-by false found after asker = inr refl
+told-by : (order found : Bool) (after asker hits : ℕ)
+    → Told (findingBy order (record { found = found; after = after; asker = asker; hits = hits }))
+told-by true true after asker hits = inl refl
+told-by true false after asker hits = inr refl
+told-by false found after asker hits = inr refl
 
 told : (s : Station) (x : Number) → Told (lookingUp s x)
 unfolding lookingUp
-told s x = told-by (inOrder s) (lookedUp s x .found) (lookedUp s x .after) (lookedUp s x .asker)
+told s x = told-by (inOrder s) (lookedUp s x .found) (lookedUp s x .after) (lookedUp s x .asker) (lookedUp s x .hits)
 
 pub looked-up-spec : {M : Type 1} → statement M
 looked-up-spec = tie.close (tie.spec (λ c κs. search needs)

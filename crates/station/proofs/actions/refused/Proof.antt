@@ -13,7 +13,8 @@ quiet-requires c κs = search needs
 returns : tie.Need-returns
 returns c =
     let a = c .before .args in
-    ap (λ (q : Report). agedAction (a .age) (record { report = q; line = a .line; remember = false }))
+    ap (λ (q : Report). agedAction (a .age)
+    (record { report = q; line = a .line; remember = false; answered = false }))
     (c .quiet .ensures)
 
 pub refused-spec : {M : Type 1} → statement M

@@ -20,11 +20,11 @@ use Rattle.transcript.proofs.events.act.Tie as tie
 returns : tie.Need-returns
 returns c =
     let at-call = c .before .before .before in
-    let at-if1 = at-call .before .before .before .before in
+    let at-if1 = at-call .before .before .before .before .before in
     let at-line = at-if1 .before .before .before .before in
     let a = at-line .before .before .before .before .args in
     let l = at-line .line-of in
-    let q = memoryOf (a .lo .now) (a .hi .now) (a .asker .now) (a .count .now) (a .next .now) in
+    let q = memoryOf (a .lo .now) (a .hi .now) (a .asker .now) (a .hits .now) (a .count .now) (a .next .now) in
     let s = stationOf (a .room) (a .lines) q in
     act-open s (a .route .now) (a .event .now) (l .result) (l .ensures) (at-if1 .if1 .taken)
     (handed (a .lines) (l .result) (at-call .lunozhar-open-lent .result .line) (opening s (l .result))
@@ -34,12 +34,12 @@ returns c =
 returns-2 : tie.Need-returns-2
 returns-2 c =
     let at-call = c .before .before .before in
-    let at-if2 = at-call .before .before .before .before in
+    let at-if2 = at-call .before .before .before .before .before in
     let at-if1 = at-if2 .before in
     let at-line = at-if1 .before .before .before .before in
     let a = at-line .before .before .before .before .args in
     let l = at-line .line-of in
-    let q = memoryOf (a .lo .now) (a .hi .now) (a .asker .now) (a .count .now) (a .next .now) in
+    let q = memoryOf (a .lo .now) (a .hi .now) (a .asker .now) (a .hits .now) (a .count .now) (a .next .now) in
     let s = stationOf (a .room) (a .lines) q in
     act-close s (a .route .now) (a .event .now) (l .result) (l .ensures) (at-if1 .if1 .left) (at-if2 .if2 .taken)
     (handed (a .lines) (l .result) (at-call .lunozhar-close-lent .result .line) (closing s (l .result))
@@ -51,7 +51,7 @@ returns-3 c =
     let before4 = c .before .before .before .before in
     let at-call = before4 .before .before .before .before .before in
     let at-call4 = at-call .before .before .before .before in
-    let at-own = at-call4 .before .before .before .before .before in
+    let at-own = at-call4 .before .before .before .before .before .before in
     let at-clock = at-own .before in
     let at-if2 = at-clock .before .before in
     let at-if1 = at-if2 .before in
@@ -59,7 +59,7 @@ returns-3 c =
     let start = at-line .before .before .before .before in
     let a = start .args in
     let l = at-line .line-of in
-    let q = memoryOf (a .lo .now) (a .hi .now) (a .asker .now) (a .count .now) (a .next .now) in
+    let q = memoryOf (a .lo .now) (a .hi .now) (a .asker .now) (a .hits .now) (a .count .now) (a .next .now) in
     let s = stationOf (a .room) (a .lines) q in
     let x = at-call .lunozhar-message-lent .result .line in
     let clock = at-clock .little4 .result in

@@ -12,20 +12,20 @@ use Rattle.transcript.proofs.text.put_rows.Statement.{statement}
 use Rattle.transcript.proofs.text.put_rows.Tie as tie
 
 abbrev Inv-loop : tie.InvT-loop
-Inv-loop lo₀ hi₀ asker₀ count₀ next₀ room lines₀ file n area₀ route₀ out₀ at end₀ i₀
-    lo hi asker count next lines area route out end i =
-    Rows file n at (stationOf room lines₀ (memoryOf lo₀ hi₀ asker₀ count₀ next₀)) route₀ out₀ area route out
-    (stationOf room lines (memoryOf lo hi asker count next)) end i
+Inv-loop lo₀ hi₀ asker₀ hits₀ count₀ next₀ room lines₀ file n area₀ route₀ out₀ at end₀ i₀
+    lo hi asker hits count next lines area route out end i =
+    Rows file n at (stationOf room lines₀ (memoryOf lo₀ hi₀ asker₀ hits₀ count₀ next₀)) route₀ out₀ area route out
+    (stationOf room lines (memoryOf lo hi asker hits count next)) end i
 
 abbrev μ-loop : tie.MeasureT-loop
-μ-loop lo₀ hi₀ asker₀ count₀ next₀ room lines₀ file n area₀ route₀ out₀ at end₀ i₀
-    lo hi asker count next lines area route out end i = n - i
+μ-loop lo₀ hi₀ asker₀ hits₀ count₀ next₀ room lines₀ file n area₀ route₀ out₀ at end₀ i₀
+    lo hi asker hits count next lines area route out end i = n - i
 
 loop-holds : tie.Need-loop-holds Inv-loop μ-loop
 loop-holds c =
     let start = c .before .before .before .before in
     let a = start .args in
-    let q = memoryOf (a .lo .now) (a .hi .now) (a .asker .now) (a .count .now) (a .next .now) in
+    let q = memoryOf (a .lo .now) (a .hi .now) (a .asker .now) (a .hits .now) (a .count .now) (a .next .now) in
     let s = stationOf (a .room) (a .lines) q in
     rows-start (a .file .now) (a .n) (a .at) s (a .area .now) (a .route .now) (a .out .now)
     (start .pre)
@@ -61,18 +61,20 @@ rises : (o : tie.After-offset2 Inv-loop μ-loop) → o .before .offset .result +
 rises o = part-rises (turn-of o .loop .inv) (part o)
 
 sub-act : tie.Need-sub-act Inv-loop μ-loop
-sub-act c = omega (arith, rises (c .before .before .before .before .before))
+sub-act c = omega (arith, rises (c .before .before .before .before .before .before))
 
 part-act-start : tie.Need-part-act-start Inv-loop μ-loop
-part-act-start c = omega (arith, rises (c .before .before .before .before .before))
+part-act-start c = omega (arith, rises (c .before .before .before .before .before .before))
 
 part-act-end : tie.Need-part-act-end Inv-loop μ-loop
-part-act-end c = let o = c .before .before .before .before .before in part-within (turn-of o .loop .inv) (part o)
+part-act-end c =
+    let o = c .before .before .before .before .before .before in
+    part-within (turn-of o .loop .inv) (part o)
 
 act-requires : tie.Need-act-requires Inv-loop μ-loop
 act-requires c κs =
     let before4 = c .before .before .before .before in
-    let o = before4 .before .before .before .before in
+    let o = before4 .before .before .before .before .before in
     (turn-of o .loop .inv .output, part-size (turn-of o .loop .inv) (part o))
 
 -- the turn in which the event was acted on
@@ -80,7 +82,7 @@ abbrev test-of : tie.After-act Inv-loop μ-loop → tie.In-loop Inv-loop μ-loop
 test-of a =
     let before4 = a .before .before .before .before in
     let before8 = before4 .before .before .before .before in
-    before8 .before .before .before
+    before8 .before .before .before .before
 
 -- a file has fewer events than 16 bits count
 few : (t : tie.In-loop Inv-loop μ-loop) → t .before .loop .i < 8192
@@ -114,10 +116,10 @@ loop-again c =
     let at-put-row4 = at-put-row .before .before .before .before in
     let at-act = at-put-row4 .before .before .before .before in
     let at-act4 = at-act .before .before .before .before in
-    let o = at-act4 .before .before .before .before .before in
+    let o = at-act4 .before .before .before .before .before .before in
     let inv = turn-of o .loop .inv in
     let event = part-event inv (part o) in
-    let kept = at-act .act .kept .1 .1 .1 .1 .1 .1 .1 .1 in
+    let kept = at-act .act .kept .1 .1 .1 .1 .1 .1 .1 .1 .1 in
     rows-on inv (part o .more) (rw event at (at-act .act .ensures .0)) (rw event at (at-act .act .ensures .1))
     (kept .0) (kept .1 .0)
     (at-put-row .put-row .ensures .0) (at-put-row .put-row .ensures .1) (start-of (turn-of o) .pre .room)
