@@ -14,7 +14,7 @@ use Rattle.laws.proofs.Words.{stands-iff}
 use Rattle.wire.specs.Header.{headerIn, ttlOf, hopsOf, sizeOf}
 use Rattle.protocol.specs.declared.Age.{Age}
 use Rattle.protocol.specs.declared.Lookup.{Lookup}
-use Rattle.protocol.specs.Memory.{here, gone, Number, ageAfter, noAge, pickAge, ageOf, ageBehind}
+use Rattle.protocol.specs.Memory.{here, gone, hitLimit, Number, ageAfter, noAge, pickAge, ageOf, ageBehind}
 use Rattle.protocol.specs.State.{Station, lookedUp}
 use Rattle.protocol.specs.Order.{inOrder}
 use Rattle.protocol.specs.Outcomes.{unused}
@@ -52,32 +52,34 @@ module _ (before : List (Bool × ℕ)) (k : Lookup) where
 
 -- the answers of a hit whose number was found
 module _ (m : List ℕ) where
-  hit-answers : (P : ℕ → Bool) → P 0 ≡ true → P 8 ≡ true → P 11 ≡ true → P 12 ≡ true
+  hit-answers : (P : ℕ → Bool) → P 0 ≡ true → P 8 ≡ true → P 11 ≡ true → P 12 ≡ true → P 21 ≡ true
       → (n : ℕ) → HitFound m n → P n ≡ true
-  hit-answers P a b c d n (inl e) = ap P e ∙ a
-  hit-answers P a b c d n (inr (inl e)) = ap P e ∙ c
-  hit-answers P a b c d n (inr (inr (inl e))) = ap P e ∙ d
-  hit-answers P a b c d n (inr (inr (inr v))) = ap P (v .0) ∙ b
+  hit-answers P a b c d f n (inl e) = ap P e ∙ a
+  hit-answers P a b c d f n (inr (inl e)) = ap P e ∙ c
+  hit-answers P a b c d f n (inr (inr (inl e))) = ap P e ∙ d
+  hit-answers P a b c d f n (inr (inr (inr (inl e)))) = ap P e ∙ f
+  hit-answers P a b c d f n (inr (inr (inr (inr v)))) = ap P (v .0) ∙ b
 
   pub hit-sent : (n : ℕ) → HitFound m n → unused n ≡ false
-  hit-sent n v = not-true (unused n) (hit-answers (λ n. not (unused n)) refl refl refl refl n v)
+  hit-sent n v = not-true (unused n) (hit-answers (λ n. not (unused n)) refl refl refl refl refl n v)
 
   -- so not 6, 10, nor 8 where the TTL is 0
-  not-hit : (n : ℕ) → any (eqb n) (0 ∷ 8 ∷ 11 ∷ 12 ∷ []) ≡ false → HitFound m n → ⊥
-  not-hit n h v = clash (hit-answers (λ n. any (eqb n) (0 ∷ 8 ∷ 11 ∷ 12 ∷ [])) refl refl refl refl n v) h
+  not-hit : (n : ℕ) → any (eqb n) (0 ∷ 8 ∷ 11 ∷ 12 ∷ 21 ∷ []) ≡ false → HitFound m n → ⊥
+  not-hit n h v = clash (hit-answers (λ n. any (eqb n) (0 ∷ 8 ∷ 11 ∷ 12 ∷ 21 ∷ [])) refl refl refl refl refl n v) h
 
   spent : ttlOf m ≡ 0 → HitFound m 8 → ⊥
   spent z (inl e) = omega arith
   spent z (inr (inl e)) = omega arith
   spent z (inr (inr (inl e))) = omega arith
-  spent z (inr (inr (inr v))) = omega (arith, v .1)
+  spent z (inr (inr (inr (inl e)))) = omega arith
+  spent z (inr (inr (inr (inr v)))) = omega (arith, v .1)
 
   -- a hit hands an age up exactly where it is so answered: by its checks, in their order
   pub hit-found : (k : Lookup)
       → (ageBehind (hitBefore (headerIn m)) k .known ≡ true) ↔ HitFound m (firstOf (hitRules (headerIn m) k))
   hit-found k =
-      by (ltb (sizeOf m) 27) (eqb (ttlOf m) 0) (k .found) (eqb (k .asker) gone) (eqb (k .asker) here)
-      (eqb (ttlOf m) 1) (eqb (hopsOf m) 255) (eqb-true (ttlOf m) 0) (eqb-true (ttlOf m) 1)
+      by (ltb (sizeOf m) 27) (eqb (ttlOf m) 0) (k .found) (eqb (k .asker) gone) (eqb (k .hits) hitLimit)
+      (eqb (k .asker) here) (eqb (ttlOf m) 1) (eqb (hopsOf m) 255) (eqb-true (ttlOf m) 0) (eqb-true (ttlOf m) 1)
     where
       yes : {n : ℕ} → HitFound m n → (_≡_ {A = Bool} true true) ↔ HitFound m n
       yes v = ((λ _. v), (λ _. refl))
@@ -85,19 +87,21 @@ module _ (m : List ℕ) where
       no : {n : ℕ} → (HitFound m n → ⊥) → (_≡_ {A = Bool} false true) ↔ HitFound m n
       no f = ((λ e. absurd (clash e refl)), (λ v. absurd (f v)))
 
-      by : (size dead found gone here one most : Bool) → (dead ≡ true → ttlOf m ≡ 0) → (one ≡ true → ttlOf m ≡ 1)
+      by : (size dead found gone full here one most : Bool)
+          → (dead ≡ true → ttlOf m ≡ 0) → (one ≡ true → ttlOf m ≡ 1)
           → (pickAge (eqb (firstOf ((size, 6) ∷ (dead, 8) ∷ [])) 0) (pickAge found (ageAfter (k .after)) noAge) noAge
           .known ≡ true)
-          ↔ HitFound m (firstOf ((size, 6) ∷ (dead, 8) ∷ (not found, 10) ∷ (gone, 11) ∷ (not here && one, 8)
-          ∷ (not here && most, 12) ∷ []))
-      by true d f g h o x z w = no (not-hit 6 refl)
-      by false true f g h o x z w = no (spent (z refl))
-      by false false false g h o x z w = no (not-hit 10 refl)
-      by false false true true h o x z w = yes (inr (inl refl))
-      by false false true false true o x z w = yes (inl refl)
-      by false false true false false true x z w = yes (inr (inr (inr (refl, w refl))))
-      by false false true false false false true z w = yes (inr (inr (inl refl)))
-      by false false true false false false false z w = yes (inl refl)
+          ↔ HitFound m (firstOf ((size, 6) ∷ (dead, 8) ∷ (not found, 10) ∷ (gone, 11) ∷ (full, 21)
+          ∷ (not here && one, 8) ∷ (not here && most, 12) ∷ []))
+      by true d f g c h o x z w = no (not-hit 6 refl)
+      by false true f g c h o x z w = no (spent (z refl))
+      by false false false g c h o x z w = no (not-hit 10 refl)
+      by false false true true c h o x z w = yes (inr (inl refl))
+      by false false true false true h o x z w = yes (inr (inr (inr (inl refl))))
+      by false false true false false true o x z w = yes (inl refl)
+      by false false true false false false true x z w = yes (inr (inr (inr (inr (refl, w refl)))))
+      by false false true false false false false true z w = yes (inr (inr (inl refl)))
+      by false false true false false false false false z w = yes (inl refl)
 
 -- what a look-up tells of a state in order is the age of what it finds
 module _ (s : Station) (x : Number) where
@@ -109,7 +113,7 @@ module _ (s : Station) (x : Number) where
         (λ z. absurd (clash refl (ap (λ (a : Age). a .known) (sym z)))),
         (λ v. absurd (omega (arith, v .0))),
       ))
-      (λ _ i a e. rw e ((λ z. (refl, ap (λ (a : Age). a .after) z)), (λ v. ap ageAfter (v .1))))
+      (λ _ i a h e. rw e ((λ z. (refl, ap (λ (a : Age). a .after) z)), (λ v. ap ageAfter (v .1))))
 
   -- what is handed up is what it tells: of none, of what was found, and behind checks that a state which is not in
   -- order does not pass

@@ -16,7 +16,7 @@ use Rattle.protocol.specs.Outcomes.{Outcome}
 use Rattle.protocol.specs.Calls.{findingBy, lookingUp}
 use Rattle.protocol.specs.Runs.{Call, Open, Close, Message, Ask, Made, World, outcomeOf, run, start}
 use Rattle.protocol.specs.Demand2.{broughtNumber, Past, allTaken, lastTaken, lookUp, askerNow}
-use Rattle.protocol.specs.Demand2.{standing, MemoryIs}
+use Rattle.protocol.specs.Demand2.{hitsSince, standing, MemoryIs}
 use Rattle.protocol.proofs.Kept.{order-kept-by-lists}
 use Rattle.protocol.proofs.Origins.{memory-history, same-lookUp}
 use Rattle.receiving.specs.Events.{Receiver, worldOf, handleAll, begin}
@@ -32,7 +32,7 @@ use Rattle.ages.proofs.Positions.{stands-map, place-iff}
 -- Who asked: in a state in order the search's asker is told
 asker-told : (f : Found) → findingBy true (lookupOf f) .asker ≡ askerOf f
 asker-told Absent = refl
-asker-told (At n a) = refl
+asker-told (At n a h) = refl
 
 -- A state in order whose memory is its log's
 module _ (s : Station) (log : List Made) (base : List Query) (m : MemoryIs capacity s log base) (o : inOrder s ≡ true)
@@ -48,7 +48,7 @@ module _ (s : Station) (log : List Made) (base : List Query) (m : MemoryIs capac
   place-since n =
       let ps : List Past = allTaken (λ l. false) log base in
       rw (m .last)
-      (Iff·trans (stands-map askedNumber standing x (take capacity ps) n)
+      (Iff·trans (stands-map askedNumber (standing (hitsSince log base)) x (take capacity ps) n)
       (Iff·trans (stands-take takenNumber x capacity ps n) (Iff·and Iff·rfl (place-iff base x log n))))
 
   -- the same of a query that stands in the memory
@@ -60,9 +60,17 @@ module _ (s : Station) (log : List Made) (base : List Query) (m : MemoryIs capac
   stands-since n h =
       let v : Around askedNumber x (remembered s) n
       = around askedNumber x (remembered s) n (place-since n .1 h) in
-      let q : v .query ≡ record { number = x; asker = v .query .asker }
-      = λ i. record { number = v .has i; asker = v .query .asker } in
-      (v .query .asker, record { newer = v .newer; older = v .older; split = rw (← q) (v .split); count = v .count })
+      let q : v .query ≡ record { number = x; asker = v .query .asker; hits = v .query .hits }
+      = λ i. record { number = v .has i; asker = v .query .asker; hits = v .query .hits } in (
+        v .query .asker,
+        record {
+          newer = v .newer;
+          older = v .older;
+          hits = v .query .hits;
+          split = rw (← q) (v .split);
+          count = v .count;
+        },
+      )
 
   -- so what is told is what the log says
   told-since : (n : ℕ) → Tells s x n → (n < 512) × Since log base x n
@@ -86,7 +94,8 @@ module _ (s : Station) (log : List Made) (base : List Query) (m : MemoryIs capac
   unfolding lookingUp
   asker-is =
       ap (λ b. findingBy b (lookedUp s x) .asker) o ∙ asker-told (find (remembered s) x)
-      ∙ ap (λ qs. askerOf (find qs x)) (m .last) ∙ same-lookUp (lastTaken capacity log base) x .asker
+      ∙ ap (λ qs. askerOf (find qs x)) (m .last)
+      ∙ same-lookUp (hitsSince log base) (lastTaken capacity log base) x .asker
 
 age-is : (s : Station) (log : List Made) (base : List Query) → MemoryIs capacity s log base → inOrder s ≡ true
     → AgeIs s log base

@@ -21,7 +21,7 @@ module _ (s : Station) (x : Number) where
   pub of-look-up : (P : Finding → Type 0)
       → (inOrder s ≡ false → P (unfound 1))
       → (inOrder s ≡ true → find (remembered s) x ≡ Absent → P (unfound 10))
-      → (inOrder s ≡ true → (n a : ℕ) → find (remembered s) x ≡ At n a → P (foundBy a n))
+      → (inOrder s ≡ true → (n a h : ℕ) → find (remembered s) x ≡ At n a h → P (foundBy a n))
       → P (lookingUp s x)
   unfolding lookingUp
   of-look-up P refused absent found = by (inOrder s) refl (find (remembered s) x) refl
@@ -29,7 +29,7 @@ module _ (s : Station) (x : Number) where
       by : (o : Bool) → inOrder s ≡ o → (f : Found) → find (remembered s) x ≡ f → P (findingBy o (lookupOf f))
       by false o f e = refused o
       by true o Absent e = absent o e
-      by true o (At n a) e = found o n a e
+      by true o (At n a h) e = found o n a h e
 
   -- refused by n: nothing is told, where nothing stands
   refused-by : (n : ℕ) → (n ≡ 0 → ⊥) → (n ≡ 1) ↔ (inOrder s ≡ false)
@@ -55,7 +55,7 @@ module _ (s : Station) (x : Number) where
       ((λ e. absurd (omega arith)), (λ v. absurd (clash (v .0) o))) (λ z. absurd (clash z o))
 
   module _ (o : inOrder s ≡ true) where
-    stands : (n a : ℕ) → RememberedAt s x n a → find (remembered s) x ≡ At n a
+    stands : (n a : ℕ) (t : RememberedAt s x n a) → find (remembered s) x ≡ At n a (t .hits)
     stands n a t = stands-found s x n a (state-facts s o .twice) t
 
     not-found : find (remembered s) x ≡ Absent → FindingIs s x (unfound 10)
@@ -68,10 +68,10 @@ module _ (s : Station) (x : Number) where
             let z : _≡_ {A = ℕ} 0 1 = cc (stands n a t) in
             omega arith
 
-    module _ (n a : ℕ) (e : find (remembered s) x ≡ At n a) where
+    module _ (n a h : ℕ) (e : find (remembered s) x ≡ At n a h) where
       is-asker : IsAsker s a
       is-asker =
-          let r = found-index (remembered s) x a n e in
+          let r = found-index (remembered s) x a h n e in
           let fits = all-getD (λ q. fitsIn s (q .asker)) (remembered s) n none (state-facts s o .askers) (r .0) in
           asker-iff s a .0 (ap (λ (q : Query). fitsIn s (q .asker)) (sym (r .1)) ∙ fits)
 
@@ -79,15 +79,17 @@ module _ (s : Station) (x : Number) where
       is-found =
           record {
             one = ((λ e. absurd (omega arith)), (λ z. absurd (clash o z)));
-            ten = ((λ e. absurd (omega arith)), (λ v. absurd (v .1 n a (found-stands s x n a e))));
+            ten = ((λ e. absurd (omega arith)), (λ v. absurd (v .1 n a (found-stands s x n a h e))));
             found = λ m b. (
-              (λ f. (o, found-stands s x m b (e ∙ ap (λ (f : Finding). At (f .after) (f .asker)) f))),
+              (λ f. (o, found-stands s x m b h (e ∙ ap (λ (f : Finding). At (f .after) (f .asker) h) f))),
               (λ v. let f = stands m b (v .1) in cc),
             );
             refused = λ z. absurd (z refl);
             below = rw e at (after-below s x);
             asker = λ _. is-asker;
-            place = λ _. found-there capacity (s .memory) x n a e;
+            place = λ _.
+                let there = found-there capacity (s .memory) x n a h e in
+                (ap (λ (q : Query). q .number) there, ap (λ (q : Query). q .asker) there);
           }
 
 pub look-up-exactly : LookUpExactly

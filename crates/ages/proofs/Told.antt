@@ -13,7 +13,7 @@ use Rattle.protocol.specs.declared.Age.{Age}
 use Rattle.protocol.specs.declared.Lookup.{Lookup}
 use Rattle.protocol.specs.Memory.{numberIn, noAge}
 use Rattle.protocol.specs.Lines.{withPong, emptyLine}
-use Rattle.protocol.specs.State.{Station, Change, lineAt, withLine, lookedUp}
+use Rattle.protocol.specs.State.{Station, Change, lineOnly, lineAt, withLine, lookedUp}
 use Rattle.protocol.specs.Outcomes.{Terms, Result, Outcome, Step, quiet, refusedOr, pickResult, unused}
 use Rattle.protocol.specs.Queries.{usualLimit, queryTaken, queryStep}
 use Rattle.protocol.specs.Hits.{hitTaken, hitStep}
@@ -57,7 +57,7 @@ module _ (P : ℕ → Age → Type 0) where
 
     -- the line's record as it stands, which a refused message leaves
     abbrev same : Change
-    same = record { line = lineAt s l; taken = false }
+    same = lineOnly (lineAt s l)
 
     abbrev looked : Lookup
     looked = lookedUp s (numberIn m)
@@ -92,7 +92,7 @@ module _ (P : ℕ → Age → Type 0) where
             (neither pingType refl refl k)
 
         kept : Step
-        kept = quiet 0 (record { line = withPong (lineAt s l) (arrivedPong (t .clock) m); taken = false }) route
+        kept = quiet 0 (lineOnly (withPong (lineAt s l) (arrivedPong (t .clock) m))) route
 
         pong : eqb (kindOf m) pongType ≡ true → Of (pongStep (lineAt s l) (t .clock) m route)
         pong k = refused-none (firstOf (pongIn m)) same route kept refl (neither pongType refl refl k)

@@ -33,10 +33,11 @@ pub record UpFrom (s : Station) (x : Number) (age : Age) : Type 0 where
   pub is : age .known ≡ true → Tells s x (age .after)
   pub no : age .known ≡ false → age ≡ none
 
--- the answers of a hit whose number was found: 0, 11 and 12, and the later of its two 8s, for a TTL of 1. The earlier
--- one, for a TTL of 0, comes before the look-up
+-- the answers of a hit whose number was found: 0, 11, 12 and 21, and the later of its two 8s, for a TTL of 1. The
+-- earlier one, for a TTL of 0, comes before the look-up
 abbrev pub HitFound : List ℕ → ℕ → Type 0
-HitFound m answer = (answer ≡ 0) ⊎ ((answer ≡ 11) ⊎ ((answer ≡ 12) ⊎ ((answer ≡ 8) × (ttlOf m ≡ 1))))
+HitFound m answer =
+    (answer ≡ 0) ⊎ ((answer ≡ 11) ⊎ ((answer ≡ 12) ⊎ ((answer ≡ 21) ⊎ ((answer ≡ 8) × (ttlOf m ≡ 1)))))
 
 -- a message by line l
 pub record MessageUp (s : Station) (l : ℕ) (m : List ℕ) (out : ℕ) (route : List ℕ) (o : Outcome) : Type 0 where

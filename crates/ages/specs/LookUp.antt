@@ -12,11 +12,12 @@ use Rattle.protocol.specs.Memory.{capacity, Number, Query, queryAt, placeBehind
 use Rattle.protocol.specs.Order.{inOrder}
 use Rattle.protocol.specs.Calls.{lookingUp}
 
--- a query with this number and this asker is remembered, behind n newer ones
+-- a query with this number and this asker is remembered, behind n newer ones; how many hits it has had is not told
 pub record RememberedAt (s : Station) (x : Number) (n asker : ℕ) : Type 0 where
   pub newer : List Query
   pub older : List Query
-  pub split : remembered s ≡ newer ++ (record { number = x; asker = asker } ∷ older)
+  pub hits : ℕ
+  pub split : remembered s ≡ newer ++ (record { number = x; asker = asker; hits = hits } ∷ older)
   pub count : length newer ≡ n
 
 -- none has this number
@@ -39,7 +40,8 @@ pub record FindingIs (s : Station) (x : Number) (f : Finding) : Type 0 where
   pub asker : f .answer ≡ 0 → IsAsker s (f .asker)
   -- and so it stands at this place of the ring
   pub place : f .answer ≡ 0
-      → queryAt (s .memory) (placeBehind capacity (s .memory) (f .after)) ≡ record { number = x; asker = f .asker }
+      → (queryAt (s .memory) (placeBehind capacity (s .memory) (f .after)) .number ≡ x)
+      × (queryAt (s .memory) (placeBehind capacity (s .memory) (f .after)) .asker ≡ f .asker)
 
 abbrev pub LookUpExactly : Type 0
 LookUpExactly = (s : Station) (x : Number) → FindingIs s x (lookingUp s x)

@@ -104,6 +104,35 @@ repeats =
     ∷ by 0 (hit A 3 0 27)
     ∷ []
 
+-- three's state with other counts of hits: A has had 199, B 200, and so has C, which was asked here in this one
+unfoldable pub many : World
+many =
+    start
+    (withMemory (three .state)
+    (memoryOf (three .state .memory .lo) (three .state .memory .hi) (set (three .state .memory .asker) 2 8)
+    (set (set (set (replicate 512 0) 0 199) 1 200) 2 200) 3 3))
+    (replicate 32 0)
+
+-- A's 200th hit, and one more; B's, with TTL 2 and Hops 0, TTL 1, Hops 255, TTL 0 and 26 bytes of payload; C's; one of
+-- a number not remembered; B's again behind a repeat of its query. When line 0 has closed, B's asker is gone
+unfoldable pub hitsOfMany : List Call
+hitsOfMany =
+    by 1 (hit A 3 0 27)
+    ∷ by 1 (hit A 3 0 27)
+    ∷ by 1 (hit B 2 0 27)
+    ∷ by 1 (hit B 1 0 27)
+    ∷ by 1 (hit B 2 255 27)
+    ∷ by 1 (hit B 0 0 27)
+    ∷ by 1 (hit B 3 0 26)
+    ∷ by 1 (hit C 3 0 27)
+    ∷ by 1 (hit D 3 0 27)
+    ∷ by 1 (query B 3)
+    ∷ by 1 (hit B 3 0 27)
+    ∷ Close 0
+    ∷ by 1 (hit B 3 0 27)
+    ∷ by 1 (hit C 3 0 27)
+    ∷ []
+
 -- a hit in two scraps
 abbrev pub scrap : List ℕ → Event
 scrap bytes = Feed 1 bytes terms Same AsLeft
@@ -127,7 +156,8 @@ wrong = withLine (three .state) 2 (pingedAt (lineAt (three .state) 2) 0)
 abbrev pub ring : ℕ → ℕ → Station
 ring count next =
     withMemory (fresh 32 .state)
-    (memoryOf (set (set (set (replicate 512 0) 511 5) 0 6) 7 7) (replicate 512 0) (replicate 512 8) count next)
+    (memoryOf (set (set (set (replicate 512 0) 511 5) 0 6) 7 7) (replicate 512 0) (replicate 512 8) (replicate 512 0)
+    count next)
 
 abbrev pub small : ℕ → List ℕ
 small n = n ∷ replicate 15 0
@@ -139,6 +169,10 @@ pub record Evaluated : Type 0 where
   pub repeats′ : toldOf three repeats
       ≡ told 8 none ∷ told 6 none ∷ told 9 (aged 1) ∷ told 9 (aged 0) ∷ told 6 none ∷ told 0 (aged 2)
       ∷ told 0 none ∷ told 11 (aged 2) ∷ told 0 none ∷ told 0 (aged 0) ∷ told 11 (aged 3) ∷ told 3 none ∷ []
+  pub many′ : toldOf many hitsOfMany
+      ≡ told 0 (aged 2) ∷ told 21 (aged 2) ∷ told 21 (aged 1) ∷ told 21 (aged 1) ∷ told 21 (aged 1) ∷ told 8 none
+      ∷ told 6 none ∷ told 21 (aged 0) ∷ told 10 none ∷ told 9 (aged 1) ∷ told 21 (aged 1) ∷ told 0 none
+      ∷ told 11 (aged 1) ∷ told 21 (aged 0) ∷ []
   pub waits : (replyTo (begin (three .state) (replicate 32 0) (λ k. replicate 4119 0))
       (scrap (take 30 (hit B 3 0 27))) .age
       ≡ none)

@@ -34,7 +34,7 @@ full =
 
 -- the same state with other remembered queries
 abbrev pub withRing : List ℕ → List ℕ → ℕ → ℕ → Station → Station
-withRing lo asker count next s = withMemory s (memoryOf lo (s .memory .hi) asker count next)
+withRing lo asker count next s = withMemory s (memoryOf lo (s .memory .hi) asker (s .memory .hits) count next)
 
 abbrev pub numbers : List ℕ
 numbers = full .memory .lo
@@ -44,6 +44,11 @@ askers = full .memory .asker
 
 abbrev pub withAsker : ℕ → ℕ → Station
 withAsker place a = withRing numbers (set askers place a) 3 3 full
+
+-- with another count of hits at a place, and this many kept before this next place
+abbrev pub withHits : ℕ → ℕ → ℕ → ℕ → Station
+withHits place hits count next =
+    withMemory full (memoryOf numbers (full .memory .hi) askers (set (full .memory .hits) place hits) count next)
 
 -- with another line record
 abbrev pub pongsOf : ℕ → ℕ → ℕ → ℕ → Line → Line
@@ -104,7 +109,7 @@ isJudged j = cond (j .good) (inOrder (j .state)) (not (inOrder (j .state)))
 
 -- all numbers are 0: one that is remembered is twice as soon as two are
 abbrev pub alike : ℕ → Station
-alike count = withMemory full (memoryOf (replicate 512 0) (replicate 512 0) askers count count)
+alike count = withMemory full (memoryOf (replicate 512 0) (replicate 512 0) askers (full .memory .hits) count count)
 
 -- the ring of remembered queries
 unfoldable pub ringClauses : List Judged
@@ -131,6 +136,17 @@ ringClauses =
     ∷ bad (withRing numbers (set (set askers 511 10) 0 9) 1 0 full)
     ∷ good (withRing numbers (set askers 0 10) 1 2 full)
     ∷ bad (withRing numbers (set askers 1 10) 1 2 full)
+    -- counts of hits: 200, and more, of the newest, of the oldest and of one between; and at a place that is not kept
+    ∷ good (withHits 1 200 3 3)
+    ∷ bad (withHits 1 201 3 3)
+    ∷ bad (withHits 1 255 3 3)
+    ∷ bad (withHits 2 201 3 3)
+    ∷ bad (withHits 0 201 3 3)
+    ∷ good (withHits 3 255 3 3)
+    -- one is kept, going round
+    ∷ good (withHits 511 200 1 0)
+    ∷ bad (withHits 511 201 1 0)
+    ∷ good (withHits 0 255 1 0)
     ∷ []
 
 -- line records

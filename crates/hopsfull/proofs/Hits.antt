@@ -3,32 +3,34 @@
 use Prim.Native.Nat.{ℕ, _≤_}
 use native.Mathlib.Omega.{arith}
 use mathlib.Core.Path.{_≡_, refl, sym, ap, subst, _∙_}
-use mathlib.Core.Bool.{Bool, true, false, cond, not, _&&_, _||_}
+use mathlib.Core.Bool.{Bool, true, false, not, _&&_, _||_}
 use mathlib.Core.Logic.{_↔_, inl, inr}
 use mathlib.Core.List.{List, [], _∷_}
 use lib.Dec.{eqb, ltb}
 use borrow.Author.Tests.{eqb-true, eqb-false, eq-eqb, ne-eqb, le-ltb, ltb-false, not-true, not-false}
 use Rattle.laws.specs.Tests.{firstOf, any, all}
-use Rattle.laws.proofs.Refusals.{clash, NoRefusal, and-fst, and-snd, and-intro, of-choice}
+use Rattle.laws.proofs.Refusals.{clash, NoRefusal, and-fst, and-snd, and-intro}
 use Rattle.laws.proofs.Refusals.{not-answered}
 use Rattle.laws.proofs.Words.{decided, stands-iff}
-use Rattle.wire.specs.Header.{kindOf, ttlOf, hopsOf, sizeOf, payloadOf}
-use Rattle.wire.specs.Header.{pingType, pongType, routeUpdate, queryType, hitType}
+use Rattle.wire.specs.Header.{kindOf, ttlOf, hopsOf, sizeOf}
+use Rattle.wire.specs.Header.{hitType}
 use Rattle.protocol.specs.declared.Finding.{Finding}
 use Rattle.protocol.specs.declared.Lookup.{Lookup}
-use Rattle.protocol.specs.Memory.{Number, numberIn, here, gone}
-use Rattle.protocol.specs.State.{Station, lineAt, heldAt, lookedUp}
+use Rattle.protocol.specs.Memory.{capacity, here, gone, hitLimit, Number, numberIn, Query, queryAt, placeBehind}
+use Rattle.protocol.specs.State.{Station, remembered, lineAt, lookedUp}
 use Rattle.protocol.specs.Order.{inOrder}
 use Rattle.protocol.specs.Outcomes.{Terms, Outcome, unused}
 use Rattle.protocol.specs.Queries.{usualLimit}
 use Rattle.protocol.specs.Hits.{hitStep}
 use Rattle.protocol.specs.Calls.{opening, closing, arrived, messageOutcome, lookingUp}
 use Rattle.protocol.specs.Arrived.{Arrived}
-use Rattle.protocol.specs.Blind.{updateRules}
 use Rattle.protocol.specs.Runs.{Open, Close, Message, Ask, lent}
+use Rattle.protocol.proofs.InOrder.{state-facts}
+use Rattle.protocol.proofs.Places.{found-there}
+use Rattle.protocol.proofs.Answered.{few-found}
 use Rattle.protocol.proofs.Outcomes.{answer-taken, openingIn, closingIn}
-use Rattle.protocol.proofs.ByType.{pingIn, pongIn, queryIn, hitIn, of-message}
-use Rattle.protocol.proofs.Blind.{afterEarly, type-number}
+use Rattle.protocol.proofs.ByType.{hitIn, of-message}
+use Rattle.protocol.proofs.Blind.{afterEarly, types-but-hits, type-number}
 use Rattle.protocol.proofs.Arrived.{by-type, by-hit, sent-if-arrived}
 use Rattle.ages.specs.LookUp.{IsAsker}
 use Rattle.ages.proofs.LookUp.{of-look-up, look-up-exactly}
@@ -41,20 +43,30 @@ use Rattle.hopsfull.proofs.NoQuery.{own-other, of-list}
 use Rattle.hopsfull.proofs.PutBack.{usual-event, same-lists}
 
 -- what a look-up of a state in order tells, and what was found
-record Told (f : Finding) (k : Lookup) : Type 0 where
+record Told (s : Station) (f : Finding) (k : Lookup) : Type 0 where
   there : k .found ≡ true → f .answer ≡ 0
   back : f .answer ≡ 0 → k .found ≡ true
   asker : f .answer ≡ 0 → f .asker ≡ k .asker
+  hits : f .answer ≡ 0 → queryAt (s .memory) (placeBehind capacity (s .memory) (f .after)) .hits ≡ k .hits
+  most : f .answer ≡ 0 → k .hits ≤ hitLimit
 
-told : (s : Station) (x : Number) → inOrder s ≡ true → Told (lookingUp s x) (lookedUp s x)
+told : (s : Station) (x : Number) → inOrder s ≡ true → Told s (lookingUp s x) (lookedUp s x)
 told s x o =
-    of-look-up s x (λ f. Told f (lookedUp s x)) (λ z. absurd (clash o z))
+    of-look-up s x (λ f. Told s f (lookedUp s x)) (λ z. absurd (clash o z))
     (λ _ e. rw e (record {
       there = λ z. absurd (clash z refl);
       back = λ z. absurd (omega (arith, z));
       asker = λ z. absurd (omega (arith, z));
+      hits = λ z. absurd (omega (arith, z));
+      most = λ z. absurd (omega (arith, z));
     }))
-    (λ _ i a e. rw e (record { there = λ _. refl; back = λ _. refl; asker = λ _. refl }))
+    (λ _ i a h e. rw e (record {
+      there = λ _. refl;
+      back = λ _. refl;
+      asker = λ _. refl;
+      hits = λ _. ap (λ (q : Query). q .hits) (found-there capacity (s .memory) x i a h e);
+      most = λ _. few-found (remembered s) x i a h (state-facts s o .hits) e;
+    }))
 
 -- an asker that is neither here nor gone is a line
 line-of : (s : Station) (a : ℕ) → IsAsker s a → (a ≡ 8 → ⊥) → (a ≡ 9 → ⊥) → a ≤ 7
@@ -76,6 +88,7 @@ module _ (s : Station) (l : ℕ) (m : List ℕ) (t : Terms) (route : List ℕ) w
       ∷ (eqb (ttlOf m) 0, 8)
       ∷ (not (k .found), 10)
       ∷ (eqb (k .asker) gone, 11)
+      ∷ (eqb (k .hits) hitLimit, 21)
       ∷ (away && eqb (ttlOf m) 1, 8)
       ∷ []
 
@@ -91,28 +104,7 @@ module _ (s : Station) (l : ℕ) (m : List ℕ) (t : Terms) (route : List ℕ) w
   lacks cs = all (λ c. not (eqb (c .1) 12)) cs
 
   others : eqb (kindOf m) hitType ≡ false → lacks (afterEarly s l m t route) ≡ true
-  others e =
-      rw e
-      (by pingType (pingIn s l t m) pongs refl
-      (by pongType (pongIn m) updates refl
-      (by routeUpdate ofUpdate queries refl
-      (by queryType (queryIn usualLimit s m) [] refl refl))))
-    where
-      ofUpdate : List (Bool × ℕ)
-      ofUpdate = updateRules (s .room) (heldAt s l route) (ttlOf m) (hopsOf m) (payloadOf m)
-
-      queries : List (Bool × ℕ)
-      queries = cond (eqb (kindOf m) queryType) (queryIn usualLimit s m) []
-
-      updates : List (Bool × ℕ)
-      updates = cond (eqb (kindOf m) routeUpdate) ofUpdate queries
-
-      pongs : List (Bool × ℕ)
-      pongs = cond (eqb (kindOf m) pongType) (pongIn m) updates
-
-      by : (n : ℕ) (cs ds : List (Bool × ℕ)) → lacks cs ≡ true → lacks ds ≡ true
-          → lacks (cond (eqb (kindOf m) n) cs ds) ≡ true
-      by n cs ds p q = of-choice (λ cs. lacks cs ≡ true) (eqb (kindOf m) n) cs ds (λ _. p) (λ _. q)
+  others e = types-but-hits s l m t route (λ c. not (eqb (c .1) 12)) refl refl refl refl (λ h. absurd (clash h e))
 
   -- what the checks of a hit say in words
   tests-of : GoesNoFurther s l m (t .out) route → NoRefusal before × ((away && eqb (hopsOf m) 255) ≡ true)
@@ -124,8 +116,11 @@ module _ (s : Station) (l : ℕ) (m : List ℕ) (t : Terms) (route : List ℕ) w
       let is : lookingUp s (numberIn m) .asker ≡ k .asker = x .asker (g .found) in
       let far : eqb (k .asker) here ≡ false = ne-eqb (k .asker) here (λ z. omega (arith, is, g .asker)) in
       let lives : eqb (k .asker) gone ≡ false = ne-eqb (k .asker) gone (λ z. omega (arith, is, g .asker)) in
+      let few : eqb (k .hits) hitLimit ≡ false
+      = ne-eqb (k .hits) hitLimit (λ z. omega (arith, x .hits (g .found), g .hits)) in
       let full : eqb (hopsOf m) 255 ≡ true = eq-eqb (hopsOf m) 255 (g .hops) in
-      rw (size, some, two, x .back (g .found), far, lives, full) ((refl, (refl, (refl, (refl, (refl, tt))))), refl)
+      rw (size, some, two, x .back (g .found), far, lives, few, full)
+      ((refl, (refl, (refl, (refl, (refl, (refl, tt)))))), refl)
 
   words-of : inOrder s ≡ true → Arrived s l m (t .out) route → kindOf m ≡ 0x81
       → NoRefusal before × ((away && eqb (hopsOf m) 255) ≡ true) → GoesNoFurther s l m (t .out) route
@@ -134,7 +129,7 @@ module _ (s : Station) (l : ℕ) (m : List ℕ) (t : Terms) (route : List ℕ) w
       let found : lookingUp s (numberIn m) .answer ≡ 0 = x .there (not-false (k .found) (p .1 .1 .0)) in
       let is : lookingUp s (numberIn m) .asker ≡ k .asker = x .asker found in
       let far : away ≡ true = and-fst away (eqb (hopsOf m) 255) q in
-      let two : eqb (ttlOf m) 1 ≡ false = rw far at (p .1 .1 .1 .1 .0) in
+      let two : eqb (ttlOf m) 1 ≡ false = rw far at (p .1 .1 .1 .1 .1 .0) in
       let line : lookingUp s (numberIn m) .asker ≤ 7 =
       line-of s (lookingUp s (numberIn m) .asker) (look-up-exactly s (numberIn m) .asker found)
       (λ z. eqb-false (k .asker) here (not-true (eqb (k .asker) here) far) (sym is ∙ z))
@@ -147,6 +142,7 @@ module _ (s : Station) (l : ℕ) (m : List ℕ) (t : Terms) (route : List ℕ) w
         ttl = omega (arith, eqb-false (ttlOf m) 0 (p .1 .0), eqb-false (ttlOf m) 1 two);
         found = found;
         asker = line;
+        hits = omega (arith, x .hits found, x .most found, eqb-false (k .hits) hitLimit (p .1 .1 .1 .1 .0));
         hops = eqb-true (hopsOf m) 255 (and-snd away (eqb (hopsOf m) 255) q);
       }
 

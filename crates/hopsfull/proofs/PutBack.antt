@@ -2,7 +2,6 @@
 -- Assumes nothing.
 use Prim.Native.Nat.{ℕ, _≤_}
 use mathlib.Core.Path.{_≡_, refl, sym, ap, _∙_}
-use mathlib.Core.Bool.{false}
 use mathlib.Core.List.{List, [], _∷_}
 use lib.Dec.{eqb}
 use lib.ListN.{length}
@@ -12,7 +11,7 @@ use Rattle.protocol.specs.declared.Line.{Line}
 use Rattle.protocol.specs.declared.Lookup.{Lookup}
 use Rattle.protocol.specs.Memory.{numberIn, ageBehind}
 use Rattle.protocol.specs.Lines.{lineIn}
-use Rattle.protocol.specs.State.{Station, lineAt, lookedUp}
+use Rattle.protocol.specs.State.{Station, lineOnly, lineAt, lookedUp}
 use Rattle.protocol.specs.Outcomes.{Terms, Outcome, Step, handsUp, refusedOr, stored}
 use Rattle.protocol.specs.Queries.{usualLimit, hasText, queryBefore, queryTaken, queryStep}
 use Rattle.protocol.specs.Calls.{early, byType, arriving}
@@ -31,7 +30,7 @@ module _ (limit : ℕ) (b : limit ≤ 255) where
   unfolding queryStep
   same-step room lines l k m route =
       ap (λ n. handsUp (ageBehind (queryBefore limit (headerIn m) (hasText (payloadOf m))) k)
-      (refusedOr n (record { line = lineIn lines l; taken = false }) route (queryTaken limit room lines l m route)))
+      (refusedOr n (lineOnly (lineIn lines l)) route (queryTaken limit room lines l m route)))
       (row-never-counts .never limit b (headerIn m) (hasText (payloadOf m)) k)
 
   module _ (s : Station) (l : ℕ) where

@@ -4,7 +4,7 @@ use mathlib.Core.Path.{refl}
 use Rattle.laws.specs.Ring.{keptPlaces}
 use Rattle.wire.specs.Header.{message}
 use Rattle.tables.specs.Tables.{tableInOrder}
-use Rattle.protocol.specs.Memory.{queriesIn, find, remember, noTwice, memoryInOrder}
+use Rattle.protocol.specs.Memory.{queriesIn, find, remember, raise, noTwice, memoryInOrder}
 use Rattle.protocol.specs.Lines.{storedPongs}
 use Rattle.protocol.specs.Order.{lineInOrder, inOrder}
 use Rattle.protocol.specs.Queries.{queryStep}
@@ -17,9 +17,9 @@ use Rattle.tallyhistory.specs.Calls.{answersOf}
 use Rattle.hopsfull.specs.Sessions.{queryOf, calls, Evaluated}
 
 pub evaluated : Evaluated
-unfolding keptPlaces message tableInOrder queriesIn find remember noTwice memoryInOrder storedPongs lineInOrder inOrder
-    queryStep hitStep fresh opening early byType arriving ownAnswer asking extentOf feeding oneMore bump bumps answersOf
-    query hit three wrong queryOf calls
+unfolding keptPlaces message tableInOrder queriesIn find remember raise noTwice memoryInOrder storedPongs lineInOrder
+    inOrder queryStep hitStep fresh opening early byType arriving ownAnswer asking extentOf feeding oneMore bump bumps
+    answersOf query hit three wrong queryOf calls
 evaluated =
     record {
       answers = refl;

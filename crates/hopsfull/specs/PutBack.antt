@@ -2,7 +2,7 @@
 -- it was shown to count for nothing. Each of them is the call as it is, in all that it gives.
 use Prim.Native.Nat.{ℕ, _≤_}
 use mathlib.Core.Path.{_≡_}
-use mathlib.Core.Bool.{false, cond, _||_}
+use mathlib.Core.Bool.{cond, _||_}
 use mathlib.Core.List.{List, [], _∷_}
 use lib.Dec.{eqb}
 use lib.ListN.{length}
@@ -12,7 +12,7 @@ use Rattle.protocol.specs.declared.Line.{Line}
 use Rattle.protocol.specs.declared.Lookup.{Lookup}
 use Rattle.protocol.specs.Memory.{numberIn, ageBehind}
 use Rattle.protocol.specs.Lines.{lineIn}
-use Rattle.protocol.specs.State.{Station, lookedUp}
+use Rattle.protocol.specs.State.{Station, lineOnly, lookedUp}
 use Rattle.protocol.specs.Outcomes.{Terms, Outcome, Step, handsUp, refusedOr, pickResult, stored}
 use Rattle.protocol.specs.Queries.{usualLimit, hasText, queryBefore, queryTaken}
 use Rattle.protocol.specs.Calls.{opening, closing, early, byType, arriving, asking}
@@ -27,8 +27,7 @@ abbrev pub queryStepWithRow : ℕ → ℕ → List Line → ℕ → Lookup → L
 queryStepWithRow limit room lines l k m route =
     handsUp (ageBehind (queryBefore limit (headerIn m) (hasText (payloadOf m))) k)
     (refusedOr (firstOf (rulesWithRow limit (headerIn m) (hasText (payloadOf m)) k))
-    (record { line = lineIn lines l; taken = false }) route
-    (queryTaken limit room lines l m route))
+    (lineOnly (lineIn lines l)) route (queryTaken limit room lines l m route))
 
 -- a message by line l: a query is dealt with so, and any other as it is
 abbrev pub arrivingWithRow : ℕ → Station → ℕ → List ℕ → Terms → List ℕ → Outcome

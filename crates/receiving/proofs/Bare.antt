@@ -15,7 +15,7 @@ use Rattle.protocol.specs.declared.Lookup.{Lookup}
 use Rattle.protocol.specs.declared.Age.{Age}
 use Rattle.protocol.specs.Lines.{lineIn, nowhere, emptyLine, storedPongs}
 use Rattle.protocol.specs.Memory.{capacity, memoryInOrder, numberIn, ageBehind}
-use Rattle.protocol.specs.State.{Station, stationOf, lineAt, withLine, remembered, lookedUp}
+use Rattle.protocol.specs.State.{Station, lineOnly, stationOf, lineAt, withLine, remembered, lookedUp}
 use Rattle.protocol.specs.Order.{lineInOrder, inOrder}
 use Rattle.protocol.specs.Outcomes.{Terms, Result, Outcome, Step, pickResult, refusedOr, handsUp, leaving, quiet}
 use Rattle.protocol.specs.Queries.{usualLimit, hasText, queryBefore, queryRules, queryStep}
@@ -99,7 +99,10 @@ time-bare x false clock = (refl, refl)
 
 -- the same step, bare
 abbrev bareStep : Step → Step
-bareStep r = leaving (record { line = bareLine (r .state .line); taken = r .state .taken }) r
+bareStep r =
+    leaving
+    (record { line = bareLine (r .state .line); taken = r .state .taken; answered = r .state .answered })
+    r
 
 module _ (lines : List Line) where
   abbrev bared : List Line
@@ -121,8 +124,7 @@ module _ (lines : List Line) where
 
     -- refused or not
     refused-alike : (n : ℕ) (route : List ℕ) {r′ r : Step} → Alike r′ r
-        → Alike (refusedOr n (record { line = bareLine x; taken = false }) route r′)
-        (refusedOr n (record { line = x; taken = false }) route r)
+        → Alike (refusedOr n (lineOnly (bareLine x)) route r′) (refusedOr n (lineOnly x) route r)
     refused-alike n route a = pick-both Alike (eqb n 0) a (record { bare = refl; held = refl })
 
     -- with an age

@@ -16,27 +16,31 @@ use Rattle.receiving.specs.Feeding.{Fed, extentOf, sizeAtFront, holding,
 use Rattle.receiving.specs.Feeding.{refusedFeed, waitingFeed, overFeed, wholeFeed}
 use Rattle.receiving.specs.Events.{unread}
 use Rattle.receiving.specs.Calls.{fed, inAll, heldCount, before}
-use Rattle.receiving.proofs.Cases.{Passed, ByType, outcome, FeedCase, Refused, Waits, Over, Whole, feed-case}
+use Rattle.receiving.proofs.Cases.{Typed, Passed, ByType, outcome, FeedCase, Refused, Waits, Over, Whole}
+use Rattle.receiving.proofs.Cases.{feed-case}
 
 -- an answer that leaves the bytes is none that takes them
 pub not-unread : (n k : ℕ) → unread n ≡ true → unread k ≡ false → n ≡ k → ⊥
 not-unread n k u v e = clash u (ap unread e ∙ v)
 
--- an answer by the message's type, and what it is not
-abbrev pub Typed : ℕ → Type 0
-Typed n = (n ≡ 0) ⊎ ((6 ≤ n) × (n ≤ 16))
+-- what an answer by the message's type is not: 1 to 5, 17 to 20, and more than 21
+abbrev pub Untyped : ℕ → Type 0
+Untyped k = (1 ≤ k) × ((k < 6) ⊎ ((16 < k) × ((k < 21) ⊎ (21 < k))))
 
-pub typed-other : (n k : ℕ) → Typed n → (1 ≤ k) × ((k < 6) ⊎ (16 < k)) → n ≡ k → ⊥
+pub typed-other : (n k : ℕ) → Typed n → Untyped k → n ≡ k → ⊥
 typed-other n k (inl a) (p, q) e = omega arith
-typed-other n k (inr a) (p, inl q) e = omega arith
-typed-other n k (inr a) (p, inr q) e = omega arith
+typed-other n k (inr (inl a)) (p, inl q) e = omega arith
+typed-other n k (inr (inl a)) (p, inr (q, r)) e = omega arith
+typed-other n k (inr (inr a)) (p, inl q) e = omega arith
+typed-other n k (inr (inr a)) (p, inr (q, inl r)) e = omega arith
+typed-other n k (inr (inr a)) (p, inr (q, inr r)) e = omega arith
 
 pub typed-read : (n : ℕ) → Typed n → unread n ≡ false
 typed-read n a =
     let not1 = ne-eqb n 1 (typed-other n 1 a (omega arith, inl (omega arith))) in
     let not2 = ne-eqb n 2 (typed-other n 2 a (omega arith, inl (omega arith))) in
     let not3 = ne-eqb n 3 (typed-other n 3 a (omega arith, inl (omega arith))) in
-    let not19 = ne-eqb n 19 (typed-other n 19 a (omega arith, inr (omega arith))) in
+    let not19 = ne-eqb n 19 (typed-other n 19 a (omega arith, inr (omega arith, inl (omega arith)))) in
     rw (not1, not2, not3, not19)
 
 module _ (s : Station) (l : ℕ) (bytes held : List ℕ) (t : Terms) (route : List ℕ) where

@@ -76,7 +76,8 @@ module _ (s : Station) (l : ℕ) (bytes held : List ℕ) (t : Terms) (route : Li
             (λ n _ _ u e. absurd (not-unread n waiting u refl e))
             (λ _ _ _ _. refl)
             (λ _ _ _ e. absurd (omega arith))
-            (λ _ _ _ b e. absurd (typed-other _ waiting (b .answer) (omega arith, inr (omega arith)) e));
+            (λ _ _ _ b e.
+            absurd (typed-other _ waiting (b .answer) (omega arith, inr (omega arith, inr (omega arith))) e));
       }
 
   -- how long the message at the front is

@@ -86,6 +86,7 @@ module _ (s : Station) (l : ℕ) (p : Pending) where
           lo = z .lo;
           hi = z .hi;
           asker = z .asker;
+          hits = z .hits;
           pongs = sym (all-map bareLine sizedLine (changed .lines))
               ∙ ap (all sizedLine) bare-changed
               ∙ all-map bareLine sizedLine (s .lines)

@@ -4,7 +4,7 @@ use Prim.Native.Nat.{ℕ, _+_, _≤_, _<_}
 use native.Mathlib.Omega.{arith}
 use mathlib.Core.Path.{_≡_, refl, ap, _∙_}
 use mathlib.Core.Bool.{Bool, true, false, _&&_, _||_}
-use mathlib.Core.Logic.{_⊎_, inl, inr}
+use mathlib.Core.Logic.{_⊎_, inl, inr, ⊎-elim}
 use mathlib.Core.List.{List}
 use lib.Dec.{eqb, leb, ltb}
 use lib.ListN.{length, take, length-take}
@@ -54,17 +54,21 @@ use Rattle.receiving.proofs.Extents.{
 pub count-there : (n : ℕ) (held : List ℕ) → 4119 ≤ length held → length (take n held) ≤ 4118 → length (take n held) ≡ n
 count-there n held h u = let e = length-take n held in omega arith
 
--- 0, or 6 to 16
-abbrev ofType : ℕ → Bool
-ofType n = eqb n 0 || leb 6 n && leb n 16
+-- an answer by the message's type: 0, 6 to 16, or 21
+abbrev pub Typed : ℕ → Type 0
+Typed n = (n ≡ 0) ⊎ (((6 ≤ n) × (n ≤ 16)) ⊎ (n ≡ 21))
 
-of-type : (n : ℕ) → ofType n ≡ true → (n ≡ 0) ⊎ ((6 ≤ n) × (n ≤ 16))
-of-type n e = by (or-split (eqb n 0) (leb 6 n && leb n 16) e)
-  where
-    by : (eqb n 0 ≡ true) ⊎ ((leb 6 n && leb n 16) ≡ true) → (n ≡ 0) ⊎ ((6 ≤ n) × (n ≤ 16))
-    by (inl x) = inl (eqb-true n 0 x)
-    by (inr x) =
-        inr (leb-true 6 n (and-fst (leb 6 n) (leb n 16) x), leb-true n 16 (and-snd (leb 6 n) (leb n 16) x))
+abbrev ofType : ℕ → Bool
+ofType n = eqb n 0 || (leb 6 n && leb n 16 || eqb n 21)
+
+of-type : (n : ℕ) → ofType n ≡ true → Typed n
+of-type n e =
+    ⊎-elim (λ x. inl (eqb-true n 0 x))
+    (λ x. inr (⊎-elim
+    (λ y. inl (leb-true 6 n (and-fst (leb 6 n) (leb n 16) y), leb-true n 16 (and-snd (leb 6 n) (leb n 16) y)))
+    (λ y. inr (eqb-true n 21 y))
+    (or-split (leb 6 n && leb n 16) (eqb n 21) x)))
+    (or-split (eqb n 0) (leb 6 n && leb n 16 || eqb n 21) e)
 
 module _ (s : Station) (l : ℕ) (bytes held : List ℕ) (t : Terms) (route : List ℕ) where
   -- nothing refuses the call before its bytes count
@@ -86,7 +90,7 @@ module _ (s : Station) (l : ℕ) (bytes held : List ℕ) (t : Terms) (route : Li
   -- it is refused by its type, or done
   pub record ByType : Type 0 where
     pub arrives : outcome ≡ arrived usualLimit s l (frontOf (inAll s l bytes held t route)) t route
-    pub answer : (outcome .answer ≡ 0) ⊎ ((6 ≤ outcome .answer) × (outcome .answer ≤ 16))
+    pub answer : Typed (outcome .answer)
 
   pub data FeedCase : Type 0 where
     Refused : (n : ℕ) → firstOf (before s l bytes held t route) ≡ n → (n ≡ 0 → ⊥) → unread n ≡ true

@@ -2,7 +2,7 @@
 -- Assumes nothing.
 use Prim.Native.Nat.{ℕ}
 use native.Mathlib.Omega.{arith}
-use mathlib.Core.Path.{_≡_, refl, sym, ap, ap₂, _∙_, subst}
+use mathlib.Core.Path.{_≡_, refl, sym, ap, ap₂, _∙_, subst, fun-ext}
 use mathlib.Core.Bool.{Bool, true, false, _||_}
 use mathlib.Core.Logic.{_⊎_, inl, inr, ⊎-elim}
 use mathlib.Core.List.{List, [], _∷_, _++_, map, append-nil, append-assoc}
@@ -29,7 +29,9 @@ use Rattle.protocol.specs.Demand2.{
   Gone,
   lookUp,
   origin,
+  hitsSince,
   standing,
+  standingIn,
   MemoryIs,
   Routed,
   AllRouted,
@@ -71,9 +73,16 @@ use Rattle.receiving.proofs.Cutting.{handle-append}
 sized-lines : (s : Station) (lines : List Line) → length lines ≡ length (s .lines)
     → all sizedLine lines ≡ all sizedLine (s .lines) → Sized s → Sized (stationOf (s .room) lines (s .memory))
 sized-lines s lines n p z =
-    record { eight = n ∙ z .eight; lo = z .lo; hi = z .hi; asker = z .asker; pongs = p ∙ z .pongs }
+    record {
+      eight = n ∙ z .eight;
+      lo = z .lo;
+      hi = z .hi;
+      asker = z .asker;
+      hits = z .hits;
+      pongs = p ∙ z .pongs;
+    }
 
-sized-bare : (s : Station) → Sized s → Sized (bare s)
+pub sized-bare : (s : Station) → Sized s → Sized (bare s)
 sized-bare s =
     sized-lines s (map bareLine (s .lines)) (length-map (s .lines) bareLine) (all-map bareLine sizedLine (s .lines))
 
@@ -83,11 +92,11 @@ sized-of s =
     (sym (all-map bareLine sizedLine (s .lines)))
 
 -- What demand 2 reads of a log is there with held bytes and shut marks aside
-openings-bare : (l : ℕ) (log : List Made) → openings l (map bareMade log) ≡ openings l log
+pub openings-bare : (l : ℕ) (log : List Made) → openings l (map bareMade log) ≡ openings l log
 openings-bare l [] = refl
 openings-bare l (d ∷ ds) = rw (openings-bare l ds)
 
-taken-bare : (shut : ℕ → Bool) (log : List Made) (base : List Query)
+pub taken-bare : (shut : ℕ → Bool) (log : List Made) (base : List Query)
     → allTaken shut (map bareMade log) base ≡ allTaken shut log base
 unfolding allTaken
 taken-bare shut [] base = refl
@@ -101,6 +110,17 @@ taken-bare shut (d ∷ ds) base =
 origin-bare : (n : ℕ) (log : List Made) (base : List Query) (x : Number)
     → origin n (map bareMade log) base x ≡ origin n log base x
 origin-bare n log base x = ap (λ ps. lookUp (take n ps) x) (taken-bare (λ l. false) log base)
+
+pub hits-bare : (log : List Made) (base : List Query) (x : Number)
+    → hitsSince (map bareMade log) base x ≡ hitsSince log base x
+hits-bare [] base x = refl
+hits-bare (d ∷ ds) base x = rw (hits-bare ds base x)
+
+standing-bare : (n : ℕ) (log : List Made) (base : List Query)
+    → standingIn n (map bareMade log) base ≡ standingIn n log base
+standing-bare n log base =
+    ap₂ (λ (hits : Number → ℕ) (ps : List Past). map (standing hits) (take n ps))
+    (fun-ext (hits-bare log base)) (taken-bare (λ l. false) log base)
 
 -- Every event, from every call
 module _ (limit n : ℕ) (base : List Query) where
@@ -132,7 +152,7 @@ events-demand2 s area held es z o =
 memory-of : (s : Station) (log : List Made) (base : List Query) → MemoryIs capacity (bare s) (map bareMade log) base
     → MemoryIs capacity s log base
 memory-of s log base q =
-    let e = ap (λ (ps : List Past). map standing (take capacity ps)) (taken-bare (λ l. false) log base) in
+    let e = standing-bare capacity log base in
     record { last = q .last ∙ e; once = ap noTwice (sym e) ∙ q .once }
 
 kept-of : (s s′ : Station) → Kept (bare s) (bare s′) → Kept s s′

@@ -69,8 +69,8 @@ use Rattle.receiving.specs.Demand3.{
   EventsDemand3,
 }
 use Rattle.receiving.proofs.Bare.{bare-live, bare-table, held-unread}
-use Rattle.receiving.proofs.ByCase.{Typed, typed-read}
-use Rattle.receiving.proofs.Cases.{FeedCase, Refused, Waits, Over, Whole, Passed, feed-case, outcome}
+use Rattle.receiving.proofs.ByCase.{typed-read}
+use Rattle.receiving.proofs.Cases.{Typed, FeedCase, Refused, Waits, Over, Whole, Passed, feed-case, outcome}
 use Rattle.receiving.proofs.CallsLeave.{feed-leaves}
 use Rattle.receiving.proofs.Cutting.{cutting, cut-reply, handle-append, held-beside, fair-both}
 
@@ -190,7 +190,9 @@ module _ (L : ℕ) where
 type-sent : (n : ℕ) → Typed n → (unused n ≡ false) × ((unused n || eqb n 19) ≡ false)
 type-sent n =
     ⊎-elim (λ e. rw e (refl, refl))
+    (⊎-elim
     (λ h. rw (lt-leb n 5 (omega arith), and-false (leb 1 n), ne-eqb n 19 (λ e. absurd (omega arith))) (refl, refl))
+    (λ e. rw e (refl, refl)))
 
 unread-unsent : (n : ℕ) → unread n ≡ true → (unused n || eqb n 19) ≡ true
 unread-unsent n = one-of (λ n. unused n || eqb n 19) n (1 ∷ 2 ∷ 3 ∷ 19 ∷ []) refl

@@ -13,7 +13,7 @@ use Rattle.tables.specs.Patch.{numbers, added, allFit}
 use Rattle.tables.specs.Updates.{updateAnswer, updated, goodReset, goodPatch, inTurn as nextInRun, inRange, resetBy}
 use Rattle.tables.specs.Updates.{movedOn, patchBy, brokenBy}
 use Rattle.tables.specs.Admission.{withholds}
-use Rattle.protocol.specs.Memory.{queriesIn, find, remember, noTwice, memoryInOrder}
+use Rattle.protocol.specs.Memory.{queriesIn, find, remember, raise, noTwice, memoryInOrder}
 use Rattle.protocol.specs.Lines.{storedPongs}
 use Rattle.protocol.specs.Order.{lineInOrder, inOrder}
 use Rattle.protocol.specs.Queries.{usualLimit, untilZero, queryStep}
@@ -39,6 +39,8 @@ use Rattle.receiving.specs.Sessions.{
   wrong,
   spoiled,
   largest,
+  hit,
+  answered,
   ordered,
   Evaluated,
 }
@@ -47,9 +49,10 @@ use Rattle.receiving.proofs.Demand3.{events-demand3}
 pub evaluated : Evaluated
 unfolding keptPlaces message lower isSeparator xor32 keywordsOf pieces filled hashOf word goodLength tableInOrder numbers added allFit
     updateAnswer updated goodReset goodPatch nextInRun inRange resetBy movedOn patchBy brokenBy withholds
-    queriesIn find remember noTwice memoryInOrder storedPongs lineInOrder inOrder untilZero queryStep walk pongsSent
-    pingStep pongStep fresh opening closing early updateStep byType arriving extentOf feeding
-    ping query update hitStep two wrong sixInScraps oneAtATime tooLarge droppedOnes inTurn spoiled largest ordered
+    queriesIn find remember raise noTwice memoryInOrder storedPongs lineInOrder inOrder untilZero queryStep walk
+    pongsSent pingStep pongStep fresh opening closing early updateStep byType arriving extentOf feeding
+    ping query update hit hitStep two wrong sixInScraps oneAtATime tooLarge droppedOnes inTurn spoiled largest answered
+    ordered
 evaluated =
     record {
       six = refl;
@@ -61,6 +64,7 @@ evaluated =
       turns = refl;
       most = refl;
       marks = refl;
+      counts = refl;
       order = refl;
     }
 
@@ -79,7 +83,7 @@ ready : Ready 0 two
 unfolding keptPlaces tableInOrder queriesIn noTwice memoryInOrder storedPongs lineInOrder inOrder fresh opening extentOf two
 ready =
     record {
-      sized = record { eight = refl; lo = refl; hi = refl; asker = refl; pongs = refl };
+      sized = record { eight = refl; lo = refl; hi = refl; asker = refl; hits = refl; pongs = refl };
       order = refl;
       areas = record { output = omega arith; long = omega arith; room = refl };
       line = omega arith;

@@ -70,7 +70,7 @@ module _ (s : Station) (limit l : ℕ) (m : List ℕ) (t : Terms) (route : List 
       (λ _ _. lives-set s l _ refl)
       (λ _. lives-set s l _ refl)
       (λ _ _. record { count = refl; live = λ _. refl })
-      (λ _ _. same-lives s))
+      (λ _ _. record { count = refl; live = λ _. refl }))
 
 pub own-lives : (s : Station) (limit : ℕ) (number text : List ℕ) (out : ℕ) (route : List ℕ)
     → SameLives s (asking limit s number text out route .state)

@@ -6,7 +6,7 @@ use mathlib.Core.Path.{_≡_}
 use mathlib.Core.Bool.{Bool, true, false}
 use mathlib.Core.List.{List, [], _∷_, _++_, map}
 use lib.Dec.{eqb}
-use lib.ListN.{take, drop, replicate}
+use lib.ListN.{take, drop, replicate, getD}
 use Rattle.laws.specs.Tests.{all}
 use Rattle.wire.specs.Header.{header, message}
 use Rattle.tables.specs.Tables.{none, waiting as waits, settled, broken}
@@ -185,6 +185,19 @@ abbrev pub marksOf : Receiver → List Event → List (ℕ × ℕ)
 marksOf w [] = []
 marksOf w (e ∷ es) = (replyTo w e .answer, lineAt (handle w e .state) 1 .table .mark) ∷ marksOf (handle w e) es
 
+-- a query by line 0 and hits of it by line 1, the first in two scraps; and the query again. Only the scrap that
+-- completes a hit counts it
+unfoldable pub hit : List ℕ
+hit = message (replicate 16 7) 0x81 3 1 (replicate 27 0)
+
+unfoldable pub answered : List Event
+answered = by 0 0 query ∷ firstOf 40 1 hit ∷ restOf 40 1 hit ∷ by 1 0 hit ∷ by 0 0 query ∷ []
+
+-- of each call its answer, and the count of hits at the ring's first place after it
+abbrev pub hitsAfter : Receiver → List Event → List (ℕ × ℕ)
+hitsAfter w [] = []
+hitsAfter w (e ∷ es) = (replyTo w e .answer, getD (handle w e .state .memory .hits) 0 0) ∷ hitsAfter (handle w e) es
+
 -- in a state, an event is answered by this number
 pub record Answer : Type 0 where
   pub before : Receiver
@@ -271,4 +284,5 @@ pub record Evaluated : Type 0 where
       ∷ (waiting, waits)
       ∷ (6, waits)
       ∷ []
+  pub counts : hitsAfter two answered ≡ (0, 0) ∷ (waiting, 0) ∷ (0, 1) ∷ (0, 2) ∷ (9, 2) ∷ []
   pub order : all isAnswered ordered ≡ true

@@ -8,7 +8,7 @@ use Rattle.tally.specs.declared.Tally.{Tally}
 
 -- how many answer numbers there are; the first is 0
 abbrev pub answerCount : ℕ
-answerCount = 21
+answerCount = 22
 
 -- the largest count
 abbrev pub full : ℕ

@@ -9,9 +9,9 @@ use lib.ListN.{length, getD, replicate}
 use Rattle.laws.specs.Tests.{all}
 use Rattle.tally.specs.Counts.{answerCount, full, bumps, occurrences, answers, sum}
 
--- the numbers that have a count are the answers of RULES 2.1, 0 to 20
+-- the numbers that have a count are the answers of RULES 2.1, 0 to 21
 abbrev pub RowForEach : Type 0
-RowForEach = (n : ℕ) → (n < answerCount) ↔ (n ≤ 20)
+RowForEach = (n : ℕ) → (n < answerCount) ↔ (n ≤ 21)
 
 -- counts as the type has them: one for each answer number, of 32 bits
 pub record Sized (counts : List ℕ) : Type 0 where

@@ -3,7 +3,7 @@ ghost use mathlib.Core.Path.{_≡_};
 ghost use Rattle.tally.specs.Counts.{oneMore, counted as countedBy};
 
 // How many answer numbers there are; the first is 0.
-pub const ANSWERS: usize = 21;
+pub const ANSWERS: usize = 22;
 
 // A count that is full.
 const FULL: u32 = 4294967295;

@@ -4,13 +4,14 @@
 use Prim.Native.Nat.{ℕ, suc, _<_, min}
 use native.Mathlib.Omega.{arith}
 use mathlib.Core.Path.{_≡_, refl, ap, _∙_}
-use mathlib.Core.Bool.{Bool, true}
+use mathlib.Core.Bool.{true, _||_}
+use mathlib.Core.Logic.{⊎-elim}
 use mathlib.Core.List.{List, [], _∷_, _++_}
-use lib.Dec.{ltb}
+use lib.Dec.{eqb, ltb}
 use lib.ListN.{length, getD, getD-replicate}
-use borrow.Author.Tests.{lt-ltb, ltb-true}
+use borrow.Author.Tests.{eqb-true, lt-ltb, ltb-true}
 use Rattle.laws.specs.Tests.{all}
-use Rattle.laws.proofs.Refusals.{and-intro, answer-in}
+use Rattle.laws.proofs.Refusals.{and-intro, or-split, answer-in}
 use Rattle.laws.proofs.Truth.{all-more}
 use Rattle.protocol.specs.State.{Station}
 use Rattle.protocol.specs.Outcomes.{Terms}
@@ -53,7 +54,11 @@ how-many w (Ask n text t a ∷ cs) = how-many (step w (Ask n text t a)) cs
 -- each has a count
 pub all-counted : (ns : List ℕ) → all isMessageAnswer ns ≡ true → all (λ n. ltb n answerCount) ns ≡ true
 all-counted =
-    all-more isMessageAnswer (λ n. ltb n answerCount) (λ n e. lt-ltb n answerCount (omega (arith, ltb-true n 20 e)))
+    all-more isMessageAnswer (λ n. ltb n answerCount) (λ n e. lt-ltb n answerCount
+    (⊎-elim (λ x. omega (arith, ltb-true n 17 x))
+    (λ y. ⊎-elim (λ x. omega (arith, eqb-true n 19 x)) (λ x. omega (arith, eqb-true n 21 x))
+    (or-split (eqb n 19) (eqb n 21) y))
+    (or-split (ltb n 17) (eqb n 19 || eqb n 21) e)))
 
 -- the counts of any answers, from zero
 pub from-zero : (ns : List ℕ) (k : ℕ) → k < answerCount → getD (bumps zeros ns) k 0 ≡ min full (occurrences k ns)

@@ -2,9 +2,9 @@
 -- that is; openings, closings and own queries do not count.
 use Prim.Native.Nat.{ℕ, suc, _<_, min}
 use mathlib.Core.Path.{_≡_}
-use mathlib.Core.Bool.{Bool, true, false, cond}
+use mathlib.Core.Bool.{Bool, true, false, cond, _||_}
 use mathlib.Core.List.{List, [], _∷_}
-use lib.Dec.{ltb}
+use lib.Dec.{eqb, ltb}
 use lib.ListN.{getD}
 use Rattle.laws.specs.Tests.{all}
 use Rattle.protocol.specs.Runs.{Call, Open, Close, Message, Ask, World, outcomeOf, step}
@@ -17,9 +17,10 @@ isMessage (Close l) = false
 isMessage (Message l m t a) = true
 isMessage (Ask n text t a) = false
 
--- an answer that a message can have: of the numbers that have a count, a list of names alone gives 20 (RULES 22.7)
+-- an answer that a message can have, whole or in scraps: 0 to 16, 19 and 21. Of the numbers that have a count, handshake
+-- groups alone give 17 and 18, and a list of names 20
 abbrev pub isMessageAnswer : ℕ → Bool
-isMessageAnswer n = ltb n 20
+isMessageAnswer n = ltb n 17 || (eqb n 19 || eqb n 21)
 
 -- the answers of the messages among these calls, in their order
 unfoldable pub answersOf : World → List Call → List ℕ
