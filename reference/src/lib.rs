@@ -15,6 +15,9 @@
 //! - The age of a query: reckoned from the place where its chain has it, back from the ring's next place. There the ring
 //!   is gone through from the newest on, and those that are passed are counted.
 //! - Askers: those that are known are counted. There each is held against every closed line.
+//! - Hits of a query: the kept places whose count is at most 200 are counted, and must be all of them; a hit finds its
+//!   place in its chain, and raises the count there. There each count is held to 200, and the place is reckoned from the
+//!   age.
 //! - PATCH: added at once, with a note of the least and the greatest sum, and undone if one is outside. There every number is tried, in blocks at
 //!   4 bits, before any is added.
 //! - Bytes as they come: those that are held and those that are brought now are joined in a vector, the message at its
@@ -57,9 +60,10 @@
 //! - [`tally`]: counts of the answers given.
 //! - [`session`]: the text of a session file.
 //!
-//! Answers are document 01's numbers, 0 to 18, 19 for a line that is shut (document 02, R-1), and 20 for a list of names
-//! that is full. A call that looks a query's number up and finds it hands its age up: how many were
-//! remembered after it. One that makes a table to be passed on hands its Infinity up.
+//! Answers are document 01's numbers, 0 to 18, 19 for a line that is shut (document 02, R-1), 20 for a list of names
+//! that is full, and 21 for a hit whose query has had 200. A call that looks a query's number up and finds
+//! it hands its age up: how many were remembered after it. One that makes a table to be passed on hands its
+//! Infinity up.
 
 #![forbid(unsafe_code)]
 

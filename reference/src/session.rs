@@ -157,6 +157,23 @@ mod tests {
         assert!(text.ends_with("\n513 9 - 511\n514 0 - -\n515 9 - 511\n516 0 - -\n517 0 - -\n"), "{text}");
     }
 
+    /// 200 hits of one query go back, and the next is 21, with its age; 11 once the asker's line has closed.
+    #[test]
+    fn hits_of_one_query() {
+        let hit = event(2, 1, 0, &message(7, 0x81, 3, 0, &[0; 27]));
+        let mut events = vec![event(0, 0, 0, b""), event(0, 1, 0, b"")];
+        events.push(event(2, 0, 0, &message(7, 0x80, 3, 1, b"\0\0log\0")));
+        events.extend(vec![hit.clone(); 201]);
+        let mut rows = "event answer to after\n0 0 - -\n1 0 - -\n2 0 1 -\n".to_string();
+        rows.extend((3..203).map(|row| format!("{row} 0 0 0\n")));
+        rows.push_str("203 21 - 0\n");
+        assert_eq!(shown(&file(&events)), rows);
+        events.push(event(2, 1, 0, &message(8, 0x80, 3, 1, b"\0\0log\0")));
+        events.extend([hit.clone(), event(1, 0, 0, b""), hit]);
+        rows.push_str("204 0 0 -\n205 21 - 1\n206 0 - -\n207 11 - 1\n");
+        assert_eq!(shown(&file(&events)), rows);
+    }
+
     #[test]
     fn several_lines_and_a_ping() {
         let mut events: Vec<_> = [5, 2, 7].map(|line| event(0, line, 9, b"trailing bytes")).into();

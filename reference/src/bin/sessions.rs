@@ -83,7 +83,8 @@ impl Maker {
             self.asked.push(number);
             number
         };
-        let texts = ["eb", "eb ebckl", "ebcklmen", "", " ", "EB  EBCKL ", "log", "a b c d", "---", "eb-EBCKL.jpg", "_ebcklmen/", "\u{c9}eb"];
+        let texts =
+            ["eb", "eb ebckl", "ebcklmen", "", " ", "EB  EBCKL ", "log", "a b c d", "---", "eb-EBCKL.jpg", "_ebcklmen/", "\u{c9}eb"];
         let text = self.random.pick(&texts);
         let mut payload = vec![0, 0];
         payload.extend(text.bytes());
@@ -233,6 +234,28 @@ impl Maker {
         events
     }
 
+    /// A query and some more hits of it than are sent back, with other events between; then its line closes and opens.
+    fn hits_of_one(&mut self) -> Vec<Vec<u8>> {
+        let mut events = vec![self.event(0, 0, &[]), self.event(0, 1, &[])];
+        let (query, asker) = (self.query(true), self.random.below(2) as u8);
+        let number = self.asked[0];
+        events.push(self.event(2, asker, &query));
+        for _ in 0..230 {
+            let (ttl, hops) = if self.random.one_in(12) { (self.ttl(), self.hops()) } else { (3, 1) };
+            let size = if self.random.one_in(30) { 26 } else { 27 };
+            let line = self.random.below(2) as u8;
+            events.push(self.event(2, line, &message(&number, 0x81, ttl, hops, &[7; 27][..size])));
+            if self.random.one_in(20) {
+                events.push(self.any_event());
+            }
+        }
+        let hit = message(&number, 0x81, 3, 1, &[7; 27]);
+        events.extend([self.event(1, asker, &[]), self.event(2, 1 - asker, &hit)]);
+        events.extend([self.event(0, asker, &[]), self.event(2, 1 - asker, &hit)]);
+        shorten(&mut events, FILE);
+        events
+    }
+
     /// Makes the file of these events so many bytes long, by a last event with bytes behind it that are not read.
     fn fill(&mut self, events: &mut Vec<Vec<u8>>, length: usize) {
         shorten(events, length - 10);
@@ -299,8 +322,9 @@ fn make(dir: &Path, count: u64, seed: u64) -> std::io::Result<()> {
     fs::create_dir_all(dir)?;
     for i in 0..count {
         let mut maker = Maker::new(seed.wrapping_mul(1_000_003).wrapping_add(i).wrapping_add(1));
-        let mut events = maker.events();
-        // Of ten files one is spoiled, and one as long as a file may be, or a byte shorter.
+        // Of ten files one has more hits of one query than are sent back, one is spoiled, and one as long as a file may
+        // be, or a byte shorter.
+        let mut events = if i % 10 == 6 { maker.hits_of_one() } else { maker.events() };
         if i % 10 == 4 {
             maker.fill(&mut events, FILE - (i / 10 % 2) as usize);
         }

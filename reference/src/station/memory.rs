@@ -3,7 +3,7 @@
 //! Every call files the kept places in an index, by the numbers that are kept at them: a table of chains, made anew on the stack from the state's
 //! fields alone. A number is then held against those of its own chain only, both to see that none is kept twice and to look one up.
 
-use super::{kept, Line, Remembered, State, GONE, LINES, MEMORY};
+use super::{kept, Line, Remembered, State, GONE, HITS, LINES, MEMORY};
 use std::ops::Range;
 
 /// Chains of an index: eight for each place, so that of random numbers nearly all are alone in theirs.
@@ -34,11 +34,11 @@ pub(super) fn chain(number: &[u8; 16]) -> usize {
     (halves.wrapping_mul(0x9E37_79B9_7F4A_7C15) >> (64 - CHAINS.trailing_zeros())) as usize
 }
 
-/// How many askers are marks of this range. They are summed up in bytes, few enough at a time for a byte.
+/// How many bytes are of this range. They are summed up in bytes, few enough at a time for a byte.
 #[inline(never)]
-fn count_within(askers: &[u8], marks: Range<u8>) -> usize {
-    let count = |some: &[u8]| some.iter().fold(0, |count: u8, asker| count + u8::from(marks.contains(asker)));
-    askers.chunks(128).map(|some| usize::from(count(some))).sum()
+fn count_within(bytes: &[u8], range: Range<u8>) -> usize {
+    let count = |some: &[u8]| some.iter().fold(0, |count: u8, byte| count + u8::from(range.contains(byte)));
+    bytes.chunks(128).map(|some| usize::from(count(some))).sum()
 }
 
 /// Whether each asker is an open line, here or gone: the marks from one closed line to the next are counted, and these must be all.
@@ -51,6 +51,11 @@ fn all_known(askers: &[u8], lines: &[Line; LINES]) -> bool {
         }
     }
     known + count_within(askers, from..GONE + 1) == askers.len()
+}
+
+/// Whether no query has more than [`HITS`] hits: those that have not are counted, and these must be all.
+fn all_within(hits: &[u8]) -> bool {
+    count_within(hits, 0..HITS + 1) == hits.len()
 }
 
 impl State {
@@ -67,7 +72,9 @@ impl State {
             return false;
         }
         let places = kept(count, next, MEMORY);
-        places.iter().all(|places| all_known(&self.askers[places.clone()], &self.lines)) && self.file(places, index)
+        places.iter().all(|places| all_known(&self.askers[places.clone()], &self.lines))
+            && places.iter().all(|places| all_within(&self.hits[places.clone()]))
+            && self.file(places, index)
     }
 
     /// Files the kept places, the oldest first, and says whether no number is kept twice.
@@ -122,21 +129,33 @@ impl State {
         None
     }
 
-    /// The remembered query of a number. The kept places are filed.
+    /// The kept place of a number. The kept places are filed.
+    #[inline]
+    pub(super) fn place_of(&self, index: &Index, number: &[u8; 16]) -> Option<usize> {
+        self.in_chain(index, index.newest[chain(number)], number)
+    }
+
+    /// The query that is remembered at a kept place.
     ///
     /// Its age is how far its place is behind the newest one's, going round.
     #[inline]
-    pub(super) fn find(&self, index: &Index, number: &[u8; 16]) -> Option<Remembered> {
-        let place = self.in_chain(index, index.newest[chain(number)], number)?;
+    pub(super) fn remembered(&self, place: usize) -> Remembered {
         let after = (usize::from(self.next) + MEMORY - 1 - place) % MEMORY;
-        Some(Remembered { asker: self.askers[place], after })
+        Remembered { asker: self.askers[place], after }
     }
 
-    /// Remembers a query; the oldest of 512 makes way.
+    /// The remembered query of a number. The kept places are filed.
+    #[inline]
+    pub(super) fn find(&self, index: &Index, number: &[u8; 16]) -> Option<Remembered> {
+        self.place_of(index, number).map(|place| self.remembered(place))
+    }
+
+    /// Remembers a query, of which no hit has come; the oldest of 512 makes way.
     pub(super) fn remember(&mut self, number: &[u8; 16], asker: u8) {
         let place = usize::from(self.next);
         self.numbers[place] = *number;
         self.askers[place] = asker;
+        self.hits[place] = 0;
         self.next = (self.next + 1) % MEMORY as u16;
         self.count = (self.count + 1).min(MEMORY as u16);
     }

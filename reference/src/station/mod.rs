@@ -35,6 +35,8 @@ pub const OWN_TEXT: usize = header::PAYLOAD - 3;
 pub const PONG_BYTES: usize = 14;
 /// The shortest payload of a hit.
 pub const HIT_BYTES: usize = 27;
+/// Most hits of one query that are sent back or delivered.
+pub const HITS: u8 = 200;
 /// Most hops of a query.
 pub const REACH: u8 = 7;
 /// The largest TTL of an arriving query.
@@ -86,6 +88,8 @@ pub struct State {
     pub numbers: [[u8; 16]; MEMORY],
     /// A line, [`HERE`] or [`GONE`].
     pub askers: [u8; MEMORY],
+    /// How many hits of the query were sent back or delivered since it was remembered, at most [`HITS`].
+    pub hits: [u8; MEMORY],
     pub lines: [Line; LINES],
 }
 
@@ -255,8 +259,8 @@ impl State {
     /// A fresh state over this route area: 0, or 2 with room 0 if it is too short.
     pub fn fresh(route: &[u8]) -> (u8, State) {
         let (answer, room) = if route.len() < ROUTE { (2, 0) } else { (0, route.len() / LINES) };
-        let (numbers, askers, lines) = ([[0; 16]; MEMORY], [0; MEMORY], [Line::CLOSED; LINES]);
-        (answer, State { room, count: 0, next: 0, numbers, askers, lines })
+        let (numbers, askers, hits) = ([[0; 16]; MEMORY], [0; MEMORY], [0; MEMORY]);
+        (answer, State { room, count: 0, next: 0, numbers, askers, hits, lines: [Line::CLOSED; LINES] })
     }
 
     /// Opens a line: 0, 1 or 3.
@@ -271,7 +275,7 @@ impl State {
         0
     }
 
-    /// Closes a line: 0, 1 or 3. The queries that came by it are gone from now on.
+    /// Closes a line: 0, 1 or 3. The queries that came by it are gone from now on; their hits stay counted.
     pub fn close(&mut self, line: usize) -> u8 {
         if !self.in_order() {
             return 1;
@@ -454,9 +458,11 @@ impl State {
         if header.ttl == 0 {
             return Err(8);
         }
-        let known = self.find(index, &header.number).ok_or(10)?;
-        Ok(match known.asker {
+        let place = self.place_of(index, &header.number).ok_or(10)?;
+        let known = self.remembered(place);
+        let handled = match known.asker {
             GONE => found(11, known),
+            _ if self.hits[place] == HITS => found(21, known),
             HERE => Handled { delivered: true, ..found(0, known) },
             _ if header.ttl == 1 => found(8, known),
             _ if header.hops == 255 => found(12, known),
@@ -464,7 +470,11 @@ impl State {
                 let written = forward(header, header.ttl - 1, payload, out);
                 Handled { to: 1 << line, written, ..found(0, known) }
             }
-        })
+        };
+        if handled.answer == 0 {
+            self.hits[place] += 1;
+        }
+        Ok(handled)
     }
 
     fn update(&mut self, line: usize, header: &Header, payload: &[u8], route: &mut [u8]) -> Result<Handled, u8> {

@@ -1,9 +1,11 @@
 mod ages;
 mod feeding;
+mod hits;
 mod relaying;
 
 use super::*;
 use crate::table::{BROKEN, NONE, RUNNING, SETTLED, WAITING};
+use std::collections::HashMap;
 
 const OWN: OwnPong = OwnPong { port: 6346, address: [127, 0, 0, 1], files: 3, kilobytes: 0x0102_0304, takes_calls: true };
 const OWN_DATA: [u8; 14] = [0xCA, 0x18, 127, 0, 0, 1, 3, 0, 0, 0, 4, 3, 2, 1];
@@ -63,11 +65,34 @@ fn age(state: &State, number: &[u8]) -> Option<usize> {
 /// The age that a message hands up which such a state answers so (document 02, R-2).
 fn age_of_message(state: &State, bytes: &[u8], answer: u8) -> Option<usize> {
     let found = match (answer, bytes.get(16)) {
-        (9, Some(&QUERY)) | (0 | 11 | 12, Some(&HIT)) => true,
+        (9, Some(&QUERY)) | (0 | 11 | 12 | 21, Some(&HIT)) => true,
         (8, Some(&HIT)) => bytes[17] != 0,
         _ => false,
     };
     found.then(|| age(state, &bytes[..16]).expect("it is remembered"))
+}
+
+/// The place of the newest query but `after`.
+fn place_of_age(state: &State, after: usize) -> usize {
+    (usize::from(state.next) + 511 - after) % 512
+}
+
+/// The counts of hits after a message that such a state answers so (document 02, R-8): one more for a hit that was
+/// taken, which has less than 200 before it; none for a query that was taken; all others as they were.
+fn counts_after_message(state: &State, bytes: &[u8], answer: u8) -> [u8; 512] {
+    let mut counts = state.hits;
+    match (answer, bytes.get(16)) {
+        (0, Some(&QUERY)) => counts[usize::from(state.next)] = 0,
+        (0 | 8 | 12 | 21, Some(&HIT)) => {
+            if let Some(after) = age_of_message(state, bytes, answer) {
+                let count = &mut counts[place_of_age(state, after)];
+                assert_eq!(*count == 200, answer == 21);
+                *count += u8::from(answer == 0);
+            }
+        }
+        _ => {}
+    }
+    counts
 }
 
 /// A state with its areas. Each call checks what holds of every call.
@@ -105,6 +130,10 @@ impl Setting {
         let handled = self.state.message(line, self.clock, &self.own, bytes, &mut self.out, &mut self.route);
         self.check(&handled);
         assert_eq!(handled.after, age_of_message(&before, bytes, handled.answer));
+        assert!(self.state.hits == counts_after_message(&before, bytes, handled.answer), "other counts of hits");
+        if handled.answer == 0 && bytes[16] == HIT {
+            assert!(self.state == State { hits: self.state.hits, ..before.clone() }, "a hit changed more than that");
+        }
         if handled.answer != 0 {
             let used = if handled.answer <= 5 { 0 } else { header::BYTES + header::read(bytes).unwrap().payload as usize };
             assert_eq!(handled, Handled { answer: handled.answer, used, after: handled.after, ..QUIET });
@@ -124,6 +153,11 @@ impl Setting {
         self.check(&handled);
         assert_eq!(handled.after, if handled.answer == 9 { age(&before, &numbered(number)) } else { None });
         assert!(handled.answer == 0 || self.state == before);
+        let mut counts = before.hits;
+        if handled.answer == 0 {
+            counts[usize::from(before.next)] = 0;
+        }
+        assert!(self.state.hits == counts, "other counts of hits");
         handled
     }
 
@@ -314,6 +348,12 @@ fn order() {
     check(true, &|state| (state.askers[0], state.askers[1], state.askers[3]) = (HERE, GONE, 77));
     check(false, &|state| state.askers[0] = 0);
     check(false, &|state| state.askers[2] = 10);
+    check(true, &|state| (state.hits[0], state.hits[1], state.hits[2]) = (200, 0, 199));
+    check(false, &|state| state.hits[0] = 201);
+    check(false, &|state| state.hits[2] = 255);
+    check(true, &|state| state.hits[3..].fill(255));
+    check(true, &|state| (state.next, state.askers[511], state.hits[511], state.hits[2]) = (2, GONE, 200, 255));
+    check(false, &|state| (state.next, state.askers[511], state.hits[511]) = (2, GONE, 201));
     check(false, &|state| state.lines[1] = Line::CLOSED);
     check(true, &|state| state.lines[0].pong_next = 9);
     check(false, &|state| state.lines[0].pong_next = 10);
@@ -355,6 +395,9 @@ fn full(next: u16) -> State {
     }
     for (place, asker) in (0u16..).zip(&mut state.askers) {
         *asker = (place % 10) as u8;
+    }
+    for (place, hits) in (0u16..).zip(&mut state.hits) {
+        *hits = (place % 201) as u8;
     }
     let table = Table { mark: SETTLED, length: 16, infinity: 8, place: 1, size: 0, bits: 0, at: 0 };
     for (line, turn) in state.lines.iter_mut().zip(0..) {
@@ -401,6 +444,15 @@ fn order_of_a_full_state() {
         }
         check(false, "an asker over 9", &|state| state.askers[300] = 10);
         check(false, "an asker of 255", &|state| state.askers[0] = 255);
+        for place in [0, 127, 128, 199, 200, 201, 511] {
+            check(true, "200 hits", &|state| state.hits[place] = 200);
+            check(false, "201 hits", &|state| state.hits[place] = 201);
+            check(false, "255 hits", &|state| state.hits[place] = 255);
+        }
+        check(true, "200 hits of each", &|state| state.hits.fill(200));
+        let free = usize::from(next);
+        check(true, "255 hits at the place that is free", &|state| (state.count, state.hits[free]) = (511, 255));
+        check(true, "255 hits, and none kept", &|state| (state.count, state.hits) = (0, [255; 512]));
         check(true, "a line closed", &close);
         for (place, mark) in [(0, 6), (511, 6), (200, 6)] {
             check(false, "a closed line as asker", &|state| (close(state), state.askers[place] = mark).1);
@@ -490,7 +542,7 @@ fn keeping(numbers: &[[u8; 16]], from: usize) -> State {
 /// The state is in order, each of its kept numbers is found at its own place, and none of the others is found.
 fn check_found(state: &State, others: &[[u8; 16]]) {
     for (after, number) in newest_first(state).iter().enumerate() {
-        let place = (usize::from(state.next) + 511 - after) % 512;
+        let place = place_of_age(state, after);
         assert_eq!(state.look_up(number), Ok(Remembered { asker: state.askers[place], after }));
     }
     assert!(others.iter().all(|number| state.look_up(number) == Err(10)));
@@ -554,7 +606,7 @@ fn numbers_of_one_chain() {
 #[test]
 fn queries_come_and_go() {
     let mut setting = Setting::new(32, &[0, 1]);
-    let mut numbers: Vec<u32> = Vec::new();
+    let (mut numbers, mut counts) = (Vec::new(), HashMap::new());
     for step in 0..1_700u32 {
         let number = step.wrapping_mul(0x9E37_79B9);
         let there = numbers.iter().rev().take(512).any(|&other| other == number);
@@ -564,7 +616,10 @@ fn queries_come_and_go() {
         let known = [kept[0], kept[kept.len() / 2], kept[kept.len() - 1]];
         for number in known {
             let handled = setting.state.message(1, 0, &OWN, &hit(number, 2, 0), &mut setting.out, &mut setting.route);
-            assert!(handled.delivered, "{number}");
+            let count = counts.entry(number).or_insert(0);
+            let expected = if *count < 200 { (0, true) } else { (21, false) };
+            assert_eq!((handled.answer, handled.delivered), expected, "{number}");
+            *count += u32::from(handled.delivered);
         }
         if let Some(&gone) = numbers.iter().rev().nth(512) {
             assert_eq!(setting.answer(1, &hit(gone, 2, 0)), 10);
@@ -574,6 +629,7 @@ fn queries_come_and_go() {
             let state = &mut setting.state;
             state.numbers.rotate_left(7);
             state.askers.rotate_left(7);
+            state.hits.rotate_left(7);
             state.next = (state.next + 505) % 512;
             assert!(state.in_order());
         }
@@ -629,6 +685,7 @@ fn fresh() {
         let (given, state) = State::fresh(&vec![0; length]);
         assert_eq!((given, state.room), (answer, room));
         assert!(state.in_order() && state.lines.iter().all(|line| *line == Line::CLOSED));
+        assert_eq!((state.count, state.hits), (0, [0; 512]));
     }
 }
 
@@ -714,7 +771,9 @@ fn hits() {
     assert_eq!((&setting.out[..16], &setting.out[23..50]), (&bytes[..16], &bytes[23..]));
     // C44: back over the line that it came by.
     assert_eq!(setting.sent(0, &hit(1, 2, 0)), (0, 1));
-    assert!(setting.state == before);
+    // two of number 1 and one of number 3, and nothing else.
+    assert_eq!(setting.state.hits[..4], [2, 0, 1, 0]);
+    assert!(setting.state == State { hits: setting.state.hits, ..before });
 }
 
 /// C45, C46: the next neighbour on a line does not inherit.
@@ -943,7 +1002,7 @@ fn random_calls() {
         (seed >> 33) as u32 % below
     };
     let mut setting = Setting::new(64, &[0, 1, 2]);
-    let mut counts = [0; 19];
+    let mut counts = [0; 22];
     let payloads: [&[u8]; 9] = [
         P1,
         P2,
@@ -982,12 +1041,15 @@ fn random_calls() {
         };
         assert!(setting.state.in_order());
         counts[usize::from(answer)] += 1;
+        if random(60) == 0 {
+            setting.state.hits.fill(199);
+        }
         if random(1000) == 0 {
             let lines: Vec<usize> = (0..8).filter(|&line| setting.state.lines[line].open).collect();
             setting = Setting { clock: setting.clock, ..Setting::new(64, &lines) };
         }
     }
-    for answer in [0, 3, 4, 5, 6, 7, 8, 9, 10, 11, 12, 13, 14, 15, 16] {
+    for answer in [0, 3, 4, 5, 6, 7, 8, 9, 10, 11, 12, 13, 14, 15, 16, 21] {
         assert!(counts[answer] > 0, "no call was answered {answer}: {counts:?}");
     }
 }

@@ -48,6 +48,11 @@ enum Set {
         count: u16,
         next: u16,
     },
+    /// The count of hits at a place of the memory.
+    Hits {
+        place: usize,
+        hits: u8,
+    },
     Line(Box<Record>),
     /// How many bytes a line holds, and whether it is shut.
     Pending {
@@ -94,6 +99,7 @@ fn event_at(line: &Line, n: usize) -> (Event, usize) {
             let (count, next) = (small(number(4)), small(number(5)));
             (Event::Set(Set::Kept { place: size(1), number: number(2), asker: byte(3), count, next }), 6)
         }
+        "hits" => (Event::Set(Set::Hits { place: size(1), hits: byte(2) }), 3),
         "line" => {
             let mut record = Record { open: flag(1), pinged: flag(2), pong_count: byte(3), pong_next: byte(4), ..Record::CLOSED };
             record.pongs[size(5)].hops = byte(6);
@@ -211,6 +217,7 @@ impl World {
                 state.askers[place] = asker;
                 (state.count, state.next) = (count, next);
             }
+            Set::Hits { place, hits } => state.hits[place] = hits,
             Set::Line(record) => state.lines[2] = *record,
             Set::Pending { line, count, shut } => {
                 let line = &mut state.lines[line as usize % LINES];
@@ -221,6 +228,7 @@ impl World {
                     *kept = (number as u128).to_le_bytes();
                 }
                 state.askers.fill(asker);
+                state.hits.fill(0);
                 (state.count, state.next) = (512, 0);
             }
             Set::Room(room) => state.room = room,

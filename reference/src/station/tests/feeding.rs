@@ -31,6 +31,8 @@ impl Feeding {
         assert!(self.held[at] == area, "the held area is as it was, or has the bytes behind those held");
         let message = [&held[at][..HELD.min(before.lines[at].held.into())], bytes].concat();
         assert_eq!(fed.handled.after, age_of_message(&before, &message, fed.handled.answer));
+        let counts = counts_after_message(&before, &message, fed.handled.answer);
+        assert!(self.setting.state.hits == counts, "other counts of hits");
         if fed.handled.answer != 0 {
             let Handled { answer, used, after, .. } = fed.handled;
             assert_eq!(fed.handled, Handled { answer, used, after, ..QUIET });
@@ -76,7 +78,7 @@ fn expected(fed: &Fed, before: &State, at: usize, bytes: &[u8], held: &[u8]) -> 
             (line.held, line.shut) = (0, true);
         }
         answer => {
-            assert!((6..=16).contains(&answer) || answer == 0);
+            assert!((6..=16).contains(&answer) || [0, 21].contains(&answer));
             assert_eq!((fed.within, fed.waits), (count > 0, false));
             line.held = 0;
             if (14..=16).contains(&answer) {
