@@ -23,13 +23,14 @@
 extern "C" {
 #endif
 
-/* How many: lines of a station, queries it remembers, pongs it keeps of a line, hosts of an X-Try field, answer
- * numbers. */
+/* How many: lines of a station, queries it remembers, hits of one query that are passed back or delivered, pongs it
+ * keeps of a line, hosts of an X-Try field, answer numbers. */
 #define LUNOZHAR_LINES 8
 #define LUNOZHAR_MEMORY 512
+#define LUNOZHAR_HITS 200
 #define LUNOZHAR_PONGS 10
 #define LUNOZHAR_PAIRS 32
-#define LUNOZHAR_ANSWERS 21
+#define LUNOZHAR_ANSWERS 22
 
 /* The shortest output area of a message or an own query: a header of 23 bytes and a payload of 4,096. */
 #define LUNOZHAR_OUTPUT 4119
@@ -70,7 +71,8 @@ enum lunozhar_answer {
     LUNOZHAR_BAD_HANDSHAKE = 17,      /* the handshake group is not understood */
     LUNOZHAR_NO_GROUP_END = 18,       /* no handshake group ends in the first 4,096 bytes */
     LUNOZHAR_SHUT = 19,               /* the line brought a payload that was too long, and is to be closed */
-    LUNOZHAR_LIST_FULL = 20           /* the list has 512 names, or its text has no room for the new one */
+    LUNOZHAR_LIST_FULL = 20,          /* the list has 512 names, or its text has no room for the new one */
+    LUNOZHAR_ANSWERED_ENOUGH = 21     /* a hit for a query that has had LUNOZHAR_HITS hits */
 };
 
 /* What stands where the answer would be while a message is not whole (lunozhar_feed): no answer has this number, and
@@ -149,7 +151,8 @@ typedef struct lunozhar_station {
     lunozhar_line lines[LUNOZHAR_LINES];
     uint64_t lo[LUNOZHAR_MEMORY];   /* the ring of remembered queries: the number's bytes 0 to 7, little-endian, */
     uint64_t hi[LUNOZHAR_MEMORY];   /* bytes 8 to 15, */
-    uint8_t asker[LUNOZHAR_MEMORY]; /* and the asker */
+    uint8_t asker[LUNOZHAR_MEMORY]; /* the asker, */
+    uint8_t hits[LUNOZHAR_MEMORY];  /* and how many hits were passed back or delivered, at most LUNOZHAR_HITS */
     size_t count;                   /* how many are kept, and where the next goes; they stand before */
     size_t next;
 } lunozhar_station;
@@ -178,16 +181,17 @@ typedef struct lunozhar_age {
 /* What a message or an own query came to. */
 typedef struct lunozhar_told {
     uint8_t answer;           /* enum lunozhar_answer; of lunozhar_feed also LUNOZHAR_WAITING */
-    size_t used;              /* of a message: its header and payload for 0 and 6 to 16, else 0; of an own query 0;
-                               * of lunozhar_feed: so many of the bytes of that call */
+    size_t used;              /* of a message: its header and payload for 0, 6 to 16 and 21, else 0; of an own query
+                               * 0; of lunozhar_feed: so many of the bytes of that call */
     size_t written;           /* bytes written to the output area, to be sent to each line whose flag is set */
     bool to[LUNOZHAR_LINES];
     bool search;              /* a query is for the local search: textlen bytes of the message from textat on */
     bool delivered;           /* the message is a hit for a query of this station's own */
     size_t textat;
     size_t textlen;
-    lunozhar_age age;         /* of the query that a hit answers, or that a query repeats: for a hit answered 0, 11 or
-                               * 12, or 8 with TTL 1; for a query, arriving or own, answered 9; else there is none */
+    lunozhar_age age;         /* of the query that a hit answers, or that a query repeats: for a hit answered 0, 11,
+                               * 12 or 21, or 8 with TTL 1; for a query, arriving or own, answered 9; else there is
+                               * none */
 } lunozhar_told;
 
 /* What bytes of a line came to. */
@@ -286,34 +290,37 @@ typedef struct lunozhar_hosts {
     lunozhar_pairs pairs;
 } lunozhar_hosts;
 
-/* The calls on a station, as the library has them: lo, hi and asker are its three arrays of LUNOZHAR_MEMORY
+/* The calls on a station, as the library has them: lo, hi, asker and hits are its four arrays of LUNOZHAR_MEMORY
  * places, lent with count and next where a call writes them. The record that comes back belongs at
  * line % LUNOZHAR_LINES, whatever the answer is. The functions below do all that: call those. */
-lunozhar_beginning lunozhar_fresh_lent(uint64_t *lo, uint64_t *hi, uint8_t *asker, size_t *count, size_t *next,
-                                       size_t route_len);
-lunozhar_line_change lunozhar_open_lent(const uint64_t *lo, const uint64_t *hi, const uint8_t *asker, size_t count,
-                                        size_t next, size_t room, lunozhar_lines lines, uint32_t line);
-lunozhar_line_change lunozhar_close_lent(uint64_t *lo, uint64_t *hi, uint8_t *asker, size_t count,
+lunozhar_beginning lunozhar_fresh_lent(uint64_t *lo, uint64_t *hi, uint8_t *asker, uint8_t *hits, size_t *count,
+                                       size_t *next, size_t route_len);
+lunozhar_line_change lunozhar_open_lent(const uint64_t *lo, const uint64_t *hi, const uint8_t *asker,
+                                        const uint8_t *hits, size_t count, size_t next, size_t room,
+                                        lunozhar_lines lines, uint32_t line);
+lunozhar_line_change lunozhar_close_lent(uint64_t *lo, uint64_t *hi, uint8_t *asker, uint8_t *hits, size_t count,
                                          size_t next, size_t room, lunozhar_lines lines, uint32_t line);
-lunozhar_arrival lunozhar_message_lent(uint64_t *lo, uint64_t *hi, uint8_t *asker, size_t *count, size_t *next,
-                                       size_t room, lunozhar_lines lines, uint32_t line, uint32_t clock,
+lunozhar_arrival lunozhar_message_lent(uint64_t *lo, uint64_t *hi, uint8_t *asker, uint8_t *hits, size_t *count,
+                                       size_t *next, size_t room, lunozhar_lines lines, uint32_t line, uint32_t clock,
                                        lunozhar_own own, const uint8_t *message, size_t message_len, uint8_t *out,
                                        size_t out_len, uint8_t *route, size_t route_len);
-lunozhar_feeding lunozhar_feed_lent(uint64_t *lo, uint64_t *hi, uint8_t *asker, size_t *count, size_t *next,
-                                    size_t room, lunozhar_lines lines, uint32_t line, uint32_t clock, lunozhar_own own,
-                                    const uint8_t *bytes, size_t len, uint8_t *held, size_t held_len, uint8_t *out,
-                                    size_t out_len, uint8_t *route, size_t route_len);
-lunozhar_told lunozhar_ask_lent(uint64_t *lo, uint64_t *hi, uint8_t *asker, size_t *count, size_t *next, size_t room,
-                                lunozhar_lines lines, lunozhar_number number, const uint8_t *text, size_t text_len,
-                                uint8_t *out, size_t out_len, const uint8_t *route, size_t route_len);
-lunozhar_finding lunozhar_look_up_lent(const uint64_t *lo, const uint64_t *hi, const uint8_t *asker, size_t count,
-                                       size_t next, size_t room, lunozhar_lines lines, lunozhar_number number);
-lunozhar_made lunozhar_table_for_lent(const uint64_t *lo, const uint64_t *hi, const uint8_t *asker, size_t count,
-                                      size_t next, size_t room, lunozhar_lines lines, uint32_t line,
-                                      const uint8_t *names, size_t names_len, uint32_t size, uint8_t *out,
-                                      size_t out_len, const uint8_t *route, size_t route_len);
-bool lunozhar_in_order_lent(const uint64_t *lo, const uint64_t *hi, const uint8_t *asker, size_t count, size_t next,
-                            size_t room, lunozhar_lines lines);
+lunozhar_feeding lunozhar_feed_lent(uint64_t *lo, uint64_t *hi, uint8_t *asker, uint8_t *hits, size_t *count,
+                                    size_t *next, size_t room, lunozhar_lines lines, uint32_t line, uint32_t clock,
+                                    lunozhar_own own, const uint8_t *bytes, size_t len, uint8_t *held, size_t held_len,
+                                    uint8_t *out, size_t out_len, uint8_t *route, size_t route_len);
+lunozhar_told lunozhar_ask_lent(uint64_t *lo, uint64_t *hi, uint8_t *asker, uint8_t *hits, size_t *count, size_t *next,
+                                size_t room, lunozhar_lines lines, lunozhar_number number, const uint8_t *text,
+                                size_t text_len, uint8_t *out, size_t out_len, const uint8_t *route, size_t route_len);
+lunozhar_finding lunozhar_look_up_lent(const uint64_t *lo, const uint64_t *hi, const uint8_t *asker,
+                                       const uint8_t *hits, size_t count, size_t next, size_t room,
+                                       lunozhar_lines lines, lunozhar_number number);
+lunozhar_made lunozhar_table_for_lent(const uint64_t *lo, const uint64_t *hi, const uint8_t *asker,
+                                      const uint8_t *hits, size_t count, size_t next, size_t room,
+                                      lunozhar_lines lines, uint32_t line, const uint8_t *names, size_t names_len,
+                                      uint32_t size, uint8_t *out, size_t out_len, const uint8_t *route,
+                                      size_t route_len);
+bool lunozhar_in_order_lent(const uint64_t *lo, const uint64_t *hi, const uint8_t *asker, const uint8_t *hits,
+                            size_t count, size_t next, size_t room, lunozhar_lines lines);
 
 /* A station's lines, to be handed on with one copy: what is read as lunozhar_lines is an array of its only
  * member's type (C11 6.5 p7, C++11 3.10 p10). */
@@ -329,7 +336,8 @@ static inline const lunozhar_lines *lunozhar_lines_of(const lunozhar_station *st
  * Answers 0, or 2 for route_len below LUNOZHAR_ROUTE: the station is made all the same, with room 0. */
 static inline uint8_t lunozhar_fresh(lunozhar_station *station, size_t route_len) {
     const lunozhar_beginning made =
-        lunozhar_fresh_lent(station->lo, station->hi, station->asker, &station->count, &station->next, route_len);
+        lunozhar_fresh_lent(station->lo, station->hi, station->asker, station->hits, &station->count, &station->next,
+                            route_len);
     station->room = made.room;
     memcpy(station->lines, made.lines, sizeof station->lines);
     return made.answer;
@@ -339,8 +347,8 @@ static inline uint8_t lunozhar_fresh(lunozhar_station *station, size_t route_len
  * open already. */
 static inline uint8_t lunozhar_open(lunozhar_station *station, uint32_t line) {
     const lunozhar_line_change change =
-        lunozhar_open_lent(station->lo, station->hi, station->asker, station->count, station->next, station->room,
-                           *lunozhar_lines_of(station), line);
+        lunozhar_open_lent(station->lo, station->hi, station->asker, station->hits, station->count, station->next,
+                           station->room, *lunozhar_lines_of(station), line);
     station->lines[line % LUNOZHAR_LINES] = change.line;
     return change.answer;
 }
@@ -349,14 +357,14 @@ static inline uint8_t lunozhar_open(lunozhar_station *station, uint32_t line) {
  * by it is passed on any more, even if the line is opened again. Answers 0, 1, or 3 for a line over 7 or not open. */
 static inline uint8_t lunozhar_close(lunozhar_station *station, uint32_t line) {
     const lunozhar_line_change change =
-        lunozhar_close_lent(station->lo, station->hi, station->asker, station->count, station->next, station->room,
-                            *lunozhar_lines_of(station), line);
+        lunozhar_close_lent(station->lo, station->hi, station->asker, station->hits, station->count, station->next,
+                            station->room, *lunozhar_lines_of(station), line);
     station->lines[line % LUNOZHAR_LINES] = change.line;
     return change.answer;
 }
 
 /* Takes the message at the front of the bytes, which arrived by a line at a clock in milliseconds (it may go
- * round). Bytes past the message are not read. Answers 0 to 16, and says what is to be sent, searched or
+ * round). Bytes past the message are not read. Answers 0 to 16 or 21, and says what is to be sent, searched or
  * delivered. Writes the bytes to be sent to the front of the output area (out_len at least LUNOZHAR_OUTPUT), and
  * an accepted update's entries to the line's part of the route area (route_len at least LUNOZHAR_ROUTE, where
  * route_len / 8 is the station's room). A refusal writes to no area and changes no state, but that 14, 15 and 16
@@ -364,14 +372,18 @@ static inline uint8_t lunozhar_close(lunozhar_station *station, uint32_t line) {
  * changed here, of this line or another, and an answer 5 shuts nothing.
  *
  * A hit whose number was looked up and found hands up told.age, how many queries were remembered after the one that it
- * answers, whether it is sent, delivered or then refused; so does a query that is answered 9. */
+ * answers, whether it is sent, delivered or then refused; so does a query that is answered 9.
+ *
+ * Of one query LUNOZHAR_HITS hits are passed back or delivered, counted from when it was remembered. Each one more is
+ * answered 21, whoever asked: 11 comes before it, the 8 of TTL 1 and 12 come behind it. A hit that is refused is not
+ * counted, and a message is one hit, however many results it has. */
 static inline lunozhar_told lunozhar_message(lunozhar_station *station, uint32_t line, uint32_t clock,
                                              lunozhar_own own, const uint8_t *message, size_t message_len,
                                              uint8_t *out, size_t out_len, uint8_t *route, size_t route_len) {
     const lunozhar_arrival arrival =
-        lunozhar_message_lent(station->lo, station->hi, station->asker, &station->count, &station->next, station->room,
-                              *lunozhar_lines_of(station), line, clock, own, message, message_len, out, out_len, route,
-                              route_len);
+        lunozhar_message_lent(station->lo, station->hi, station->asker, station->hits, &station->count, &station->next,
+                              station->room, *lunozhar_lines_of(station), line, clock, own, message, message_len, out,
+                              out_len, route, route_len);
     station->lines[line % LUNOZHAR_LINES] = arrival.line;
     return arrival.told;
 }
@@ -390,7 +402,8 @@ static inline lunozhar_told lunozhar_message(lunozhar_station *station, uint32_t
  *   waits     the message is not whole, and told.answer is LUNOZHAR_WAITING: all bytes are used, and stand in the held
  *             area behind those before them. Nothing else changes but the line's count of them, in the station. This
  *             comes instead of 4, and is not to be counted.
- *   0, 6..16  the message is whole, and done or refused: its bytes are used, and none are held any more. Where some of
+ *   0, 6..16, 21
+ *             the message is whole, and done or refused: its bytes are used, and none are held any more. Where some of
  *             it was held it now stands whole at the front of the held area, and `within` is set; else the held area
  *             is as it was. State and told.age are as of lunozhar_message; any other call here tells no age.
  *   5         its header is there, with a payload over 4,096 bytes: the bytes of the header are used, none are held,
@@ -409,9 +422,9 @@ static inline lunozhar_fed lunozhar_feed(lunozhar_station *station, uint32_t lin
                                          const uint8_t *bytes, size_t len, uint8_t *held, size_t held_len,
                                          uint8_t *out, size_t out_len, uint8_t *route, size_t route_len) {
     const lunozhar_feeding feeding =
-        lunozhar_feed_lent(station->lo, station->hi, station->asker, &station->count, &station->next, station->room,
-                           *lunozhar_lines_of(station), line, clock, own, bytes, len, held, held_len, out, out_len,
-                           route, route_len);
+        lunozhar_feed_lent(station->lo, station->hi, station->asker, station->hits, &station->count, &station->next,
+                           station->room, *lunozhar_lines_of(station), line, clock, own, bytes, len, held, held_len,
+                           out, out_len, route, route_len);
     station->lines[line % LUNOZHAR_LINES] = feeding.line;
     return feeding.fed;
 }
@@ -424,15 +437,16 @@ static inline lunozhar_fed lunozhar_feed(lunozhar_station *station, uint32_t lin
 static inline lunozhar_told lunozhar_ask(lunozhar_station *station, lunozhar_number number, const uint8_t *text,
                                          size_t text_len, uint8_t *out, size_t out_len, const uint8_t *route,
                                          size_t route_len) {
-    return lunozhar_ask_lent(station->lo, station->hi, station->asker, &station->count, &station->next, station->room,
-                             *lunozhar_lines_of(station), number, text, text_len, out, out_len, route, route_len);
+    return lunozhar_ask_lent(station->lo, station->hi, station->asker, station->hits, &station->count, &station->next,
+                             station->room, *lunozhar_lines_of(station), number, text, text_len, out, out_len, route,
+                             route_len);
 }
 
 /* Looks up the number of a query: who asked it, and how many queries were remembered after it. Answers 0, 1, or 10 for
  * a number that is not remembered. The station is only read. */
 static inline lunozhar_finding lunozhar_look_up(const lunozhar_station *station, lunozhar_number number) {
-    return lunozhar_look_up_lent(station->lo, station->hi, station->asker, station->count, station->next,
-                                 station->room, *lunozhar_lines_of(station), number);
+    return lunozhar_look_up_lent(station->lo, station->hi, station->asker, station->hits, station->count,
+                                 station->next, station->room, *lunozhar_lines_of(station), number);
 }
 
 /* Makes the table to send the neighbour of a line, which tells it what can be reached through this station: `size`
@@ -460,18 +474,18 @@ static inline lunozhar_finding lunozhar_look_up(const lunozhar_station *station,
 static inline lunozhar_made lunozhar_table_for(const lunozhar_station *station, uint32_t line, const uint8_t *names,
                                                size_t names_len, uint32_t size, uint8_t *out, size_t out_len,
                                                const uint8_t *route, size_t route_len) {
-    return lunozhar_table_for_lent(station->lo, station->hi, station->asker, station->count, station->next,
-                                   station->room, *lunozhar_lines_of(station), line, names, names_len, size, out,
-                                   out_len, route, route_len);
+    return lunozhar_table_for_lent(station->lo, station->hi, station->asker, station->hits, station->count,
+                                   station->next, station->room, *lunozhar_lines_of(station), line, names, names_len,
+                                   size, out, out_len, route, route_len);
 }
 
 /* Whether the state is in order, as every call tests first (answer 1). A state that only these functions wrote is. */
 static inline bool lunozhar_in_order(const lunozhar_station *station) {
-    return lunozhar_in_order_lent(station->lo, station->hi, station->asker, station->count, station->next,
-                                  station->room, *lunozhar_lines_of(station));
+    return lunozhar_in_order_lent(station->lo, station->hi, station->asker, station->hits, station->count,
+                                  station->next, station->room, *lunozhar_lines_of(station));
 }
 
-/* Counts one more message with this answer. A number over 20 counts nothing, LUNOZHAR_WAITING among them. */
+/* Counts one more message with this answer. A number over 21 counts nothing, LUNOZHAR_WAITING among them. */
 void lunozhar_count(lunozhar_tally *tally, uint8_t answer);
 
 /* Writes the messages that turn a neighbour's copy of the old table into the new one: a RESET where there was none
@@ -582,14 +596,15 @@ LUNOZHAR_AT(lunozhar_line, pending, 240);
 LUNOZHAR_SIZE(lunozhar_lines, 1984);
 LUNOZHAR_AT(lunozhar_lines, at, 0);
 
-LUNOZHAR_SIZE(lunozhar_station, 10712);
+LUNOZHAR_SIZE(lunozhar_station, 11224);
 LUNOZHAR_AT(lunozhar_station, room, 0);
 LUNOZHAR_AT(lunozhar_station, lines, 8);
 LUNOZHAR_AT(lunozhar_station, lo, 1992);
 LUNOZHAR_AT(lunozhar_station, hi, 6088);
 LUNOZHAR_AT(lunozhar_station, asker, 10184);
-LUNOZHAR_AT(lunozhar_station, count, 10696);
-LUNOZHAR_AT(lunozhar_station, next, 10704);
+LUNOZHAR_AT(lunozhar_station, hits, 10696);
+LUNOZHAR_AT(lunozhar_station, count, 11208);
+LUNOZHAR_AT(lunozhar_station, next, 11216);
 
 LUNOZHAR_SIZE(lunozhar_own, 20);
 LUNOZHAR_AT(lunozhar_own, port, 0);
@@ -643,7 +658,7 @@ LUNOZHAR_AT(lunozhar_beginning, answer, 0);
 LUNOZHAR_AT(lunozhar_beginning, room, 8);
 LUNOZHAR_AT(lunozhar_beginning, lines, 16);
 
-LUNOZHAR_SIZE(lunozhar_tally, 84);
+LUNOZHAR_SIZE(lunozhar_tally, 88);
 LUNOZHAR_AT(lunozhar_tally, counts, 0);
 
 LUNOZHAR_SIZE(lunozhar_written, 16);

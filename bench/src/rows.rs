@@ -11,6 +11,8 @@ use std::hint::black_box;
 const LIST: usize = 64;
 /// Bytes of a hit's payload.
 const HIT: usize = 150;
+/// Hits of one query that are passed back.
+const HITS: usize = 200;
 
 /// The keywords that are near in most tables.
 fn words(random: &mut Random) -> Vec<Vec<u8>> {
@@ -86,6 +88,16 @@ fn passed_back() -> Session {
     warm("hit passed back", sent, |world, index| inputs::hit(world.kept[index * 8], 5, 1, HIT))
 }
 
+/// Hits of queries that have each had as many as are passed back.
+fn one_too_many() -> Session {
+    let refused = |outcome: &Outcome| outcome.answer == 21;
+    let hit = |world: &mut World, index: usize| inputs::hit(world.kept[index * 8], 5, 1, HIT);
+    let mut session = warm("hit of a query that has had 200 (21)", refused, hit);
+    let before = session.calls.iter().flat_map(|call| vec![call.clone(); HITS]);
+    session.setup.extend(before);
+    session
+}
+
 /// Fourteen pings of each line, a second apart, while the stored pongs are fresh.
 fn pings() -> Session {
     let mut world = world(3, ROOM);
@@ -152,7 +164,7 @@ fn stream(size: usize) -> Session {
 pub fn sessions() -> Vec<Session> {
     let four = run("PATCH run, 65,536 entries, 4 bits", ROOM, INFINITY);
     let eight = run("PATCH run, 65,536 entries, 8 bits", ROOM, 100);
-    let messages = [mixed(), passing(), repeat(), passed_back(), pings(), resets(), four, eight];
+    let messages = [mixed(), passing(), repeat(), passed_back(), one_too_many(), pings(), resets(), four, eight];
     let mixed_whole = whole("feed of whole messages, mixed list", mixed());
     let passing_whole = whole("feed of a whole query, passed to five", passing());
     let feeds = [mixed_whole, passing_whole, two_scraps(), stream(1), stream(16), stream(64)];

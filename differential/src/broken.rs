@@ -12,8 +12,8 @@ pub struct Broken<const FAULT: usize>(Reference);
 /// kept, a route byte, a writer's byte, the tally, and a panic; of bytes as they come those used, where the message
 /// stands, what is held and a shut mark; an age that is handed up, and one that is looked up; of names a place, their order after a remove,
 /// a byte that a refused add does not leave, and a table's entry; of a table for a neighbour its Infinity, an entry, and a byte of names that
-/// are only to be read.
-pub const FAULTS: [&str; 21] = [
+/// are only to be read; of hits a count, and the answer to one too many.
+pub const FAULTS: [&str; 23] = [
     "answer",
     "to",
     "output byte 4118",
@@ -35,6 +35,8 @@ pub const FAULTS: [&str; 21] = [
     "infinity",
     "output byte 3",
     "other names byte 4099",
+    "state: remembered query 0 (low, high, asker, hits)",
+    "answer",
 ];
 
 /// A writer whose tables do not stand when they are read.
@@ -67,6 +69,7 @@ impl<const FAULT: usize> Side for Broken<FAULT> {
             (18, Outcome::Made(made)) if made.answer == 3 => made.infinity = 8,
             (19, Outcome::Made(made)) if made.answer == 0 && (2..8).contains(&out[3]) => out[3] += 1,
             (20, Outcome::Made(made)) if made.answer == 2 && call.other_names().is_some() && names.len() > 4_099 => names[4_099] ^= 1,
+            (22, Outcome::Told(told)) if told.answer == 21 => told.answer = 11,
             (BAD_WRITER, Outcome::Written(written)) if written.written > 0 => out[written.written - 1] ^= 1,
             _ => {}
         }
@@ -80,6 +83,9 @@ impl<const FAULT: usize> Side for Broken<FAULT> {
         }
         if FAULT == 11 && station.count > 0 {
             station.lines[1].pending.shut = false;
+        }
+        if FAULT == 21 && station.count > 0 && station.hits[0] == 200 {
+            station.hits[0] = 199;
         }
         station
     }

@@ -23,7 +23,8 @@ const ZERO_LINE: Line = Line {
 };
 
 /// A state that is zero everywhere.
-pub const ZERO: Station = Station { room: 0, lines: [ZERO_LINE; 8], lo: [0; 512], hi: [0; 512], asker: [0; 512], count: 0, next: 0 };
+pub const ZERO: Station =
+    Station { room: 0, lines: [ZERO_LINE; 8], lo: [0; 512], hi: [0; 512], asker: [0; 512], hits: [0; 512], count: 0, next: 0 };
 
 /// The held area of a line: an area, and bytes that stand at its front.
 #[derive(Clone, Debug, PartialEq, Eq)]
@@ -78,7 +79,7 @@ pub struct Case {
 impl Start {
     /// A line for each thing that is not zero.
     fn text(&self) -> String {
-        let Station { room, lines, lo, hi, asker, count, next } = &*self.station;
+        let Station { room, lines, count, next, .. } = &*self.station;
         let mut text = format!("start route={} room={room} count={count} next={next}\n", self.route.text());
         for (at, line) in lines.iter().enumerate().filter(|(_, line)| **line != ZERO_LINE) {
             let Line { live, pinged, pingtime, pongcount, pongnext, .. } = line;
@@ -101,10 +102,10 @@ impl Start {
         if self.names != Listing::EMPTY {
             let _ = writeln!(text, "names area={}", self.names.text());
         }
-        for place in 0..asker.len() {
-            if (lo[place], hi[place], asker[place]) != (0, 0, 0) {
-                let number = number_of(lo[place], hi[place]).text();
-                let _ = writeln!(text, "query {place} number={number} asker={}", asker[place]);
+        for place in 0..512 {
+            let query @ (lo, hi, asker, hits) = query_at(&self.station, place);
+            if query != NO_QUERY {
+                let _ = writeln!(text, "query {place} number={} asker={asker} hits={hits}", number_of(lo, hi).text());
             }
         }
         for (answer, count) in self.tally.counts.iter().enumerate().filter(|(_, count)| **count != 0) {
@@ -157,12 +158,13 @@ impl Start {
                 *self.held.get_mut(usize::read(at)?)? = Held { area: Field::read(area)?, front: Field::read(front)? };
             }
             ["names", area] => self.names = Field::read(area)?,
-            ["query", place, number, asker] => {
+            ["query", place, number, asker, hits] => {
                 let place = usize::read(place).filter(|&place| place < station.asker.len())?;
                 let number = u128::from_le_bytes(Field::read(number)?);
                 station.lo[place] = number as u64;
                 station.hi[place] = (number >> 64) as u64;
                 station.asker[place] = Field::read(asker)?;
+                station.hits[place] = Field::read(hits)?;
             }
             ["tally", answer, count] => *self.tally.counts.get_mut(usize::read(answer)?)? = Field::read(count)?,
             _ => return None,
@@ -192,6 +194,7 @@ impl Start {
             part(self, |start| &mut start.station.lines[at], simplify_line, still);
         }
         part(self, |start| &mut *start.station, simplify_memory, still);
+        part(self, |start| &mut start.station.hits, |hits, still| plain_array(hits, &0, still), still);
         part(self, |start| &mut start.station.count, |count, still| count.simplify(still), still);
         part(self, |start| &mut start.station.next, |next, still| next.simplify(still), still);
         part(self, |start| &mut start.station.room, |room, still| room.simplify(still), still);
@@ -230,25 +233,30 @@ fn simplify_line(line: &mut Line, still: &mut dyn FnMut(&Line) -> bool) {
     attempt(line, plain, still);
 }
 
-/// A remembered query: the two halves of its number, and its asker.
-type Query = (u64, u64, u8);
+/// A remembered query: the two halves of its number, its asker, and its count of hits.
+type Query = (u64, u64, u8, u8);
+
+const NO_QUERY: Query = (0, 0, 0, 0);
+
+fn query_at(station: &Station, place: usize) -> Query {
+    (station.lo[place], station.hi[place], station.asker[place], station.hits[place])
+}
 
 /// The station with these queries at the first places of its memory, and zero behind them.
 fn with_queries(station: &Station, queries: &[Query]) -> Station {
-    let mut other = Station { lo: [0; 512], hi: [0; 512], asker: [0; 512], ..station.clone() };
+    let mut other = Station { lo: [0; 512], hi: [0; 512], asker: [0; 512], hits: [0; 512], ..station.clone() };
     for (place, query) in queries.iter().enumerate() {
-        (other.lo[place], other.hi[place], other.asker[place]) = *query;
+        (other.lo[place], other.hi[place], other.asker[place], other.hits[place]) = *query;
     }
     other
 }
 
 /// Drops queries from the ring and turns it to the memory's first places; then sets places to zero.
 fn simplify_memory(station: &mut Station, still: &mut dyn FnMut(&Station) -> bool) {
-    let query = |station: &Station, place: usize| (station.lo[place], station.hi[place], station.asker[place]);
     if station.count <= 512 && station.next < 512 {
         let base = station.clone();
         let oldest_first = (0..base.count).map(|age| (base.next + 512 - base.count + age) % 512);
-        let mut kept: Vec<Query> = oldest_first.map(|place| query(&base, place)).collect();
+        let mut kept: Vec<Query> = oldest_first.map(|place| query_at(&base, place)).collect();
         let turned = |kept: &Vec<Query>| Station { count: kept.len(), next: kept.len() % 512, ..with_queries(&base, kept) };
         let plain = turned(&kept);
         if plain == *station || still(&plain) {
@@ -257,8 +265,8 @@ fn simplify_memory(station: &mut Station, still: &mut dyn FnMut(&Station) -> boo
         }
     }
     let base = station.clone();
-    let mut queries: Vec<Query> = (0..512).map(|place| query(&base, place)).collect();
-    plain_runs(&mut queries, &(0, 0, 0), &mut |queries| still(&with_queries(&base, queries)));
+    let mut queries: Vec<Query> = (0..512).map(|place| query_at(&base, place)).collect();
+    plain_runs(&mut queries, &NO_QUERY, &mut |queries| still(&with_queries(&base, queries)));
     *station = with_queries(&base, &queries);
 }
 

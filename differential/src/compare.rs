@@ -67,9 +67,9 @@ pub fn stations(first: &Station, second: &Station) -> Option<Difference> {
         first_field!(format!("state: line {line} pending "), one.pending, two.pending; count shut);
     }
     (0..first.asker.len()).find_map(|place| {
-        let query = |of: &Station| (of.lo[place], of.hi[place], of.asker[place]);
+        let query = |of: &Station| (of.lo[place], of.hi[place], of.asker[place], of.hits[place]);
         let (one, two) = (query(first), query(second));
-        (one != two).then(|| differing(format!("state: remembered query {place} (low, high, asker)"), one, two))
+        (one != two).then(|| differing(format!("state: remembered query {place} (low, high, asker, hits)"), one, two))
     })
 }
 
@@ -90,7 +90,7 @@ mod tests {
     fn every_part_of_a_station_is_compared() {
         let station = Maker::of_case(1, 1).start().station;
         assert_eq!(stations(&station, &station.clone()), None);
-        let changes: [Change; 11] = [
+        let changes: [Change; 12] = [
             ("state: room", |station| station.room ^= 1),
             ("state: count", |station| station.count ^= 1),
             ("state: line 3 pinged", |station| station.lines[3].pinged ^= true),
@@ -99,9 +99,10 @@ mod tests {
             ("state: line 2 table at", |station| station.lines[2].table.at ^= 1),
             ("state: line 6 pending count", |station| station.lines[6].pending.count ^= 1),
             ("state: line 1 pending shut", |station| station.lines[1].pending.shut ^= true),
-            ("state: remembered query 511 (low, high, asker)", |station| station.hi[511] ^= 1),
-            ("state: remembered query 0 (low, high, asker)", |station| station.lo[0] ^= 1),
-            ("state: remembered query 5 (low, high, asker)", |station| station.asker[5] ^= 1),
+            ("state: remembered query 511 (low, high, asker, hits)", |station| station.hi[511] ^= 1),
+            ("state: remembered query 0 (low, high, asker, hits)", |station| station.lo[0] ^= 1),
+            ("state: remembered query 5 (low, high, asker, hits)", |station| station.asker[5] ^= 1),
+            ("state: remembered query 300 (low, high, asker, hits)", |station| station.hits[300] ^= 1),
         ];
         for (what, change) in changes {
             let mut other = station.clone();

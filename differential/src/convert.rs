@@ -65,6 +65,7 @@ pub fn station_to_raw(state: &State) -> raw::Station {
         lo: array::from_fn(|place| halves(&state.numbers[place]).0),
         hi: array::from_fn(|place| halves(&state.numbers[place]).1),
         asker: state.askers,
+        hits: state.hits,
         count: usize::from(state.count),
         next: usize::from(state.next),
     }
@@ -78,7 +79,7 @@ pub fn station_from_raw(station: &raw::Station) -> Option<State> {
     }
     let numbers: [[u8; 16]; MEMORY] = array::from_fn(|place| number_of(station.lo[place], station.hi[place]));
     let (count, next) = (station.count.try_into().ok()?, station.next.try_into().ok()?);
-    Some(State { room: station.room, count, next, numbers, askers: station.asker, lines })
+    Some(State { room: station.room, count, next, numbers, askers: station.asker, hits: station.hits, lines })
 }
 
 pub fn own_from_raw(own: &raw::Own) -> OwnPong {

@@ -85,5 +85,7 @@ mod tests {
         found_and_small::<18>();
         found_and_small::<19>();
         found_and_small::<20>();
+        found_and_small::<21>();
+        found_and_small::<22>();
     }
 }

@@ -16,8 +16,9 @@ use crate::raw::{
 /// The pointer points to a whole station.
 #[inline]
 pub unsafe fn lunozhar_fresh(station: *mut Station, route_len: usize) -> u8 {
-    let Station { room, lines, lo, hi, asker, count, next } = &mut *station;
-    let made = raw::lunozhar_fresh_lent(lo.as_mut_ptr(), hi.as_mut_ptr(), asker.as_mut_ptr(), count, next, route_len);
+    let Station { room, lines, lo, hi, asker, hits, count, next } = &mut *station;
+    let (lo, hi, asker, hits) = (lo.as_mut_ptr(), hi.as_mut_ptr(), asker.as_mut_ptr(), hits.as_mut_ptr());
+    let made = raw::lunozhar_fresh_lent(lo, hi, asker, hits, count, next, route_len);
     *room = made.room;
     *lines = made.lines;
     made.answer
@@ -30,9 +31,9 @@ pub unsafe fn lunozhar_fresh(station: *mut Station, route_len: usize) -> u8 {
 /// The pointer points to a whole station.
 #[inline]
 pub unsafe fn lunozhar_open(station: *mut Station, line: u32) -> u8 {
-    let Station { room, lines, lo, hi, asker, count, next } = &mut *station;
-    let (lo, hi, asker, at) = (lo.as_ptr(), hi.as_ptr(), asker.as_ptr(), *lines);
-    let change = raw::lunozhar_open_lent(lo, hi, asker, *count, *next, *room, Lines { at }, line);
+    let Station { room, lines, lo, hi, asker, hits, count, next } = &mut *station;
+    let (lo, hi, asker, hits, at) = (lo.as_ptr(), hi.as_ptr(), asker.as_ptr(), hits.as_ptr(), *lines);
+    let change = raw::lunozhar_open_lent(lo, hi, asker, hits, *count, *next, *room, Lines { at }, line);
     lines[line as usize % LINES] = change.line;
     change.answer
 }
@@ -44,9 +45,9 @@ pub unsafe fn lunozhar_open(station: *mut Station, line: u32) -> u8 {
 /// The pointer points to a whole station.
 #[inline]
 pub unsafe fn lunozhar_close(station: *mut Station, line: u32) -> u8 {
-    let Station { room, lines, lo, hi, asker, count, next } = &mut *station;
-    let (lo, hi, asker, at) = (lo.as_mut_ptr(), hi.as_mut_ptr(), asker.as_mut_ptr(), *lines);
-    let change = raw::lunozhar_close_lent(lo, hi, asker, *count, *next, *room, Lines { at }, line);
+    let Station { room, lines, lo, hi, asker, hits, count, next } = &mut *station;
+    let (lo, hi, asker, hits, at) = (lo.as_mut_ptr(), hi.as_mut_ptr(), asker.as_mut_ptr(), hits.as_mut_ptr(), *lines);
+    let change = raw::lunozhar_close_lent(lo, hi, asker, hits, *count, *next, *room, Lines { at }, line);
     lines[line as usize % LINES] = change.line;
     change.answer
 }
@@ -71,12 +72,13 @@ pub unsafe fn lunozhar_message(
     route: *mut u8,
     route_len: usize,
 ) -> Told {
-    let Station { room, lines, lo, hi, asker, count, next } = &mut *station;
-    let (lo, hi, asker, at) = (lo.as_mut_ptr(), hi.as_mut_ptr(), asker.as_mut_ptr(), *lines);
+    let Station { room, lines, lo, hi, asker, hits, count, next } = &mut *station;
+    let (lo, hi, asker, hits, at) = (lo.as_mut_ptr(), hi.as_mut_ptr(), asker.as_mut_ptr(), hits.as_mut_ptr(), *lines);
     let arrival = raw::lunozhar_message_lent(
         lo,
         hi,
         asker,
+        hits,
         count,
         next,
         *room,
@@ -117,12 +119,13 @@ pub unsafe fn lunozhar_feed(
     route: *mut u8,
     route_len: usize,
 ) -> Fed {
-    let Station { room, lines, lo, hi, asker, count, next } = &mut *station;
-    let (lo, hi, asker, at) = (lo.as_mut_ptr(), hi.as_mut_ptr(), asker.as_mut_ptr(), *lines);
+    let Station { room, lines, lo, hi, asker, hits, count, next } = &mut *station;
+    let (lo, hi, asker, hits, at) = (lo.as_mut_ptr(), hi.as_mut_ptr(), asker.as_mut_ptr(), hits.as_mut_ptr(), *lines);
     let feeding = raw::lunozhar_feed_lent(
         lo,
         hi,
         asker,
+        hits,
         count,
         next,
         *room,
@@ -161,9 +164,9 @@ pub unsafe fn lunozhar_ask(
     route: *const u8,
     route_len: usize,
 ) -> Told {
-    let Station { room, lines, lo, hi, asker, count, next } = &mut *station;
-    let (lo, hi, asker, at) = (lo.as_mut_ptr(), hi.as_mut_ptr(), asker.as_mut_ptr(), *lines);
-    raw::lunozhar_ask_lent(lo, hi, asker, count, next, *room, Lines { at }, number, text, text_len, out, out_len, route, route_len)
+    let Station { room, lines, lo, hi, asker, hits, count, next } = &mut *station;
+    let (lo, hi, asker, hits, at) = (lo.as_mut_ptr(), hi.as_mut_ptr(), asker.as_mut_ptr(), hits.as_mut_ptr(), *lines);
+    raw::lunozhar_ask_lent(lo, hi, asker, hits, count, next, *room, Lines { at }, number, text, text_len, out, out_len, route, route_len)
 }
 
 /// Looks a query's number up.
@@ -173,8 +176,9 @@ pub unsafe fn lunozhar_ask(
 /// The pointer points to a whole station.
 #[inline]
 pub unsafe fn lunozhar_look_up(station: *const Station, number: Number) -> Finding {
-    let Station { room, lines, lo, hi, asker, count, next } = &*station;
-    raw::lunozhar_look_up_lent(lo.as_ptr(), hi.as_ptr(), asker.as_ptr(), *count, *next, *room, Lines { at: *lines }, number)
+    let Station { room, lines, lo, hi, asker, hits, count, next } = &*station;
+    let (lo, hi, asker, hits, at) = (lo.as_ptr(), hi.as_ptr(), asker.as_ptr(), hits.as_ptr(), *lines);
+    raw::lunozhar_look_up_lent(lo, hi, asker, hits, *count, *next, *room, Lines { at }, number)
 }
 
 /// Makes the table to send the neighbour of a line.
@@ -196,12 +200,13 @@ pub unsafe fn lunozhar_table_for(
     route: *const u8,
     route_len: usize,
 ) -> Made {
-    let Station { room, lines, lo, hi, asker, count, next } = &*station;
-    let (lo, hi, asker, at) = (lo.as_ptr(), hi.as_ptr(), asker.as_ptr(), *lines);
+    let Station { room, lines, lo, hi, asker, hits, count, next } = &*station;
+    let (lo, hi, asker, hits, at) = (lo.as_ptr(), hi.as_ptr(), asker.as_ptr(), hits.as_ptr(), *lines);
     raw::lunozhar_table_for_lent(
         lo,
         hi,
         asker,
+        hits,
         *count,
         *next,
         *room,
@@ -224,8 +229,9 @@ pub unsafe fn lunozhar_table_for(
 /// The pointer points to a whole station.
 #[inline]
 pub unsafe fn lunozhar_in_order(station: *const Station) -> bool {
-    let Station { room, lines, lo, hi, asker, count, next } = &*station;
-    raw::lunozhar_in_order_lent(lo.as_ptr(), hi.as_ptr(), asker.as_ptr(), *count, *next, *room, Lines { at: *lines })
+    let Station { room, lines, lo, hi, asker, hits, count, next } = &*station;
+    let (lo, hi, asker, hits, at) = (lo.as_ptr(), hi.as_ptr(), asker.as_ptr(), hits.as_ptr(), *lines);
+    raw::lunozhar_in_order_lent(lo, hi, asker, hits, *count, *next, *room, Lines { at })
 }
 
 pub(crate) fn fresh(station: &mut Station, route_len: usize) -> u8 {

@@ -27,12 +27,14 @@ mod header;
 pub const LINES: usize = 8;
 /// Queries that a station remembers.
 pub const MEMORY: usize = 512;
+/// Hits of one query that are passed back or delivered.
+pub const HITS: u8 = 200;
 /// Pongs that a station keeps of each line.
 pub const PONGS: usize = 10;
 /// Hosts of an X-Try field that are read, and that can be written.
 pub const PAIRS: usize = 32;
-/// Answer numbers: 0 for done, and 20 refusals.
-pub const ANSWERS: usize = 21;
+/// Answer numbers: 0 for done, and 21 refusals.
+pub const ANSWERS: usize = 22;
 /// The shortest output area of a message or an own query.
 pub const OUTPUT: usize = 4_119;
 /// The shortest held area of a line.
@@ -156,6 +158,8 @@ pub struct Station {
     pub hi: [u64; MEMORY],
     /// Remembered queries: a line, [`ASKER_HERE`] or [`ASKER_GONE`].
     pub asker: [u8; MEMORY],
+    /// Remembered queries: how many hits were passed back or delivered, at most [`HITS`].
+    pub hits: [u8; MEMORY],
     /// How many queries are kept: the places just before `next`, going round.
     pub count: usize,
     /// Where the next query goes.
@@ -165,8 +169,8 @@ pub struct Station {
 impl Default for Station {
     /// All zero, which is a fresh state with room for no table.
     fn default() -> Station {
-        let (lo, hi, asker) = ([0; MEMORY], [0; MEMORY], [0; MEMORY]);
-        Station { room: 0, lines: [Line::default(); LINES], lo, hi, asker, count: 0, next: 0 }
+        let (lo, hi, asker, hits) = ([0; MEMORY], [0; MEMORY], [0; MEMORY], [0; MEMORY]);
+        Station { room: 0, lines: [Line::default(); LINES], lo, hi, asker, hits, count: 0, next: 0 }
     }
 }
 
@@ -400,6 +404,7 @@ extern "C" {
         lo: *mut u64,
         hi: *mut u64,
         asker: *mut u8,
+        hits: *mut u8,
         count: *mut usize,
         next: *mut usize,
         route_len: usize,
@@ -409,6 +414,7 @@ extern "C" {
         lo: *const u64,
         hi: *const u64,
         asker: *const u8,
+        hits: *const u8,
         count: usize,
         next: usize,
         room: usize,
@@ -420,6 +426,7 @@ extern "C" {
         lo: *mut u64,
         hi: *mut u64,
         asker: *mut u8,
+        hits: *mut u8,
         count: usize,
         next: usize,
         room: usize,
@@ -431,6 +438,7 @@ extern "C" {
         lo: *mut u64,
         hi: *mut u64,
         asker: *mut u8,
+        hits: *mut u8,
         count: *mut usize,
         next: *mut usize,
         room: usize,
@@ -450,6 +458,7 @@ extern "C" {
         lo: *mut u64,
         hi: *mut u64,
         asker: *mut u8,
+        hits: *mut u8,
         count: *mut usize,
         next: *mut usize,
         room: usize,
@@ -471,6 +480,7 @@ extern "C" {
         lo: *mut u64,
         hi: *mut u64,
         asker: *mut u8,
+        hits: *mut u8,
         count: *mut usize,
         next: *mut usize,
         room: usize,
@@ -488,6 +498,7 @@ extern "C" {
         lo: *const u64,
         hi: *const u64,
         asker: *const u8,
+        hits: *const u8,
         count: usize,
         next: usize,
         room: usize,
@@ -499,6 +510,7 @@ extern "C" {
         lo: *const u64,
         hi: *const u64,
         asker: *const u8,
+        hits: *const u8,
         count: usize,
         next: usize,
         room: usize,
@@ -517,6 +529,7 @@ extern "C" {
         lo: *const u64,
         hi: *const u64,
         asker: *const u8,
+        hits: *const u8,
         count: usize,
         next: usize,
         room: usize,
@@ -584,7 +597,7 @@ layout! {
     Pending 4 { count 0, shut 2 }
     Line 248 { live 0, pinged 1, pingtime 4, pongcount 8, pongnext 16, pongs 24, table 224, pending 240 }
     Lines 1984 { at 0 }
-    Station 10712 { room 0, lines 8, lo 1992, hi 6088, asker 10184, count 10696, next 10704 }
+    Station 11224 { room 0, lines 8, lo 1992, hi 6088, asker 10184, hits 10696, count 11208, next 11216 }
     Own 20 { port 0, address 2, files 8, kilobytes 12, calls 16 }
     Number 16 { bytes 0 }
     Age 16 { known 0, after 8 }
@@ -595,7 +608,7 @@ layout! {
     Feeding 328 { line 0, fed 248 }
     LineChange 256 { answer 0, line 8 }
     Beginning 2000 { answer 0, room 8, lines 16 }
-    Tally 84 { counts 0 }
+    Tally 88 { counts 0 }
     Written 16 { answer 0, written 8 }
     NameFound 16 { answer 0, place 8 }
     Made 2 { answer 0, infinity 1 }

@@ -4,7 +4,7 @@ use crate::raw::{Age, Told};
 use std::error::Error;
 use std::fmt;
 
-/// Why a call was refused: one variant for each of the core's answer numbers 1 to 20.
+/// Why a call was refused: one variant for each of the core's answer numbers 1 to 21.
 ///
 /// A refusal sends nothing and changes nothing, but that a route update refused by [`BadUpdate`](Refusal::BadUpdate),
 /// [`OutOfTurn`](Refusal::OutOfTurn) or [`EntryOutOfRange`](Refusal::EntryOutOfRange) marks its line's table as broken
@@ -56,6 +56,24 @@ pub enum Refusal {
     Shut = 19,
     /// 20: the list has 512 names, or its text has no room for the new one.
     ListFull = 20,
+    /// 21: a hit for a query of which 200 hits were passed back or delivered since it was remembered.
+    ///
+    /// ```
+    /// use lunozhar::{Own, Refusal, Station};
+    ///
+    /// let mut station = Station::new(1024)?;
+    /// station.open(0)?;
+    /// station.ask([7; 16], b"lake")?;
+    /// let own = Own::new("192.0.2.1:6346".parse().unwrap());
+    /// let hit = [&[7; 16][..], &[0x81, 3, 0, 27, 0, 0, 0], &[0; 27]].concat();
+    /// for _ in 0..200 {
+    ///     station.message(0, 1_000, &own, &hit)?;
+    /// }
+    /// let refused = station.message(0, 1_000, &own, &hit).unwrap_err();
+    /// assert_eq!((refused.refusal, refused.used, refused.after), (Refusal::AnsweredEnough, 50, Some(0)));
+    /// # Ok::<(), Refusal>(())
+    /// ```
+    AnsweredEnough = 21,
 }
 
 impl Refusal {
@@ -63,9 +81,9 @@ impl Refusal {
     ///
     /// ```
     /// use lunozhar::Refusal;
-    /// assert!(Refusal::ALL.iter().map(|refusal| refusal.number()).eq(1..=20));
+    /// assert!(Refusal::ALL.iter().map(|refusal| refusal.number()).eq(1..=21));
     /// ```
-    pub const ALL: [Refusal; 20] = [
+    pub const ALL: [Refusal; 21] = [
         Refusal::NotInOrder,
         Refusal::BadArea,
         Refusal::BadLine,
@@ -86,9 +104,10 @@ impl Refusal {
         Refusal::NoGroupEnd,
         Refusal::Shut,
         Refusal::ListFull,
+        Refusal::AnsweredEnough,
     ];
 
-    /// The answer number, 1 to 20.
+    /// The answer number, 1 to 21.
     ///
     /// ```
     /// assert_eq!(lunozhar::Refusal::AskerClosed.number(), 11);
@@ -135,6 +154,7 @@ impl Refusal {
             Refusal::NoGroupEnd => "no handshake group ends in 4,096 bytes",
             Refusal::Shut => "the line is shut until it is closed and opened",
             Refusal::ListFull => "the list of names is full, or has no room for the name",
+            Refusal::AnsweredEnough => "the query has had 200 hits",
         }
     }
 }
@@ -165,8 +185,8 @@ pub struct Refused {
     /// [`Station::feed`](crate::Station::feed) it counts the bytes of that call, and for 5 has those of the header.
     pub used: usize,
     /// How many queries were remembered after the one that a hit answers or that a query repeats, 0 for the newest;
-    /// `None` where no number was looked up, or none was found. It is there for 9, 11 and 12, and for the 8 of a hit
-    /// with TTL 1; one with TTL 0 is refused before its number is looked up.
+    /// `None` where no number was looked up, or none was found. It is there for 9, 11, 12 and 21, and for the 8 of a
+    /// hit with TTL 1; one with TTL 0 is refused before its number is looked up.
     pub after: Option<usize>,
 }
 
@@ -222,7 +242,7 @@ impl From<RefusedBytes> for Refusal {
 pub(crate) fn checked(answer: u8) -> Result<(), Refusal> {
     match answer {
         0 => Ok(()),
-        number => Err(Refusal::from_number(number).expect("the core's answers are 0 to 20")),
+        number => Err(Refusal::from_number(number).expect("the core's answers are 0 to 21")),
     }
 }
 

@@ -125,7 +125,8 @@ fn local<'m>(told: &Told, message: &'m [u8]) -> Local<'m> {
     }
 }
 
-/// A station with eight lines, 0 to 7, to its neighbours. It remembers the last 512 queries, and keeps ten pongs and a route table of each line.
+/// A station with eight lines, 0 to 7, to its neighbours. It remembers the last 512 queries, with how many hits each
+/// has had, and keeps ten pongs and a route table of each line.
 ///
 /// It owns what the core works on: its state of about 11 KB, the route area with the entries of the tables, an output
 /// area of 4 KB, and for each line a held area of 4 KB, in which the bytes of a message wait for its last.
@@ -258,10 +259,14 @@ impl Station {
     /// [`feed`](Station::feed), whose held bytes and shut lines don't count here: they are neither looked at nor
     /// changed.
     ///
+    /// Of one query 200 hits are passed back or delivered; those behind them are refused with
+    /// [`Refusal::AnsweredEnough`].
+    ///
     /// # Errors
     ///
-    /// A [`Refused`] with any of the numbers 3 to 16. [`Refusal::NotWhole`] asks for more bytes; after [`Refusal::TooLong`] the line is of no more
-    /// use; after any other that has `used` bytes the next message begins behind them.
+    /// A [`Refused`] with any of the numbers 3 to 16, or 21. [`Refusal::NotWhole`] asks for more bytes; after
+    /// [`Refusal::TooLong`] the line is of no more use; after any other that has `used` bytes the next message begins
+    /// behind them.
     ///
     /// ```
     /// use lunozhar::{Local, Own, Refusal, Station};
@@ -289,7 +294,7 @@ impl Station {
     }
 
     /// Asks a query of this station's own, under a number that no query had yet, such as 16 random bytes. The message is for each open line whose
-    /// table does not withhold it; its hits come back as [`Local::Hit`] of later messages.
+    /// table does not withhold it; its hits, 200 at most, come back as [`Local::Hit`] of later messages.
     ///
     /// # Errors
     ///

@@ -37,10 +37,15 @@ impl Maker {
         let ping = kind.map_or(false, |kind| kind[0] == PING);
         let clock = if ping && !self.random.one_in(3) { self.ping_clock(station, at) } else { self.tick() };
         let probe = kind.map_or(false, |kind| kind[0] == PING && kind[1] == 1 && kind[2] <= 1);
+        let hit = kind.map_or(false, |kind| kind[0] == HIT);
         let (own, out, route) = (self.own(), self.output(), self.lent_route(route));
         let mut made = Call::Message { line, clock, own, bytes, out, route };
         if probe && self.random.one_in(2) {
             self.next = Some(after_probe(&made));
+        }
+        // The same hit again, which may be the one that is too many.
+        if hit && self.random.one_in(4) {
+            self.next = Some(made.clone());
         }
         if self.random.one_in(80) {
             self.refuse_twice(&mut made);

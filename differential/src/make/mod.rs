@@ -120,7 +120,7 @@ impl Maker {
 
     fn some_answer(&mut self) -> u8 {
         let any = self.random.byte();
-        self.random.pick(&[0, 1, 9, 17, 18, 19, 20, 21, 255, any])
+        self.random.pick(&[0, 1, 9, 17, 18, 19, 20, 21, 22, 255, any])
     }
 
     /// A line, mostly one that is open or not as asked for.
@@ -192,7 +192,7 @@ mod tests {
     use crate::run::{Counts, Runner};
     use crate::second::Reference;
     use crate::side::Outcome;
-    use lunozhar::raw::{Made, Table, ANSWERS, HELD};
+    use lunozhar::raw::{Made, Table, ANSWERS, HELD, HITS};
     use std::array;
 
     /// Runs cases and hands each call to `each`, with the state it meets and the call before it.
@@ -300,7 +300,7 @@ mod tests {
         let kinds = counts.kinds.iter().filter(|(kind, _)| kind.starts_with("feed"));
         let scraps: Vec<_> = kinds.map(|(_, count)| count).collect();
         let met = |answer: usize| scraps.iter().map(|count| count.answers[answer]).sum::<u64>();
-        for answer in (0..17).filter(|&answer| answer != 4).chain([19]) {
+        for answer in (0..17).filter(|&answer| answer != 4).chain([19, 21]) {
             assert!(met(answer) > 20, "answer {answer}: {}", met(answer));
         }
         assert_eq!((met(4), met(17), met(18)), (0, 0, 0));
@@ -414,8 +414,8 @@ mod tests {
             let kinds = counts.kinds.iter().filter(|(kind, _)| kind.starts_with(name));
             kinds.fold([0; ANSWERS], |sum, (_, count)| array::from_fn(|answer| sum[answer] + count.ages[answer]))
         };
-        let hit = [0, 8, 11, 12];
-        for (name, answers) in [("message: hit", &hit[..]), ("message: query", &[9]), ("ask", &[9]), ("feed", &[0, 8, 9, 11, 12])] {
+        let hit = [0, 8, 11, 12, 21];
+        for (name, answers) in [("message: hit", &hit[..]), ("message: query", &[9]), ("ask", &[9]), ("feed", &[0, 8, 9, 11, 12, 21])] {
             for (answer, times) in met(name).into_iter().enumerate() {
                 assert!(if answers.contains(&answer) { times > 10 } else { times == 0 }, "{name} {answer}: {times}");
             }
@@ -425,6 +425,56 @@ mod tests {
         assert!(hits.ages[8] < hits.answers[8]);
         let look_ups = &counts.kinds["look-up"];
         assert!([0, 1, 10].iter().all(|&answer| look_ups.answers[answer] > 50), "{look_ups:?}");
+    }
+
+    /// What is seldom met of the counts of hits, by name.
+    fn rare_hits(station: &Station, before: Option<&Call>, call: &Call) -> Vec<&'static str> {
+        if station.count > 512 || station.next > 511 {
+            return Vec::new();
+        }
+        let over = |age: &usize| station.hits[start::place_of(station, *age)] > HITS;
+        let mut things = vec![
+            ((0..station.count).any(|age| over(&age)), "a kept count over 200"),
+            (station.count > 1 && over(&(station.count - 1)), "the oldest's count over 200"),
+            ((station.count..512).any(|age| over(&age)), "a count over 200 that is not kept"),
+        ];
+        let (kind, bytes) = match call {
+            Call::Message { bytes, .. } if bytes.len() > 22 => (bytes[16], &bytes[..]),
+            Call::Ask { number, .. } => (0x80, &number[..]),
+            _ => (0, &[][..]),
+        };
+        let known = (0..station.count).find(|&age| bytes.len() > 15 && start::number_at(station, age) == bytes[..16]);
+        let counted = station.hits[station.next] > 0;
+        things.push((kind == 0x80 && known.is_none() && counted, "a query at a place that has a count"));
+        if let (0x81, Some(age), true) = (kind, known, bytes.len() > 49) {
+            let place = start::place_of(station, age);
+            let (asker, hits, ttl, hops) = (station.asker[place], station.hits[place], bytes[17], bytes[18]);
+            let (line, sent) = (asker < 8, ttl > 1 && hops < 255);
+            things.extend([
+                (hits == HITS - 1 && line && sent, "the 200th hit of a line's query"),
+                (hits == HITS - 1 && asker == 8 && ttl > 0, "the 200th hit of an own query"),
+                (hits == HITS && line && sent, "the 201st hit of a line's query"),
+                (hits == HITS && asker == 8 && ttl > 0, "the 201st hit of an own query"),
+                (hits == HITS && line && ttl == 1, "21 and 8 at once"),
+                (hits == HITS && line && ttl > 1 && hops == 255, "21 and 12 at once"),
+                (hits == HITS && asker == 9 && ttl > 0, "21 and 11 at once"),
+                (hits == HITS && ttl == 0, "21 and 8 by TTL 0 at once"),
+                (hits == HITS && line && sent && before == Some(call), "the same hit after the 200th, or after 21"),
+                (hits == HITS && place > station.next, "the 201st hit in a ring that is turned"),
+            ]);
+        }
+        things.into_iter().filter_map(|(is, what)| is.then_some(what)).collect()
+    }
+
+    /// Counts of hits are met where they tell: at 199 and 200, with each reason beside 21, kept and not.
+    #[test]
+    fn counts_of_hits_are_met() {
+        let mut times = std::collections::BTreeMap::new();
+        counted(4_000, |station, before, call| {
+            rare_hits(station, before, call).into_iter().for_each(|what| *times.entry(what).or_insert(0) += 1);
+        });
+        assert_eq!(times.len(), 14, "{times:?}");
+        assert!(times.values().all(|&times| times >= 10), "{times:?}");
     }
 
     /// What is there when a table is made for a line.

@@ -6,7 +6,7 @@ use crate::case::{Held, Start, ZERO};
 use crate::convert::number_of;
 use crate::field::Area;
 use crate::random::Random;
-use lunozhar::raw::{Line, Pending, Pong, Station, Table, Tally, ANSWERS, HELD};
+use lunozhar::raw::{Line, Pending, Pong, Station, Table, Tally, ANSWERS, HELD, HITS};
 use std::array;
 
 /// The lengths that a table may have.
@@ -192,8 +192,14 @@ pub fn number_at(station: &Station, age: usize) -> [u8; 16] {
     number_of(station.lo[place], station.hi[place])
 }
 
-/// The ring of remembered queries, turned anywhere. Kept places have numbers of their own, some near to another's; the others have copies of
-/// these or anything.
+/// A count of hits: mostly a few, or around the most there may be.
+fn some_hits(random: &mut Random) -> u8 {
+    let any = random.byte();
+    random.pick(&[0, 0, 1, 2, 3, HITS - 2, HITS - 1, HITS - 1, HITS, HITS, HITS + 1, any])
+}
+
+/// The ring of remembered queries, turned anywhere. Kept places have numbers of their own, some near to another's, and
+/// counts that are in order; the others have copies of these numbers or anything.
 fn memory(random: &mut Random, station: &mut Station) {
     let some = random.below(513);
     station.count = random.pick(&[0, 1, 2, 5, 40, some, 511, 512]);
@@ -217,11 +223,13 @@ fn memory(random: &mut Random, station: &mut Station) {
                 _ if open.is_empty() => 8,
                 _ => random.pick(&open),
             };
+            station.hits[place] = some_hits(random).min(HITS);
         } else {
             if station.count > 0 && random.one_in(4) {
                 made = number_at(station, random.below(station.count));
             }
             station.asker[place] = random.byte();
+            station.hits[place] = some_hits(random);
         }
         put_number(station, place, made);
     }
@@ -232,7 +240,7 @@ pub fn damage(random: &mut Random, station: &mut Station) {
     let age = random.below(station.count.clamp(1, 512));
     let place = place_of(station, age);
     let byte = random.byte();
-    match random.below(12) {
+    match random.below(14) {
         0 => station.count = random.pick(&[512, 513, 600, 65_535]),
         1 => station.next = random.pick(&[511, 512, 1_000, 65_535]),
         2 | 3 => {
@@ -245,7 +253,11 @@ pub fn damage(random: &mut Random, station: &mut Station) {
             let line = random.below(8);
             damage_pongs(random, &mut station.lines[line]);
         }
-        8 => {
+        8 | 9 => {
+            let any = random.below(512);
+            station.hits[if random.one_in(4) { any } else { place }] = random.pick(&[HITS, HITS + 1, HITS + 1, 255, byte]);
+        }
+        10 => {
             let line = random.below(8);
             close_badly(random, &mut station.lines[line]);
         }

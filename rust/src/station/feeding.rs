@@ -25,10 +25,11 @@ impl Station {
     ///
     /// # Errors
     ///
-    /// A [`Refused`] with 3, with any of the numbers 5 to 16, or with 19; never [`Refusal::NotWhole`]. With 5 to 16
-    /// what was held of the message is dropped, and behind its `used` bytes begins the next. After [`Refusal::TooLong`]
-    /// there is no telling where the next one begins: the line is shut, and each further call for it is refused with
-    /// [`Refusal::Shut`] until it is closed and opened. [`Refusal::BadLine`] and [`Refusal::Shut`] use no byte.
+    /// A [`Refused`] with 3, with any of the numbers 5 to 16, with 19 or with 21; never [`Refusal::NotWhole`]. With 5 to
+    /// 16 and 21 what was held of the message is dropped, and behind its `used` bytes begins the next. After
+    /// [`Refusal::TooLong`] there is no telling where the next one begins: the line is shut, and each further call for it
+    /// is refused with [`Refusal::Shut`] until it is closed and opened. [`Refusal::BadLine`] and [`Refusal::Shut`] use no
+    /// byte.
     ///
     /// ```
     /// use lunozhar::{Fed, Local, Own, Station};

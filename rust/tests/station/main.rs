@@ -5,6 +5,7 @@ mod any_bytes;
 mod feeding;
 mod handshakes;
 mod held_areas;
+mod hits;
 mod late_hit;
 mod messages;
 mod names;

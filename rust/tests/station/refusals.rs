@@ -4,10 +4,15 @@ use crate::{hit, message, own, query, station, HIT, PING, PONG, QUERY, UPDATE};
 use lunozhar::table::{self, Table};
 use lunozhar::{handshake, raw, Names, Refusal, Refused, Station};
 
-/// A station in the middle of its work: lines 0 and 1 are open, line 0 has asked query 7 and pinged at 0, line 2 has asked query 9 and closed,
-/// query 8 is an own one, and the table of line 1 has four entries of 8.
+/// A station in the middle of its work: lines 0 and 1 are open, line 0 has asked query 10, of which 200 hits have come,
+/// and query 7, and pinged at 0, line 2 has asked query 9 and closed, query 8 is an own one, and the table of line 1 has
+/// four entries of 8.
 fn busy_station() -> Station {
     let mut station = station(&[0, 1, 2]);
+    station.message(0, 0, &own(), &query(10, "sea")).unwrap();
+    for _ in 0..raw::HITS {
+        station.message(1, 0, &own(), &hit(10)).unwrap();
+    }
     station.message(0, 0, &own(), &query(7, "river")).unwrap();
     station.message(0, 0, &own(), &message(1, PING, 2, 0, b"")).unwrap();
     station.message(2, 0, &own(), &query(9, "lake")).unwrap();
@@ -39,6 +44,8 @@ fn refused_messages() -> Vec<(u32, Vec<u8>, Refusal)> {
         (1, hit(6), Refusal::NotFound),
         (1, hit(9), Refusal::AskerClosed),
         (1, message(7, HIT, 5, 255, &[0; 27]), Refusal::HopsFull),
+        (1, hit(10), Refusal::AnsweredEnough),
+        (1, message(10, HIT, 1, 255, &[0; 27]), Refusal::AnsweredEnough),
         (0, message(1, PING, 2, 0, b""), Refusal::PingTooSoon),
         (1, update(&[0, 3, 0, 0, 0, 8]), Refusal::BadUpdate),
         (1, update(&[1, 2, 2, 0, 4, 0x99, 0x99]), Refusal::OutOfTurn),
