@@ -1,5 +1,7 @@
 // Floor 5: hits for a query, written from the station's own names (RULES 25). It takes no state, and only reads query,
 // names and sizes.
+#![tactic(auto)]
+
 pub mod asked;
 pub mod filling;
 

@@ -1,4 +1,6 @@
 // Floor 1: bytes as text: classes of bytes and runs of them, letters in either case, digits, and parts of a text.
+#![tactic(auto)]
+
 ghost use Rattle.std.specs.Prelude.{◌≡◌, ◌≤◌, length, get_or, take, drop};
 ghost use Rattle.ascii.specs.Text.{is_blank, is_name, is_text, is_digit, in_class, leading, lower, compared, same};
 ghost use Rattle.laws.specs.Text.{until_zero};

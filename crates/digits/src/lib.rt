@@ -1,4 +1,6 @@
 // Floor 1: numbers in decimal.
+#![tactic(auto)]
+
 ghost use Rattle.std.specs.Prelude.{◌≡◌, ◌+◌, ◌%◌, ◌≤◌, length};
 ghost use Rattle.digits.specs.Decimal.{decimal, digits_for};
 

@@ -1,4 +1,6 @@
 // The lines behind a group's first: whether they are fields, and the value of a name.
+#![tactic(auto)]
+
 ghost use Rattle.std.specs.Prelude.{◌≡◌, cond, ◌++◌, ◌+◌, ◌≤◌, length};
 ghost use Rattle.laws.specs.Parts.{over};
 ghost use Rattle.ascii.specs.Text.{same_name};

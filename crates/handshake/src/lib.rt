@@ -1,5 +1,7 @@
 // The handshake: reading a group of lines, asking it for a field or for hosts to try, and writing groups. Bytes behind
 // a group are not looked at.
+#![tactic(auto)]
+
 pub mod hosts;
 pub mod write;
 

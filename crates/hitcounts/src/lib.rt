@@ -3,3 +3,4 @@
 // specs/Events.antt the same over lists that also bring bytes as a line does, specs/TwentyOne.antt exactly which
 // messages are answered 21, and specs/Stay.antt which calls leave the counts; proofs/ shows it. The rules are in crate
 // protocol.
+#![tactic(auto)]

@@ -1,5 +1,7 @@
 // The static library for C and Rust: include/lunozhar.h declares these functions. A caller holds the station in place
 // and lends the parts of it that a call writes; what is lent to one call must not overlap.
+#![tactic(auto)]
+
 pub mod answers;
 pub mod calls;
 pub mod handshakes;

@@ -1,6 +1,8 @@
 // Floor 3: which of the station's own names have every keyword of a query's text (RULES 25.7). The text's keywords are
 // kept in order, each once. A quick test tells most names that do not match; the keywords of every other name are cut
 // once and looked up among the kept ones.
+#![tactic(auto)]
+
 ghost use Rattle.std.specs.Prelude.{◌≡◌, ◌&&◌, ◌≤◌, ltb, length};
 ghost use Rattle.namearea.specs.Area.{count_in, name_at};
 ghost use Rattle.matching.specs.Matching.{matches, matching_places};

@@ -1,6 +1,8 @@
 // Floor 4: leaves over the ring of remembered queries. They take slices of any length, whose capacity is the length
 // of `lo`; what crate lunozhar calls for a station's ring of 512 (`survey`, `remember`, `raise`, `fresh`) takes arrays,
 // and `leave` the askers as a slice.
+#![tactic(auto)]
+
 mod askers;
 mod hits;
 pub mod leave;

@@ -1,5 +1,7 @@
 // Floor 2: the station's own names as they stand in a lent area: a count, 512 pairs of offset and length, and from byte
 // 4,100 on the text. What is read here is read of any bytes. Nothing here knows of lines or tables.
+#![tactic(auto)]
+
 ghost use Rattle.std.specs.Prelude.{◌≡◌, not, ◌*◌, eqb, drop};
 ghost use Rattle.laws.specs.Tests.{any};
 ghost use Rattle.namearea.specs.Area.{count_in, span_in, span_at, pair_in, spans_of, end_of, name_of};

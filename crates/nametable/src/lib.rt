@@ -1,4 +1,6 @@
 // Floor 2: the table that tells neighbours which keywords the station's own names have (RULES 22.11).
+#![tactic(auto)]
+
 ghost use Rattle.std.specs.Prelude.{◌≡◌, length, set, replicate};
 ghost use Rattle.namearea.specs.Area.{names_of};
 ghost use Rattle.nametable.specs.Table.{places_of, own_places, with_ones, table_answer, table_out};

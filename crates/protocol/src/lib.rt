@@ -1,6 +1,8 @@
 // Floor 3: what a station's state is made of, and what its calls bring and hand back. The rules of the calls are the
 // definitions of specs/; the history theorems about them are in proofs/. The code that meets them stands in the crates
 // above.
+#![tactic(auto)]
+
 pub mod lines;
 
 use tables::Table;

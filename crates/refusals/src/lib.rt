@@ -1,6 +1,8 @@
 // Floor 4: the ordered refusals of the calls, as number functions: plain values in, a number of RULES 2.1 out, 0
 // where nothing is refused; in `ages` what is told besides of a number that was looked up. Each makes the tests of its
 // rules, which are those of crate protocol; a function beside it has their numbers and their order.
+#![tactic(auto)]
+
 pub mod ages;
 
 ghost use Rattle.std.specs.Prelude.{◌+◌, ◌≡◌, not, [], ◌∷◌};

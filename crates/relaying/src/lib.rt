@@ -1,5 +1,7 @@
 // Floor 6: the call that makes the table to send a neighbour (RULES 23), given whether the station is in order; it sees
 // no ring.
+#![tactic(auto)]
+
 ghost use Rattle.std.specs.Prelude.{◌≡◌, not, ◌&&◌, [], ◌∷◌, eqb, length, get_or};
 ghost use Rattle.laws.specs.Tests.{first_of};
 ghost use Rattle.tables.specs.Tables.{no_table, settled};

@@ -1,5 +1,7 @@
 // The events of a row, one after the other on a fresh station over a route area of 32 bytes, with a held area of 4,119
 // bytes for each of the eight lines. Nothing is printed here.
+#![tactic(auto)]
+
 mod calls;
 mod set;
 

@@ -1,5 +1,7 @@
 // The words of a line as bytes, put into an area as an event file is: how many there are, where each begins and the
 // last one ends, and the bytes.
+#![tactic(auto)]
+
 mod decode;
 pub mod words;
 

@@ -1,4 +1,6 @@
 // Writes the text of a session, whose event file the first argument names, or standard input is where there is none.
+#![tactic(auto)]
+
 use libc::{STDIN_FILENO, STDOUT_FILENO};
 
 // One byte more than the longest file is read, so that a longer one is known.

@@ -1,5 +1,7 @@
 // Floor 3: the entries of a table by other tables, of the same length, shorter or longer ones, which stand in the parts
 // of one area (RULES 23.5 to 23.8). The rules are those of crate tablemerging.
+#![tactic(auto)]
+
 ghost use Rattle.std.specs.Prelude.{◌≡◌, cond, map, ◌+◌, ◌*◌, ◌≤◌, ◌<◌, min, eqb, length};
 ghost use Rattle.tablemerging.specs.Merging.{reaching, nearest, relayed_entries, merged, merged_all};
 ghost use Rattle.tablemerger.specs.Lowering.{lowered, Within};

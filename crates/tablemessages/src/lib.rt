@@ -1,5 +1,6 @@
 // Floor 2: the updates that turn one route table into another, as messages. The messages, the answers of the writer and
 // the round trip are the definitions of specs/, with laws in proofs/; the code that meets them is crate tablewriter.
+#![tactic(auto)]
 
 // What the writer answers, and how many bytes it wrote.
 #[repr(C)]

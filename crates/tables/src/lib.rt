@@ -1,6 +1,7 @@
 // Floor 2: what is kept of one neighbour's route table. The rules of updates and of withholding are the definitions of
 // specs/, with laws in proofs/; the code that meets them is crate tablereader. Nothing here knows of lines or
 // neighbours.
+#![tactic(auto)]
 
 ghost use Rattle.std.specs.Prelude.{◌≡◌};
 ghost use Rattle.tables.specs.Tables.{no_table};

@@ -1,5 +1,7 @@
 // Floor 2: the updates that turn one route table into another, written as messages, by the rules of crate
 // tablemessages.
+#![tactic(auto)]
+
 mod data;
 mod good;
 mod run;

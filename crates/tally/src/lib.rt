@@ -1,4 +1,6 @@
 // The tally: one count for each answer number (RULES 16). It stands beside the state.
+#![tactic(auto)]
+
 ghost use Rattle.std.specs.Prelude.{◌≡◌};
 ghost use Rattle.tally.specs.Counts.{one_more, counted as countedBy};
 

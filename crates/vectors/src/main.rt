@@ -1,4 +1,6 @@
 // The vectors over the proved crates: a row is printed for each line of standard input, as docs/VECTORS.md says.
+#![tactic(auto)]
+
 mod calls;
 mod keyword;
 mod lines;

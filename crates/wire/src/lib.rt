@@ -1,4 +1,6 @@
 // Floor 1: numbers and headers as bytes. Every reader takes a part of a slice that starts at its own byte 0.
+#![tactic(auto)]
+
 ghost use Rattle.std.specs.Prelude.{◌≡◌, [], ◌∷◌, ◌+◌, ◌*◌, ◌≤◌, ◌<◌, length, get_or, take, drop};
 ghost use Rattle.laws.specs.Bytes.{little, little_bytes};
 ghost use Rattle.laws.specs.Parts.{copied};

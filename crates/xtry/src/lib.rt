@@ -1,5 +1,7 @@
 // Hosts to try, as a handshake's X-Try field lists them: address and port pairs, read from a field's value and written
 // as one.
+#![tactic(auto)]
+
 pub mod read;
 pub mod write;
 
