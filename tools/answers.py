@@ -79,6 +79,7 @@ class Fn:
         for p, n in zip(d["places"], d["places_by_name"]):
             self.places[p[0]] = {"parent": p[1], "old": p[2][0], "new": p[2][1], "name": n, "callee": p[3]}
             self.old[norm(p[0])] = p[0]
+        self.params = []
         self.loops = d["loops"]
         self.changed = d["changed"]
 
@@ -137,15 +138,18 @@ class Env:
         i = 0
         while i < len(parts) and parts[i] == "before":
             parent = self.fn.places[place]["parent"]
-            if parent is None:
-                self.said.append("above the start: " + root + "." + ".".join(parts))
-                break
-            place = parent
+            # fewer steps lead up to here than did
+            place = parent if parent is not None else place
             i += 1
         rest = parts[i:]
         if not rest:
             return None, place
         step = rest[0]
+        if step == "args" and len(rest) > 1 and re.fullmatch(r"t\d+", rest[1]):
+            k = int(rest[1][1:]) - 1
+            if k < len(self.fn.params):
+                rest = ["args", self.fn.params[k]] + rest[2:]
+            return rest, place
         if step in ("args", "requires", "ranges", "utf8", "type_inv", "lifetimes"):
             return rest, place
         for q in self.fn.chain(place):
@@ -222,13 +226,15 @@ class Env:
 
         def one(m):
             root, tail = m.group(1), m.group(2) or ""
-            if root not in self.vars:
+            if root not in self.vars or (root == "at" and not tail):
                 return m.group(0)
             parts = [x for x in tail.split(".") if x]
             t, place = self.path(root, parts)
             return t if t else self.at(root, place)
 
         text = re.sub(r"(?<![^\s(\[{,;])(%s)((?:\.[^\s(){}\[\].;,]+)*)(?=[\s)\]},;]|$)" % r"[^\s(){}\[\].;,:@=|]+", one, text)
+        for n in set(re.findall(r"let (\S+) =\s+\S+\.args\s+in", text)):
+            text = re.sub(r"(?<![\w.'-])%s\.t(\d+)(?![\w'-])" % re.escape(n), lambda m: n + "." + (self.fn.params[int(m.group(1)) - 1] if int(m.group(1)) <= len(self.fn.params) else "t" + m.group(1)), text)
         return text
 
 
@@ -245,6 +251,35 @@ def declarations(text):
     if cur:
         out.append(cur)
     return out
+
+
+def plain_tests(val):
+    """A test of `!x` says `x ≡ false` or `x ≡ true` itself."""
+    val = re.sub(r"\(not-(?:true|false) \S+ (\S*\.if-not[_-][^\s)]*\.(?:true|false))\)", r"\1", val)
+    return re.sub(r"not-(?:true|false) \S+ (\S*\.if-not[_-][^\s)]*\.(?:true|false))", r"\1", val)
+
+
+def parameters(crate, rel):
+    """The names of a function's parameters, in order."""
+    parts = rel.split(".")
+    name = parts[-1]
+    for f in glob.glob(f"crates/{crate}/src/**/*.rt", recursive=True):
+        mod = os.path.splitext(os.path.relpath(f, f"crates/{crate}/src"))[0].replace("/", ".")
+        mods = [] if mod in ("lib", "main") else mod.removesuffix(".mod").split(".")
+        if parts[: len(mods)] != mods or len(parts) - len(mods) > 2:
+            continue
+        t = open(f, encoding="utf-8").read()
+        if mods == [] and len(parts) == 2 and parts[0].islower():
+            continue
+        m = re.search(r"\bfn %s(?:<[^(]*>)?\(([^)]*(?:\([^)]*\)[^)]*)*)\)" % re.escape(name), t)
+        if m:
+            out = []
+            for p in re.split(r",(?![^\[(<]*[\])>])", m.group(1)):
+                p = p.strip()
+                if p:
+                    out.append("self" if re.fullmatch(r"&?(?:'\w+ )?(?:mut )?self", p) else re.sub(r"^mut ", "", p.split(":")[0].strip()))
+            return out
+    return []
 
 
 def convert(path, fn, said):
@@ -350,6 +385,7 @@ def convert(path, fn, said):
             clauses = fn.clauses.get(goal) or fn.clauses.get(fn.needs[i][0])
             if clauses:
                 val = as_record(val, clauses)
+            val = plain_tests(val)
             if len(args) > 1 and re.search(r"(?<![\w.])κs(?![\w])", val):
                 said.append((path, "κs in " + name))
             for s in env.said:
@@ -421,7 +457,7 @@ def convert(path, fn, said):
             v = next(iter(env.vars))
             val = " " + f"(goal.at.{env.ctx[v][2]} {v}).{fn.places[result]['name']}" if env.ctx[v][1] != result else " " + v
         else:
-            val = env.turn(val)
+            val = plain_tests(env.turn(val))
         places |= env.used | env2.used
         if result:
             places.add(fn.places[result]["name"])
@@ -475,7 +511,9 @@ def main():
             said.append((p, "no names"))
             continue
         try:
-            convert(p, Fn(names[key]), said)
+            fn = Fn(names[key])
+            fn.params = parameters(crate, rel)
+            convert(p, fn, said)
         except Exception as e:  # one file that is not understood stays as it is
             said.append((p, f"error {type(e).__name__}: {e}"))
             for n in ("Invariants.antt", "Answers.antt"):

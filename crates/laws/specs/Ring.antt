@@ -1,5 +1,5 @@
 -- Rings: the kept places of a ring of `capacity` places are the `count` just before `next`, going round.
-use Rattle.std.specs.Prelude.{ℕ, zero, suc, ◌+◌, ◌-◌, ◌%◌, Bool, true, false, cond, ◌&&◌, List, [], ◌∷◌, leb, ltb}
+use Rattle.std.specs.Prelude.{ℕ, zero, suc, ◌+◌, ◌-◌, ◌%◌, Bool, cond, ◌&&◌, List, [], ◌∷◌, leb, ltb}
 
 -- the place before p, going round
 abbrev pub back : ℕ → ℕ → ℕ

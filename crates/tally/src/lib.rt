@@ -11,7 +11,7 @@ pub const ANSWERS: usize = 22;
 const FULL: u32 = 4294967295;
 
 #[repr(C)]
-#[derive(Drop)]
+#[derive(Clone, Copy)]
 pub struct Tally {
     pub counts: [u32; ANSWERS],
 }

@@ -164,11 +164,11 @@ pub fn copy_onto(src: &[u8], part: &mut [u8])
     ensures { part.new ≡ copied src.now part.old }
 {
     if src.len() <= part.len() {
-        bytes::copy(src, part);
+        part[..src.len()].copy_from_slice(src);
         return;
     }
     let room = part.len();
-    bytes::copy(&src[..room], part);
+    part.copy_from_slice(&src[..room]);
 }
 
 // The header of a message whose payload has `size` bytes stands at the front of `out`, if it has room for one.
