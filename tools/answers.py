@@ -368,7 +368,7 @@ def convert(path, fn, said):
                 continue
             args = cm.group(1).split()
             val = rest_src[cm.end() :]
-            if val.strip() == "search rules":
+            if val.strip() == "search rules" and not unf:
                 continue
             if i is None:
                 said.append((path, f"no goal for {nm.group(3)} ({name}) among {[n[0] for n in fn.needs]}"))

@@ -20,7 +20,7 @@ pub const LONGEST_NAME: usize = 255;
 
 // Where a name stands, from the area's start, and how many bytes it has.
 #[repr(C)]
-#[derive(Drop)]
+#[derive(Clone, Copy)]
 pub struct Span {
     pub offset: u32,
     pub size: u32,
