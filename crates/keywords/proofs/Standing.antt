@@ -6,7 +6,7 @@ use mathlib.Core.Path.{◌≡◌, ap, ◌∙◌}
 use mathlib.Core.Logic.{⊎_elim}
 use mathlib.Core.List.Memᴰ
 use mathlib.Core.List.{List, map, Memᴰ}
-use lib.ListN.{length, get_or, take, drop, length-take, length-drop, length-map}
+use lib.ListN.{length, get_or, drop, length-take, length-drop, length-map}
 use lib.Seq.{get_or-take, get_or-drop}
 use Rattle.laws.proofs.Rings.{map-get_or}
 use Rattle.ascii.specs.Text.{lower}
@@ -68,7 +68,7 @@ stands-below (suc n) text k h m = by (dec_le (suc (cut_start text)) (cut_end tex
         ⊎_elim (first text k c) (λ t. later text k c (below shorter t))
         (Memᴰ.cases_cons (rw (keywords_cut text c) at m))
     by (no c) below =
-        absurd (Memᴰ.not_nil (rw (keywords_none text (omega (arith, cut-within text))) at m))
+        absurd (Memᴰ.not-nil (rw (keywords_none text (omega (arith, cut-within text))) at m))
 
 pub keyword_stands : (text k : List ℕ) → Memᴰ k (keywords_of text) → Stands k text
 keyword_stands text k = stands-below (suc (length text)) text k (omega arith)
