@@ -26,7 +26,7 @@ def antt_files():
 
 
 def is_function_proof(f):
-    return os.path.basename(f) in ("Proof.antt", "Answers.antt", "Invariants.antt")
+    return os.path.basename(f) == "Proof.antt"
 
 
 def snake(part):

@@ -19,7 +19,7 @@ use Rattle.hits.specs.Words.{Typed}
 use Rattle.answering.specs.Writing.{hit_ttl, asked_text, chosen, hit_for, hits_answer, writing, writing_out}
 use Rattle.answering.specs.Words.{HitsLeave}
 use Rattle.answering.proofs.Chosen.{chosen-fits}
-use Rattle.answering.proofs.Answers.{done-iff}
+use Rattle.answering.proofs.Answers.{done_iff}
 
 -- ---- how long a hit is
 
@@ -45,7 +45,7 @@ module _ (limit : ℕ) (q a sizes : List ℕ) (from : Responder) (out : List ℕ
   -- a query that is answered has a whole number
   pub number-long : answer_of ≡ 0 → length (number_of q) ≡ 16
   number-long e =
-      let w = ((done-iff limit q a (length sizes) (length out)).0 e).0.whole.whole in
+      let w = ((done_iff limit q a (length sizes) (length out)).0 e).0.whole.whole in
       length-take 16 q ∙ omega arith
 
   module _ (t : Typed from) where
@@ -65,7 +65,7 @@ module _ (limit : ℕ) (q a sizes : List ℕ) (from : Responder) (out : List ℕ
           arith,
           hit-long e,
           (chosen-fits (asked_text q) a sizes).fits,
-          ((done-iff limit q a (length sizes) (length out)).0 e).0.lent.room,
+          ((done_iff limit q a (length sizes) (length out)).0 e).0.lent.room,
         )
 
 pub hits-leave : HitsLeave

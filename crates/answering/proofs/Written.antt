@@ -32,7 +32,7 @@ use Rattle.matching.specs.Matching.{matches}
 use Rattle.answering.specs.Writing.{hit_ttl, result_at, picked_results, candidates, asked_text, chosen, hit_for, writing}
 use Rattle.answering.specs.Words.{FourBytes, HitWritten, WritesBack}
 use Rattle.answering.proofs.Chosen.{picked-here, match_at, places_in, candidates-are, chosen-fits}
-use Rattle.answering.proofs.Answers.{done-iff}
+use Rattle.answering.proofs.Answers.{done_iff}
 use Rattle.answering.proofs.Left.{payload-long, answer_of, hit_of, after_of, after_is, number-long}
 
 -- ---- each result can be told, and is short
@@ -159,7 +159,7 @@ module _ (limit : ℕ) (q a sizes : List ℕ) (from : Responder) (out : List ℕ
       (after_is limit q a sizes from out) e
 
   good : Listed a
-  good = of_well a ((done-iff limit q a (length sizes) (length out)).0 e).0.lent.names.good
+  good = of_well a ((done_iff limit q a (length sizes) (length out)).0 e).0.lent.names.good
 
   number : length (number_of q) ≡ 16
   number = number-long limit q a sizes from out e
@@ -198,7 +198,7 @@ module _ (limit : ℕ) (q a sizes : List ℕ) (from : Responder) (out : List ℕ
         least = omega (arith, sized, payload-long from rs t);
         most = omega (arith, sized, size);
         reads = subst (WrittenRead from rs) (sym carried) read;
-        some = some-chosen a sizes good four (asked_text q) ((done-iff limit q a (length sizes) (length out)).0 e).1;
+        some = some-chosen a sizes good four (asked_text q) ((done_iff limit q a (length sizes) (length out)).0 e).1;
         few = (chosen-fits (asked_text q) a sizes).few;
         counted = refl;
         behind = front-behind (answer_of limit q a sizes from out) (length hit) hit out after refl

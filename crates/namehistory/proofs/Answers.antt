@@ -21,39 +21,39 @@ module _ (area : List ℕ) (rules : List (Bool × ℕ)) where
   unfolding list_answer
   behind = first_append (list_rules area) rules refl
 
-  in-good : list_answer area ≡ 0 → first_of (list_rules area ++ rules) ≡ first_of rules
-  in-good g = behind ∙ rw g
+  in_good : list_answer area ≡ 0 → first_of (list_rules area ++ rules) ≡ first_of rules
+  in_good g = behind ∙ rw g
 
-  in-bad : (list_answer area ≡ 0 → ⊥) → first_of (list_rules area ++ rules) ≡ list_answer area
-  in-bad b = behind ∙ rw (ne_eqb (list_answer area) 0 b)
+  in_bad : (list_answer area ≡ 0 → ⊥) → first_of (list_rules area ++ rules) ≡ list_answer area
+  in_bad b = behind ∙ rw (ne_eqb (list_answer area) 0 b)
 
 -- an add's own rules, and those of a find and a remove
-abbrev pub addOwn : List ℕ → List ℕ → List (Bool × ℕ)
-addOwn a x =
+abbrev pub add_own : List ℕ → List ℕ → List (Bool × ℕ)
+add_own a x =
     (not (good_name x), 6)
     ∷ (is_listed x (names_in a), 9)
     ∷ (no_room (length a - text_from) (names_in a) x, 20)
     ∷ []
 
-abbrev pub findOwn : List ℕ → List ℕ → List (Bool × ℕ)
-findOwn a x = (not (good_name x), 6) ∷ (not (is_listed x (names_in a)), 10) ∷ []
+abbrev pub find_own : List ℕ → List ℕ → List (Bool × ℕ)
+find_own a x = (not (good_name x), 6) ∷ (not (is_listed x (names_in a)), 10) ∷ []
 
 module _ (a x : List ℕ) where
-  pub add-good : list_answer a ≡ 0 → add_answer a x ≡ first_of (addOwn a x)
+  pub add-good : list_answer a ≡ 0 → add_answer a x ≡ first_of (add_own a x)
   unfolding add_answer
-  add-good = in-good a (addOwn a x)
+  add-good = in_good a (add_own a x)
 
   pub add-bad : (list_answer a ≡ 0 → ⊥) → add_answer a x ≡ list_answer a
   unfolding add_answer
-  add-bad = in-bad a (addOwn a x)
+  add-bad = in_bad a (add_own a x)
 
-  pub find-good : list_answer a ≡ 0 → find_answer a x ≡ first_of (findOwn a x)
+  pub find-good : list_answer a ≡ 0 → find_answer a x ≡ first_of (find_own a x)
   unfolding find_answer
-  find-good = in-good a (findOwn a x)
+  find-good = in_good a (find_own a x)
 
   pub find-bad : (list_answer a ≡ 0 → ⊥) → find_answer a x ≡ list_answer a
   unfolding find_answer
-  find-bad = in-bad a (findOwn a x)
+  find-bad = in_bad a (find_own a x)
 
   -- so 0 is answered in a good area only
   zero-good : (n : ℕ) → ((list_answer a ≡ 0 → ⊥) → n ≡ list_answer a) → n ≡ 0 → list_answer a ≡ 0

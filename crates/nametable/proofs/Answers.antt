@@ -27,19 +27,19 @@ use Rattle.nametable.proofs.Words.{table-exactly}
 -- ---- the lengths
 
 -- 2 to the power b, b + 1 and so on
-abbrev powersFrom : ℕ → List ℕ → Bool
-powersFrom b [] = true
-powersFrom b (x ∷ xs) = eqb x (2 ^ b) && powersFrom (b + 1) xs
+abbrev powers_from : ℕ → List ℕ → Bool
+powers_from b [] = true
+powers_from b (x ∷ xs) = eqb x (2 ^ b) && powers_from (b + 1) xs
 
-module _ (b x : ℕ) (xs : List ℕ) (p : powersFrom b (x ∷ xs) ≡ true) where
+module _ (b x : ℕ) (xs : List ℕ) (p : powers_from b (x ∷ xs) ≡ true) where
   power : x ≡ 2 ^ b
-  power = eqb-true x (2 ^ b) (and_fst (eqb x (2 ^ b)) (powersFrom (b + 1) xs) p)
+  power = eqb-true x (2 ^ b) (and_fst (eqb x (2 ^ b)) (powers_from (b + 1) xs) p)
 
-  others : powersFrom (b + 1) xs ≡ true
-  others = and_snd (eqb x (2 ^ b)) (powersFrom (b + 1) xs) p
+  others : powers_from (b + 1) xs ≡ true
+  others = and_snd (eqb x (2 ^ b)) (powers_from (b + 1) xs) p
 
 -- a number is among them exactly if it is 2 to one of these powers
-powers-some : (n b : ℕ) (xs : List ℕ) → powersFrom b xs ≡ true → any (eqb n) xs ≡ true
+powers-some : (n b : ℕ) (xs : List ℕ) → powers_from b xs ≡ true → any (eqb n) xs ≡ true
     → (c : ℕ) × (b ≤ c) × (c < b + length xs) × (n ≡ 2 ^ c)
 powers-some n b [] p e = absurd (false≢true e)
 powers-some n b (x ∷ xs) p e =
@@ -50,7 +50,7 @@ powers-some n b (x ∷ xs) p e =
     (r.0, omega arith, omega arith, r.3))
     (or_split (eqb n x) (any (eqb n) xs) e)
 
-powers-any : (n b : ℕ) (xs : List ℕ) → powersFrom b xs ≡ true → (c : ℕ) → b ≤ c → c < b + length xs → n ≡ 2 ^ c
+powers-any : (n b : ℕ) (xs : List ℕ) → powers_from b xs ≡ true → (c : ℕ) → b ≤ c → c < b + length xs → n ≡ 2 ^ c
     → any (eqb n) xs ≡ true
 powers-any n b [] p c low high e = absurd (omega arith)
 powers-any n b (x ∷ xs) p c low high e =
@@ -65,47 +65,47 @@ powers-any n b (x ∷ xs) p c low high e =
         let other = eqb-false b c q in
         or_right (eqb n x) (any (eqb n) xs) (more (omega arith) (omega arith))
 
-length-iff : (n : ℕ) → (good_length n ≡ true) ↔ ((b : ℕ) × (2 ≤ b) × (b ≤ 16) × (n ≡ 2 ^ b))
+length_iff : (n : ℕ) → (good_length n ≡ true) ↔ ((b : ℕ) × (2 ≤ b) × (b ≤ 16) × (n ≡ 2 ^ b))
 unfolding good_length
-length-iff n = (
+length_iff n = (
   (λ e. let r = powers-some n 2 lengths refl e in let high = r.2 in (r.0, r.1, omega arith, r.3)),
   (λ v. let most = v.2 in powers-any n 2 lengths refl v.0 v.1 (omega arith) v.3),
 )
 
-carried-iff : (n infinity : ℕ) → ((good_length n && good_infinity infinity) ≡ true) ↔ Carried n infinity
-carried-iff n infinity =
-    and_iff (good_length n) (good_infinity infinity) (length-iff n)
+carried_iff : (n infinity : ℕ) → ((good_length n && good_infinity infinity) ≡ true) ↔ Carried n infinity
+carried_iff n infinity =
+    and_iff (good_length n) (good_infinity infinity) (length_iff n)
     (and_iff (leb 2 infinity) (leb infinity 127) (most_iff 2 infinity) (most_iff infinity 127))
 
 -- ---- the answers
 
 -- 2 stands at both ends of the tests
-two-iff : (p g k s : Bool) → (first_of ((p, 2) ∷ (not g, 1) ∷ (not k, 14) ∷ (s, 2) ∷ []) ≡ 2)
+two_iff : (p g k s : Bool) → (first_of ((p, 2) ∷ (not g, 1) ∷ (not k, 14) ∷ (s, 2) ∷ []) ≡ 2)
     ↔ ((p ≡ true) ⊎ ((p ≡ false) × (g ≡ true) × (k ≡ true) × (s ≡ true)))
-two-iff true g k s = ((λ e. inl refl), (λ v. refl))
-two-iff false false k s = (
+two_iff true g k s = ((λ e. inl refl), (λ v. refl))
+two_iff false false k s = (
   (λ e. absurd (omega arith)),
   ⊎_elim (λ e. absurd (false≢true e)) (λ v. absurd (false≢true v.1)),
 )
-two-iff false true false s = (
+two_iff false true false s = (
   (λ e. absurd (omega arith)),
   ⊎_elim (λ e. absurd (false≢true e)) (λ v. absurd (false≢true v.2)),
 )
-two-iff false true true false = (
+two_iff false true true false = (
   (λ e. absurd (omega arith)),
   ⊎_elim (λ e. absurd (false≢true e)) (λ v. absurd (false≢true v.3)),
 )
-two-iff false true true true = ((λ e. inr (refl, refl, refl, refl)), (λ v. refl))
+two_iff false true true true = ((λ e. inr (refl, refl, refl, refl)), (λ v. refl))
 
 module _ (a : List ℕ) (n infinity out : ℕ) where
-  short-iff : (table_answer a n infinity out ≡ 2) ↔ ((length a < 4100) ⊎ (Sound a × Carried n infinity × (out < n)))
+  short_iff : (table_answer a n infinity out ≡ 2) ↔ ((length a < 4100) ⊎ (Sound a × Carried n infinity × (out < n)))
   unfolding table_answer
-  short-iff =
+  short_iff =
       let k = good_length n && good_infinity infinity in
-      let x = two-iff (ltb (length a) 4100) (good_list a) k (ltb out n) in
+      let x = two_iff (ltb (length a) 4100) (good_list a) k (ltb out n) in
       let small = less_iff (length a) 4100 in
       let room = not-less_iff (length a) 4100 in
-      let good = carried-iff n infinity in
+      let good = carried_iff n infinity in
       let less = less_iff out n in (
         (λ e. ⊎_elim (λ v. inl (small.0 v))
             (λ v. inr ((room.0 v.0, v.1), good.0 v.2, less.0 v.3))
@@ -119,30 +119,30 @@ module _ (a : List ℕ) (n infinity out : ℕ) where
   abbrev listed : List (Bool × ℕ)
   listed = (not (good_list a), 1) ∷ own_rules n infinity out
 
-  bad-iff : (table_answer a n infinity out ≡ 1) ↔ ((4100 ≤ length a) × (good_list a ≡ false))
+  bad_iff : (table_answer a n infinity out ≡ 1) ↔ ((4100 ≤ length a) × (good_list a ≡ false))
   unfolding table_answer
-  bad-iff =
+  bad_iff =
       past_iff 1 (ltb (length a) 4100) 2 listed refl (not-less_iff (length a) 4100)
       (Iff.trans (first_iff 1 (not (good_list a)) (own_rules n infinity out) refl refl) (no_iff (good_list a)))
 
-  wrong-iff : (table_answer a n infinity out ≡ 14) ↔ (Sound a × (Carried n infinity → ⊥))
+  wrong_iff : (table_answer a n infinity out ≡ 14) ↔ (Sound a × (Carried n infinity → ⊥))
   unfolding table_answer
-  wrong-iff =
+  wrong_iff =
       let k = good_length n && good_infinity infinity in
       let x = past_iff 14 (ltb (length a) 4100) 2 listed refl (not-less_iff (length a) 4100)
       (past_iff 14 (not (good_list a)) 1 (own_rules n infinity out) refl (yes_iff (good_list a))
-      (Iff.trans (first_iff 14 (not k) ((ltb out n, 2) ∷ []) refl refl) (none_iff k (carried-iff n infinity)))) in (
+      (Iff.trans (first_iff 14 (not k) ((ltb out n, 2) ∷ []) refl refl) (none_iff k (carried_iff n infinity)))) in (
         (λ e. let v = x.0 e in ((v.0, v.1.0), v.1.1)),
         (λ v. x.1 (v.0.0, (v.0.1, v.1))),
       )
 
-  made-iff : (table_answer a n infinity out ≡ 0) ↔ (Sound a × Carried n infinity × (n ≤ out))
+  made_iff : (table_answer a n infinity out ≡ 0) ↔ (Sound a × Carried n infinity × (n ≤ out))
   unfolding table_answer
-  made-iff =
+  made_iff =
       let k = good_length n && good_infinity infinity in
       let x = past_iff 0 (ltb (length a) 4100) 2 listed refl (not-less_iff (length a) 4100)
       (past_iff 0 (not (good_list a)) 1 (own_rules n infinity out) refl (yes_iff (good_list a))
-      (past_iff 0 (not k) 14 ((ltb out n, 2) ∷ []) refl (some_iff k (carried-iff n infinity))
+      (past_iff 0 (not k) 14 ((ltb out n, 2) ∷ []) refl (some_iff k (carried_iff n infinity))
       (past_iff 0 (ltb out n) 2 [] refl (not-less_iff out n) Iff.rfl))) in (
         (λ e. let v = x.0 e in ((v.0, v.1.0), v.1.1.0, v.1.1.1.0)),
         (λ v. x.1 (v.0.0, (v.0.1, (v.1, (v.2, refl))))),
@@ -151,10 +151,10 @@ module _ (a : List ℕ) (n infinity out : ℕ) where
 pub table-refusals : TableRefusals
 table-refusals a n infinity out =
     record {
-      short = short-iff a n infinity out;
-      bad = bad-iff a n infinity out;
-      wrong = wrong-iff a n infinity out;
-      made = made-iff a n infinity out;
+      short = short_iff a n infinity out;
+      bad = bad_iff a n infinity out;
+      wrong = wrong_iff a n infinity out;
+      made = made_iff a n infinity out;
     }
 
 -- ---- the output
@@ -170,7 +170,7 @@ table-leaves a n infinity out =
       refused = front-refused answer n entries out after size refl;
       table = front_read answer n entries out after size refl;
       behind = front-behind answer n entries out after size refl;
-      long = front_long answer n entries out after size refl (λ e. ((made-iff a n infinity (length out)).0 e).2);
+      long = front_long answer n entries out after size refl (λ e. ((made_iff a n infinity (length out)).0 e).2);
     }
 
 pub table-told : TableTold
@@ -180,7 +180,7 @@ table-told a n infinity out e = record { bits = b; power = v.0.3; near = near; f
     after = table_out a n infinity out
 
     v : Carried n infinity
-    v = ((made-iff a n infinity (length out)).0 e).1
+    v = ((made_iff a n infinity (length out)).0 e).1
 
     b : ℕ
     b = v.0.0

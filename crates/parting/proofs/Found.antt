@@ -19,7 +19,7 @@ use Rattle.keywords.proofs.PlaceLaws.{place-below}
 use Rattle.tables.specs.Tables.{Held, good_length}
 use Rattle.tables.specs.Admission.{withholds, Withheld}
 use Rattle.tables.proofs.AdmissionLaws.{withheld-exactly}
-use Rattle.tables.proofs.Answers.{power-of}
+use Rattle.tables.proofs.Answers.{power_of}
 use Rattle.tablemessages.specs.RoundTrip.{settled_as}
 use Rattle.namearea.specs.Area.{names_in}
 use Rattle.nametable.specs.Table.{own_entries, table_out}
@@ -85,7 +85,7 @@ module _ (n b infinity : ℕ) (power : n ≡ 2 ^ b) (most : b ≤ 32) (low : 2 �
 pub named-passes : NamedPasses
 unfolding good_length
 named-passes n infinity names text ttl long limit life named =
-    let p = power-of n 2 15 long in
+    let p = power_of n 2 15 long in
     let low : 2 ≤ infinity = leb-true 2 infinity (and_fst (leb 2 infinity) (leb infinity 127) limit) in
     lets-pass n p.bits infinity p.power (omega (arith, p.most)) low names text ttl life named
 

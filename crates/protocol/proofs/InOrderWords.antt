@@ -23,7 +23,7 @@ use Rattle.tables.specs.declared.Table.{Table}
 use Rattle.tables.specs.Tables.{broken, running, ready, good_length, inside_run, between_runs, within_limits}
 use Rattle.tables.specs.Tables.{table_in_order}
 use Rattle.tables.proofs.OrderLaws.{Limits, limits}
-use Rattle.tables.proofs.Answers.{power-of, is-power}
+use Rattle.tables.proofs.Answers.{power_of, is-power}
 use Rattle.protocol.specs.declared.Pong.{Pong}
 use Rattle.protocol.specs.declared.Line.{Line}
 use Rattle.protocol.specs.State.{Station, remembered, line_at}
@@ -136,7 +136,7 @@ module _ (room : ℕ) (t : Table) where
   limit-words : Limits room t → LimitWords room t
   unfolding good_length
   limit-words l =
-      let w = power-of t.length 2 15 l.length in
+      let w = power_of t.length 2 15 l.length in
       record {
         power = w.bits;
         least = w.least;

@@ -36,8 +36,8 @@ use Rattle.relaying.proofs.MakeLaws.{answer-is}
 
 -- ---- tests and answers, two of each
 
-neither-iff : (a b : Bool) {A B : Type 0} → (a ≡ false) ↔ A → (b ≡ false) ↔ B → ((a || b) ≡ false) ↔ (A × B)
-neither-iff a b x y = (
+neither_iff : (a b : Bool) {A B : Type 0} → (a ≡ false) ↔ A → (b ≡ false) ↔ B → ((a || b) ≡ false) ↔ (A × B)
+neither_iff a b x y = (
   (λ e. (x.0 (or_fst a b e), y.0 (or_snd a b e))),
   (λ v. rw (x.1 v.0) (y.1 v.1)),
 )
@@ -56,8 +56,8 @@ module _ (early late n : ℕ) {S X : Type 0} (s : (early ≡ 0) ↔ S) (x : (lat
       by false q = ((λ e. inl (a.0 e)), ⊎_elim a.1 (λ v. absurd (eqb-false early 0 q (s.1 v.0))))
 
   -- a number of the later one
-  late-iff : (early ≡ n → early ≡ 0) → (cond (eqb early 0) late early ≡ n) ↔ (S × X)
-  late-iff never = by (eqb early 0) refl
+  late_iff : (early ≡ n → early ≡ 0) → (cond (eqb early 0) late early ≡ n) ↔ (S × X)
+  late_iff never = by (eqb early 0) refl
     where
       by : (t : Bool) → eqb early 0 ≡ t → (cond t late early ≡ n) ↔ (S × X)
       by true q = ((λ e. (s.0 (eqb-true early 0 q), x.0 e)), (λ v. x.1 v.1))
@@ -84,20 +84,20 @@ module _ (s : Station) (l : ℕ) (route : List ℕ) where
   abbrev early : ℕ
   early = first_of tests
 
-  unfit-iff : (unfit ≡ true) ↔ RouteUnfit s route
-  unfit-iff = or_iff (ltb (length route) 32) _ (less_iff (length route) 32) (other_iff (length route / 8) s.room)
+  unfit_iff : (unfit ≡ true) ↔ RouteUnfit s route
+  unfit_iff = or_iff (ltb (length route) 32) _ (less_iff (length route) 32) (other_iff (length route / 8) s.room)
 
   fits_iff : (unfit ≡ false) ↔ RouteFits s route
   fits_iff =
-      neither-iff (ltb (length route) 32) _ (not-less_iff (length route) 32)
+      neither_iff (ltb (length route) 32) _ (not-less_iff (length route) 32)
       (some_iff _ (eqb_iff (length route / 8) s.room))
 
-  low-iff : (ltb l 8 ≡ true) ↔ (l ≤ 7)
-  low-iff = ((λ e. let h = ltb-true l 8 e in omega arith), (λ h. lt-ltb l 8 (omega arith)))
+  low_iff : (ltb l 8 ≡ true) ↔ (l ≤ 7)
+  low_iff = ((λ e. let h = ltb-true l 8 e in omega arith), (λ h. lt-ltb l 8 (omega arith)))
 
-  standing-iff : (early ≡ 0) ↔ Standing s l route
-  standing-iff =
-      let open' = neither-iff (not (ltb l 8)) _ (some_iff (ltb l 8) low-iff) (yes_iff (line_at s l).live) in
+  standing_iff : (early ≡ 0) ↔ Standing s l route
+  standing_iff =
+      let open' = neither_iff (not (ltb l 8)) _ (some_iff (ltb l 8) low_iff) (yes_iff (line_at s l).live) in
       let x = past_iff 0 (not order) 1 ((unfit, 2) ∷ (closed, 3) ∷ []) refl (yes_iff order)
       (past_iff 0 unfit 2 ((closed, 3) ∷ []) refl fits_iff (past_iff 0 closed 3 [] refl open' Iff.rfl)) in (
         (λ e. let v = x.0 e in
@@ -119,9 +119,9 @@ module _ (s : Station) (l : ℕ) (route : List ℕ) where
     carried : MayCarry n → Carried n (infinity_written usual_limit)
     carried v = (v, (omega arith, omega arith))
 
-    three-iff : (answer ≡ 3) ↔ ((order ≡ true) × (RouteFits s route × LineNotOpen s l))
+    three_iff : (answer ≡ 3) ↔ ((order ≡ true) × (RouteFits s route × LineNotOpen s l))
     unfolding make_answer
-    three-iff =
+    three_iff =
         let behind = list_rules names ++ ((not (good_length n), 14) ∷ (ltb out n, 2) ∷ []) in
         past_iff 3 (not order) 1 ((unfit, 2) ∷ (closed, 3) ∷ behind) refl (yes_iff order)
         (past_iff 3 unfit 2 ((closed, 3) ∷ behind) refl fits_iff
@@ -131,16 +131,16 @@ module _ (s : Station) (l : ℕ) (route : List ℕ) where
     answers =
         let told = table-refusals names n (infinity_written usual_limit) out in
         let few : early ≤ 3 = leb-true early 3 (answer_in (λ k. leb k 3) tests refl refl) in
-        let two = both_iff early late 2 standing-iff told.short
+        let two = both_iff early late 2 standing_iff told.short
         (past_iff 2 (not order) 1 ((unfit, 2) ∷ (closed, 3) ∷ []) refl (yes_iff order)
-        (Iff.trans (first_iff 2 unfit ((closed, 3) ∷ []) refl refl) unfit-iff))
+        (Iff.trans (first_iff 2 unfit ((closed, 3) ∷ []) refl refl) unfit_iff))
         (λ z. omega arith) in
-        let fourteen = late-iff early late 14 standing-iff told.wrong (λ e. absurd (omega arith)) in
-        let done = late-iff early late 0 standing-iff told.made (λ e. e) in
+        let fourteen = late_iff early late 14 standing_iff told.wrong (λ e. absurd (omega arith)) in
+        let done = late_iff early late 0 standing_iff told.made (λ e. e) in
         record {
           one =
               rw chosen
-              (both_iff early late 1 standing-iff told.bad
+              (both_iff early late 1 standing_iff told.bad
               (Iff.trans (first_iff 1 (not order) ((unfit, 2) ∷ (closed, 3) ∷ []) refl refl) (no_iff order))
               (λ z. omega arith));
           two = rw chosen (
@@ -153,7 +153,7 @@ module _ (s : Station) (l : ℕ) (route : List ℕ) where
                 w))
                 v)),
           );
-          three = three-iff;
+          three = three_iff;
           fourteen = rw chosen (
             (λ e. let v = fourteen.0 e in (v.0, (v.1.0, (λ m. v.1.1 (carried m))))),
             (λ v. fourteen.1 (v.0, (v.1.0, (λ m. v.1.1 m.0)))),

@@ -24,7 +24,7 @@ use Rattle.tables.specs.Updates.{in_range, update_answer, updated, reset_by}
 use Rattle.tables.specs.History.{byte, length_bytes, carried, Update, messages, ended, under_way, length_named}
 use Rattle.tables.specs.History.{infinity_named, sum_at}
 use Rattle.tables.specs.Answers.{Filled, Sent, answer_to, after, history, MayReset, MayPatch, LikeFirst, InTurn}
-use Rattle.tables.specs.Answers.{entryThen, outside, LeadsOut}
+use Rattle.tables.specs.Answers.{entry_then, outside, LeadsOut}
 use Rattle.tables.specs.Answers.{Answers, EveryAnswer, EveryReset, Numbered, WholeRun, Runs, EveryRun}
 use Rattle.tables.proofs.PatchFacts.{fits-exactly, fit-exactly}
 use Rattle.tables.proofs.HistoryLaws.{FourOrEight, length-bytes, signed, carried-is, carried-length, patch-tests}
@@ -38,8 +38,8 @@ abbrev pub powers : ℕ → ℕ → List ℕ
 powers b zero = []
 powers b (suc k) = 2 ^ b ∷ powers (suc b) k
 
-the-lengths : lengths ≡ powers 2 15
-the-lengths = refl
+the_lengths : lengths ≡ powers 2 15
+the_lengths = refl
 
 pub record Power (n b k : ℕ) : Type 0 where
   pub bits : ℕ
@@ -47,9 +47,9 @@ pub record Power (n b k : ℕ) : Type 0 where
   pub most : bits < b + k
   pub power : n ≡ 2 ^ bits
 
-pub power-of : (n b k : ℕ) → any (eqb n) (powers b k) ≡ true → Power n b k
-power-of n b zero e = absurd (clash e refl)
-power-of n b (suc k) e = by (eqb n (2 ^ b)) refl (power-of n (suc b) k) e
+pub power_of : (n b k : ℕ) → any (eqb n) (powers b k) ≡ true → Power n b k
+power_of n b zero e = absurd (clash e refl)
+power_of n b (suc k) e = by (eqb n (2 ^ b)) refl (power_of n (suc b) k) e
   where
     by : (t : Bool) → eqb n (2 ^ b) ≡ t → (any (eqb n) (powers (suc b) k) ≡ true → Power n (suc b) k)
         → (t || any (eqb n) (powers (suc b) k)) ≡ true → Power n b (suc k)
@@ -92,7 +92,7 @@ module _ (room : ℕ) (s : Sent) where
   unfolding good_reset good_length
   may-reset e g =
       let t = each (reset_tests room p) g in
-      let w = power-of (length_in p) 2 15 t.1.1.0 in
+      let w = power_of (length_in p) 2 15 t.1.1.0 in
       let i = t.1.1.1.1.0 in
       record {
         ttl = near-ttl s e;
@@ -254,7 +254,7 @@ module _ (h : Held) (us : List Update) (q : Accounts h us) (p : List ℕ) (w : F
 
   -- the entry with its number, as the history has it
   then : (j : ℕ) → j < length (numbers_in p)
-      → entryThen us p j ≡ pos (get_or (drop at h.entries) j 0) +ℤ signed (bits_in p) (get_or (numbers_in p) j 0)
+      → entry_then us p j ≡ pos (get_or (drop at h.entries) j 0) +ℤ signed (bits_in p) (get_or (numbers_in p) j 0)
   then j l =
       ap₂ (λ x y. x +ℤ y)
       (sym
@@ -267,14 +267,14 @@ module _ (h : Held) (us : List Update) (q : Accounts h us) (p : List ℕ) (w : F
   abbrev fit : ℕ → Bool
   fit j = fits (bits_in p) h.table.infinity (get_or (numbers_in p) j 0) (get_or (drop at h.entries) j 0)
 
-  out_at : (j : ℕ) → j < length (numbers_in p) → outside (infinity_named us) (entryThen us p j) ≡ not (fit j)
+  out_at : (j : ℕ) → j < length (numbers_in p) → outside (infinity_named us) (entry_then us p j) ≡ not (fit j)
   out_at j l =
       ap₂ outside (sym q.infinity) (then j l)
       ∙ outside-fits (bits_in p) h.table.infinity (get_or (numbers_in p) j 0) (get_or (drop at h.entries) j 0)
 
-  leads-out : in_range h p ≡ false → LeadsOut us p
+  leads_out : in_range h p ≡ false → LeadsOut us p
   unfolding in_range
-  leads-out e =
+  leads_out e =
       let u = unfit (bits_in p) h.table.infinity (numbers_in p) (drop at h.entries) room-left e in
       (u.at, rw count u.below, out_at u.at u.below ∙ ap not u.fails)
 
@@ -327,7 +327,7 @@ module _ (room : ℕ) (h : Held) (us : List Update) (q : Accounts h us) (s : Sen
     range-way u x =
         leading (rw (e, r, g, fields.variant, u, x)) fields
         (turn_of h us q s.payload fields.width u)
-        (leads-out h us q s.payload fields.width u x)
+        (leads_out h us q s.payload fields.width u x)
 
     patch-way : in_turn h s.payload ≡ true → in_range h s.payload ≡ true → Way
     unfolding update_answer

@@ -17,8 +17,8 @@ pub record Sent : Type 0 where
 
 -- the answer to one, the table after a list of them (the newest first, from no table), and the same list with the
 -- answers
-abbrev pub answerTo : ℕ → Held → Sent → ℕ
-answerTo room h s = update_answer room h s.ttl s.hops s.payload
+abbrev pub answer_to : ℕ → Held → Sent → ℕ
+answer_to room h s = update_answer room h s.ttl s.hops s.payload
 
 abbrev pub no_held : Held
 no_held = record { table = no_table; entries = [] }
@@ -29,7 +29,7 @@ after room (s ∷ ss) = updated room (after room ss) s.ttl s.hops s.payload
 
 abbrev pub history : ℕ → List Sent → List Update
 history room [] = []
-history room (s ∷ ss) = record { payload = s.payload; answer = answerTo room (after room ss) s } ∷ history room ss
+history room (s ∷ ss) = record { payload = s.payload; answer = answer_to room (after room ss) s } ∷ history room ss
 
 -- a RESET that is accepted: TTL 1, Hops 0, exactly six bytes, the first 0, a length of 2 ^ bits for 2 to 16 bits
 -- and within the room, and an Infinity of 2 to 127
@@ -75,8 +75,8 @@ pub record InTurn (us : List Update) (p : List ℕ) : Type 0 where
   pub whole : byte p 1 ≡ byte p 2 → length (under_way us) + length (carried p) ≡ length_named us
 
 -- what the j-th number of a PATCH makes of its entry: Infinity, the sum so far and the number
-abbrev pub entryThen : List Update → List ℕ → ℕ → ℤ
-entryThen us p j = pos (infinity_named us) +ℤ sum_at us (length (under_way us) + j) +ℤ get_or (carried p) j (pos 0)
+abbrev pub entry_then : List Update → List ℕ → ℕ → ℤ
+entry_then us p j = pos (infinity_named us) +ℤ sum_at us (length (under_way us) + j) +ℤ get_or (carried p) j (pos 0)
 
 -- below 1 or above n
 abbrev pub outside : ℕ → ℤ → Bool
@@ -85,7 +85,7 @@ outside n (negsuc k) = true
 
 -- some number of a PATCH leads outside 1..Infinity
 abbrev pub LeadsOut : List Update → List ℕ → Type 0
-LeadsOut us p = (j : ℕ) × (j < length (carried p)) × (outside (infinity_named us) (entryThen us p j) ≡ true)
+LeadsOut us p = (j : ℕ) × (j < length (carried p)) × (outside (infinity_named us) (entry_then us p j) ≡ true)
 
 -- the answer n to an update after these: exactly when it is each of the four
 pub record Answers (room : ℕ) (us : List Update) (s : Sent) (n : ℕ) : Type 0 where
@@ -96,7 +96,7 @@ pub record Answers (room : ℕ) (us : List Update) (s : Sent) (n : ℕ) : Type 0
 
 abbrev pub EveryAnswer : Type 0
 EveryAnswer = (room : ℕ) (ss : List Sent) (s : Sent) → Answers room (history room ss) s
-    (answerTo room (after room ss) s)
+    (answer_to room (after room ss) s)
 
 -- what a list of updates leaves: as many entries as the last accepted RESET named, its Infinity, each entry that
 -- Infinity plus the sum of its numbers, and the mark, which is settled exactly where no quiet period is
@@ -125,7 +125,7 @@ abbrev pub EveryReset : Type 0
 EveryReset =
     (room : ℕ) (h : Held) (s : Sent)
     → MayReset room s
-    → (answerTo room h s ≡ 0) × Filled s.payload (updated room h s.ttl s.hops s.payload)
+    → (answer_to room h s ≡ 0) × Filled s.payload (updated room h s.ttl s.hops s.payload)
 
 -- the n-th message of a run bears place n and the first one's size and bits
 abbrev pub Numbered : List (List ℕ) → Type 0
