@@ -149,7 +149,7 @@ module _ (f : ℕ → Bool) where
   pub picked-there : (i n from : ℕ) → Memᴰ i (picked_of f (counting n from))
       → (from ≤ i) × ((i < from + n) × (f i ≡ true))
   unfolding picked_of
-  picked-there i zero from m = absurd (Memᴰ.not_nil m)
+  picked-there i zero from m = absurd (Memᴰ.not-nil m)
   picked-there i (suc n) from m = by (f from) refl m (picked-there i n (suc from))
     where
       by : (t : Bool) → f from ≡ t → Memᴰ i (with_first t from (behind n from))

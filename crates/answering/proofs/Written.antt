@@ -127,7 +127,7 @@ module _ (a sizes : List ℕ) (l : Listed a) (four : FourBytes sizes) where
             )
           where
             some-there : {i : ℕ} (is : List ℕ) → Memᴰ i is → 1 ≤ length is
-            some-there [] m = absurd (Memᴰ.not_nil m)
+            some-there [] m = absurd (Memᴰ.not-nil m)
             some-there (j ∷ is) m = omega arith
 
         by : (k : ℕ) → length (chosen text a sizes) ≡ k → 1 ≤ length (chosen text a sizes)

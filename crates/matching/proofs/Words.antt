@@ -29,7 +29,7 @@ among-forth k (q ∷ ks) e =
     (or_split (same false k q) (is_among k ks) e)
 
 among-back : (k : List ℕ) (ks : List (List ℕ)) → Memᴰ k ks → is_among k ks ≡ true
-among-back k [] m = absurd (Memᴰ.not_nil m)
+among-back k [] m = absurd (Memᴰ.not-nil m)
 among-back k (q ∷ ks) m =
     ⊎_elim (λ e. or_left (same false k q) (is_among k ks) (is_same k q e))
     (λ t. or_right (same false k q) (is_among k ks) (among-back k ks t))
@@ -38,7 +38,7 @@ among-back k (q ∷ ks) m =
 -- a test of each holds exactly if it holds of every one
 module _ (test : List ℕ → Bool) where
   each-forth : (ks : List (List ℕ)) → all test ks ≡ true → (k : List ℕ) → Memᴰ k ks → test k ≡ true
-  each-forth [] e k m = absurd (Memᴰ.not_nil m)
+  each-forth [] e k m = absurd (Memᴰ.not-nil m)
   each-forth (q ∷ ks) e k m =
       ⊎_elim (λ s. ap test s ∙ and_fst (test q) (all test ks) e)
       (λ t. each-forth ks (and_snd (test q) (all test ks) e) k t)

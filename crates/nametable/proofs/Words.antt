@@ -40,7 +40,7 @@ module _ (i : ℕ) where
 
   pub on : (ps es : List ℕ) → i < length es → Memᴰ i ps → get_or (with_ones ps es) i 0 ≡ 1
   unfolding with_ones
-  on [] es h m = absurd (Memᴰ.not_nil m)
+  on [] es h m = absurd (Memᴰ.not-nil m)
   on (p ∷ ps) es h m =
       let g = lt-length-set es p 1 h in
       ⊎_elim (λ e. stays ps (set es p 1) g (here es p h e)) (λ t. on ps (set es p 1) g t) (Memᴰ.cases_cons m)
@@ -52,7 +52,7 @@ module _ (i : ℕ) where
       ∙ get_or-set_other es p i 1 0 (λ e. n (Memᴰ.head e))
 
   pub among : (ps : List ℕ) → Memᴰ i ps ⊎ (Memᴰ i ps → ⊥)
-  among [] = inr Memᴰ.not_nil
+  among [] = inr Memᴰ.not-nil
   among (p ∷ ps) = by (eqb i p) refl (among ps)
     where
       by : (b : Bool) → eqb i p ≡ b → Memᴰ i ps ⊎ (Memᴰ i ps → ⊥)
@@ -78,7 +78,7 @@ module _ (i : ℕ) where
 
 module _ (f : List ℕ → ℕ) (i : ℕ) where
   of_some : (ks : List (List ℕ)) → Memᴰ i (map f ks) → (k : List ℕ) × Memᴰ k ks × (f k ≡ i)
-  of_some [] m = absurd (Memᴰ.not_nil m)
+  of_some [] m = absurd (Memᴰ.not-nil m)
   of_some (k ∷ ks) m =
       ⊎_elim (λ e. (k, Memᴰ.head refl, sym e))
       (λ t. let r = of_some ks t in (r.0, Memᴰ.tail r.1, r.2))
@@ -87,7 +87,7 @@ module _ (f : List ℕ → ℕ) (i : ℕ) where
 module _ (n b : ℕ) (same : (k : List ℕ) → place_in n k ≡ place_of b k) (i : ℕ) where
   pub falls : (names : List (List ℕ)) → Memᴰ i (own_places n names) → FallsOn b names i
   unfolding own_places
-  falls [] m = absurd (Memᴰ.not_nil m)
+  falls [] m = absurd (Memᴰ.not-nil m)
   falls (x ∷ xs) m =
       ⊎_elim
       (λ t. let r = of_some (place_in n) i (keywords_of x) t in
@@ -98,7 +98,7 @@ module _ (n b : ℕ) (same : (k : List ℕ) → place_in n k ≡ place_of b k) (
   pub marked : (names : List (List ℕ)) (x : List ℕ) → Memᴰ x names
       → (k : List ℕ) → Memᴰ k (keywords_of x) → place_of b k ≡ i → Memᴰ i (own_places n names)
   unfolding own_places
-  marked [] x m k mk e = absurd (Memᴰ.not_nil m)
+  marked [] x m k mk e = absurd (Memᴰ.not-nil m)
   marked (y ∷ ys) x m k mk e =
       ⊎_elim
       (λ q. Memᴰ.append_left (own_places n ys) (Memᴰ.cast (sym (same k ∙ e)) (Memᴰ.map (place_in n) (rw q at mk))))

@@ -212,7 +212,7 @@ runs-below (suc n) text h = by (dec_le (suc (cut_start text)) (cut_end text)) (r
           spans = [];
           words = none;
           each = λ r. (
-            (λ m. absurd (Memᴰ.not_nil m)),
+            (λ m. absurd (Memᴰ.not-nil m)),
             (λ run. absurd (parts r.from (omega arith) (run.kept r.from (omega arith) run.some))),
           );
           order = λ j k d h l. absurd (omega arith);

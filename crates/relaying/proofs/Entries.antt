@@ -64,13 +64,13 @@ module _ (s : Station) (l : ℕ) (route : List ℕ) where
 
   of_line : (n from : ℕ) {h : Held} → Memᴰ h (tables_from n from) → Said s l route (from + n) h
   unfolding picked_tables
-  of_line zero from m = absurd (Memᴰ.not_nil m)
+  of_line zero from m = absurd (Memᴰ.not-nil m)
   of_line (suc n) from {h} m =
       ⊎_elim
       (of_choice (λ hs. Memᴰ h hs → Said s l route (from + suc n) h) (has_say s.lines l from) _ []
       (λ q t. let w = (say_iff s.lines l from).0 q in
       record { line = from; below = omega arith; other = w.0; mark = w.1; is = Memᴰ.eq_of_singleton t })
-      (λ q t. absurd (Memᴰ.not_nil t)))
+      (λ q t. absurd (Memᴰ.not-nil t)))
       (λ t. let r = of_line n (suc from) t in
       let b = r.below in
       record { line = r.line; below = omega arith; other = r.other; mark = r.mark; is = r.is })

@@ -44,7 +44,7 @@ counting-part (suc p) k (suc m) from at h e = counting-part p k m (suc from) at 
 
 -- which numbers these are
 counted : (j n from : ℕ) → Memᴰ j (counting n from) → (from ≤ j) × (j < from + n)
-counted j zero from m = absurd (mathlib.Core.List.Memᴰ.not_nil m)
+counted j zero from m = absurd (mathlib.Core.List.Memᴰ.not-nil m)
 counted j (suc n) from m =
     ⊎_elim (λ e. (omega arith, omega arith)) (λ t. let r = counted j n (suc from) t in (omega arith, omega arith))
     (mathlib.Core.List.Memᴰ.cases_cons m)

@@ -43,7 +43,7 @@ module _ (x : ℕ) where
 
   nearest-near : (ds : List ℕ) (d : ℕ) → Memᴰ d ds → nearest x ds ≤ d + 1
   unfolding nearest
-  nearest-near [] d m = absurd (mathlib.Core.List.Memᴰ.not_nil m)
+  nearest-near [] d m = absurd (mathlib.Core.List.Memᴰ.not-nil m)
   nearest-near (c ∷ ds) d m =
       ⊎_elim (λ e. omega arith) (λ t. let h = nearest-near ds d t in omega arith) (mathlib.Core.List.Memᴰ.cases_cons m)
 
@@ -60,7 +60,7 @@ abbrev Least : List ℕ → ℕ → Type 0
 Least ds e = Memᴰ e ds × ((d : ℕ) → Memᴰ d ds → e ≤ d)
 
 least_of : (ds : List ℕ) → ((d : ℕ) → Memᴰ d ds → ⊥) ⊎ ((e : ℕ) × Least ds e)
-least_of [] = inl (λ d. mathlib.Core.List.Memᴰ.not_nil)
+least_of [] = inl (λ d. mathlib.Core.List.Memᴰ.not-nil)
 least_of (c ∷ ds) = inr (by (least_of ds))
   where
     first : ((d : ℕ) → Memᴰ d ds → c ≤ d) → (e : ℕ) × Least (c ∷ ds) e
@@ -80,7 +80,7 @@ least_of (c ∷ ds) = inr (by (least_of ds))
 module _ (infinity e : ℕ) where
   reached : (es : List ℕ) → Memᴰ e (reaching infinity es) → Memᴰ e es × (e ≡ infinity → ⊥)
   unfolding reaching
-  reached [] m = absurd (mathlib.Core.List.Memᴰ.not_nil m)
+  reached [] m = absurd (mathlib.Core.List.Memᴰ.not-nil m)
   reached (c ∷ es) m =
       let later : Memᴰ e (reaching infinity es) → Memᴰ e (c ∷ es) × (e ≡ infinity → ⊥) =
       λ t. let r = reached es t in (mathlib.Core.List.Memᴰ.tail r.0, r.1) in
@@ -91,7 +91,7 @@ module _ (infinity e : ℕ) where
 
   reaches : (e ≡ infinity → ⊥) → (es : List ℕ) → Memᴰ e es → Memᴰ e (reaching infinity es)
   unfolding reaching
-  reaches n [] m = absurd (mathlib.Core.List.Memᴰ.not_nil m)
+  reaches n [] m = absurd (mathlib.Core.List.Memᴰ.not-nil m)
   reaches n (c ∷ es) m =
       of_choice (Memᴰ e) (eqb c infinity) _ _
       (λ q. ⊎_elim (λ z. absurd (n (z ∙ eqb-true c infinity q))) (reaches n es) (mathlib.Core.List.Memᴰ.cases_cons m))
@@ -112,7 +112,7 @@ module _ (n i d : ℕ) where
 
   from_one : (hs : List Held) → Memᴰ d (distances n hs i) → (h : Held) × Of hs h
   unfolding distances
-  from_one [] m = absurd (mathlib.Core.List.Memᴰ.not_nil m)
+  from_one [] m = absurd (mathlib.Core.List.Memᴰ.not-nil m)
   from_one (h ∷ hs) m =
       ⊎_elim (λ t. let r = reached h.table.infinity d _ t in (h, (mathlib.Core.List.Memᴰ.head refl, r.0, r.1)))
       (λ t. let r = from_one hs t in (r.0, (mathlib.Core.List.Memᴰ.tail r.1.0, r.1.1, r.1.2)))
@@ -120,7 +120,7 @@ module _ (n i d : ℕ) where
 
   by_one : (hs : List Held) (h : Held) → Of hs h → Memᴰ d (distances n hs i)
   unfolding distances
-  by_one [] h o = absurd (mathlib.Core.List.Memᴰ.not_nil o.0)
+  by_one [] h o = absurd (mathlib.Core.List.Memᴰ.not-nil o.0)
   by_one (g ∷ hs) h o =
       ⊎_elim
       (λ q. mathlib.Core.List.Memᴰ.append_left (distances n hs i) (reaches g.table.infinity d (rw q at o.2) _ (rw q at o.1)))

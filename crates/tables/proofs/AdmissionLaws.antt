@@ -32,7 +32,7 @@ module _ {A : Type 0} (f : A → Bool) where
       (either (f x) (any f xs) e)
 
   some-any : (xs : List A) (x : A) → Memᴰ x xs → f x ≡ true → any f xs ≡ true
-  some-any [] x m e = absurd (Memᴰ.not_nil m)
+  some-any [] x m e = absurd (Memᴰ.not-nil m)
   some-any (y ∷ ys) x m e =
       ⊎_elim (λ z. or_left (f y) (any f ys) (ap f (sym z) ∙ e))
       (λ z. or_right (f y) (any f ys) (some-any ys x z e))

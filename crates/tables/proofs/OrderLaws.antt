@@ -8,7 +8,6 @@ use lib.Dec.{eqb, leb}
 use lib.ListN.{length, length-take}
 use borrow.Author.Tests.{eqb-false, le-leb}
 use Rattle.tables.specs.declared.Table.{Table}
-use Rattle.tables.specs.Patch.{fits}
 use Rattle.tables.specs.Tables.{held_in, broken, running, ready, good_length, good_infinity, inside_run, between_runs}
 use Rattle.tables.specs.Tables.{within_limits, table_in_order}
 use Rattle.tables.specs.Updates.{place_in, size_in, numbers_in, is_last, reset_tests, turn_tests, good_reset, good_patch}
