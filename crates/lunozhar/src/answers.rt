@@ -9,24 +9,21 @@ use hits::reading::{HitCursor, HitHead, HitNext};
 use hits::writing::Responder;
 
 // What stands at the front of a hit's payload, and the cursor for its first result.
-#[unsafe(no_mangle)]
-pub extern "C" fn lunozhar_hit_begin(payload: &[u8]) -> HitHead
+pub fn lunozhar_hit_begin(payload: &[u8]) -> HitHead
     ensures { result ≡ beginning payload.now }
 {
     hits::reading::begin(payload)
 }
 
 // The next result of a hit, and the cursor moved on behind it.
-#[unsafe(no_mangle)]
-pub extern "C" fn lunozhar_hit_next(cursor: HitCursor, payload: &[u8]) -> HitNext
+pub fn lunozhar_hit_next(cursor: HitCursor, payload: &[u8]) -> HitNext
     ensures { result ≡ next_of cursor payload.now }
 {
     cursor.next(payload)
 }
 
 // The hit for a query that the station's own names give, at the front of the output.
-#[unsafe(no_mangle)]
-pub extern "C" fn lunozhar_write_hits<'a>(
+pub fn lunozhar_write_hits<'a>(
     query: &'a [u8],
     names: &'a [u8],
     sizes: &'a [u32],

@@ -80,8 +80,7 @@ fn survey_ring<'a>(
 }
 
 // A fresh state over a route area of so many bytes.
-#[unsafe(no_mangle)]
-pub extern "C" fn lunozhar_fresh_lent(
+pub fn lunozhar_fresh_lent(
     lo: &mut [u64; 512],
     hi: &mut [u64; 512],
     asker: &mut [u8; 512],
@@ -100,8 +99,7 @@ pub extern "C" fn lunozhar_fresh_lent(
 }
 
 // A line is opened.
-#[unsafe(no_mangle)]
-pub extern "C" fn lunozhar_open_lent<'a>(
+pub fn lunozhar_open_lent<'a>(
     lo: &'a [u64; 512],
     hi: &'a [u64; 512],
     asker: &'a [u8; 512],
@@ -124,8 +122,7 @@ pub extern "C" fn lunozhar_open_lent<'a>(
 }
 
 // A line is closed.
-#[unsafe(no_mangle)]
-pub extern "C" fn lunozhar_close_lent(
+pub fn lunozhar_close_lent(
     lo: &mut [u64; 512],
     hi: &mut [u64; 512],
     asker: &mut [u8; 512],
@@ -150,8 +147,7 @@ pub extern "C" fn lunozhar_close_lent(
 }
 
 // An arriving message.
-#[unsafe(no_mangle)]
-pub extern "C" fn lunozhar_message_lent(
+pub fn lunozhar_message_lent(
     lo: &mut [u64; 512],
     hi: &mut [u64; 512],
     asker: &mut [u8; 512],
@@ -194,8 +190,7 @@ pub extern "C" fn lunozhar_message_lent(
 }
 
 // Bytes as a line brings them, with the held area of that line.
-#[unsafe(no_mangle)]
-pub extern "C" fn lunozhar_feed_lent(
+pub fn lunozhar_feed_lent(
     lo: &mut [u64; 512],
     hi: &mut [u64; 512],
     asker: &mut [u8; 512],
@@ -244,8 +239,7 @@ pub extern "C" fn lunozhar_feed_lent(
 }
 
 // A query of this station's own.
-#[unsafe(no_mangle)]
-pub extern "C" fn lunozhar_ask_lent(
+pub fn lunozhar_ask_lent(
     lo: &mut [u64; 512],
     hi: &mut [u64; 512],
     asker: &mut [u8; 512],
@@ -278,8 +272,7 @@ pub extern "C" fn lunozhar_ask_lent(
 }
 
 // A number is looked up: who asked, and how many queries were remembered after it.
-#[unsafe(no_mangle)]
-pub extern "C" fn lunozhar_look_up_lent<'a>(
+pub fn lunozhar_look_up_lent<'a>(
     lo: &'a [u64; 512],
     hi: &'a [u64; 512],
     asker: &'a [u8; 512],
@@ -304,8 +297,7 @@ pub extern "C" fn lunozhar_look_up_lent<'a>(
 }
 
 // The table to send the neighbour of a line, at the front of the output.
-#[unsafe(no_mangle)]
-pub extern "C" fn lunozhar_table_for_lent<'a>(
+pub fn lunozhar_table_for_lent<'a>(
     lo: &'a [u64; 512],
     hi: &'a [u64; 512],
     asker: &'a [u8; 512],
@@ -334,8 +326,7 @@ pub extern "C" fn lunozhar_table_for_lent<'a>(
 }
 
 // Whether a station is in order.
-#[unsafe(no_mangle)]
-pub extern "C" fn lunozhar_in_order_lent<'a>(
+pub fn lunozhar_in_order_lent<'a>(
     lo: &'a [u64; 512],
     hi: &'a [u64; 512],
     asker: &'a [u8; 512],
@@ -355,8 +346,7 @@ pub extern "C" fn lunozhar_in_order_lent<'a>(
 }
 
 // The tally that is lent is brought up by one answer.
-#[unsafe(no_mangle)]
-pub extern "C" fn lunozhar_count(tally: &mut Tally, answer: u8)
+pub fn lunozhar_count(tally: &mut Tally, answer: u8)
     ensures { tally.new ≡ counted tally.old answer }
 {
     let old = *tally;

@@ -6,32 +6,28 @@ ghost use Rattle.nametable.specs.Table.{table_answer, table_out};
 use namearea::Found;
 
 // A name is added as the last.
-#[unsafe(no_mangle)]
-pub extern "C" fn lunozhar_name_add(area: &mut [u8], name: &[u8]) -> u8
+pub fn lunozhar_name_add(area: &mut [u8], name: &[u8]) -> u8
     ensures { Added area.old name.now result area.new }
 {
     namelist::changes::add(area, name)
 }
 
 // A name is removed.
-#[unsafe(no_mangle)]
-pub extern "C" fn lunozhar_name_remove(area: &mut [u8], name: &[u8]) -> u8
+pub fn lunozhar_name_remove(area: &mut [u8], name: &[u8]) -> u8
     ensures { Removed area.old name.now result area.new }
 {
     namelist::changes::remove(area, name)
 }
 
 // The place of a name.
-#[unsafe(no_mangle)]
-pub extern "C" fn lunozhar_name_find<'a>(area: &'a [u8], name: &'a [u8]) -> Found
+pub fn lunozhar_name_find<'a>(area: &'a [u8], name: &'a [u8]) -> Found
     ensures { result ≡ finding area.now name.now }
 {
     names::search::find(area, name)
 }
 
 // The table of the names, at the front of the output.
-#[unsafe(no_mangle)]
-pub extern "C" fn lunozhar_name_table(area: &[u8], size: u32, infinity: u8, out: &mut [u8]) -> u8
+pub fn lunozhar_name_table(area: &[u8], size: u32, infinity: u8, out: &mut [u8]) -> u8
     ensures answer { result ≡ table_answer area.now size infinity (length out.old) }
     ensures bytes { out.new ≡ table_out area.now size infinity out.old }
 {

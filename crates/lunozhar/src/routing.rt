@@ -8,8 +8,7 @@ use tablemessages::Written;
 use tablewriter::Wanted;
 
 // The messages that turn the old table, if there was one, into the new.
-#[unsafe(no_mangle)]
-pub extern "C" fn lunozhar_write_table<'a>(
+pub fn lunozhar_write_table<'a>(
     number: Number,
     had: bool,
     old: &'a [u8],
@@ -34,16 +33,14 @@ pub extern "C" fn lunozhar_write_table<'a>(
 }
 
 // The hash of a keyword.
-#[unsafe(no_mangle)]
-pub extern "C" fn lunozhar_hash(keyword: &[u8]) -> u32
+pub fn lunozhar_hash(keyword: &[u8]) -> u32
     ensures { result ≡ hash_of keyword.now }
 {
     keywords::hash::hash(keyword)
 }
 
 // The place of a keyword in a table of 2^bits entries.
-#[unsafe(no_mangle)]
-pub extern "C" fn lunozhar_place(keyword: &[u8], bits: u32) -> u32
+pub fn lunozhar_place(keyword: &[u8], bits: u32) -> u32
     ensures { result ≡ place_of bits keyword.now }
 {
     keywords::hash::place(keyword, bits)

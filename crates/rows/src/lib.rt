@@ -90,7 +90,7 @@ fn put_words(text: &[u8], area: &mut [u8], first: usize) -> usize {
     let mut slot: usize = 8;
     let mut at: usize = 0;
     while at < text.len() {
-        let next = bytes::scan::find(text, at + 1, text.len(), b' ');
+        let next = words::find(text, at + 1, b' ');
         end = decode::bytes(&text[at + 1..next], &mut *area, end);
         decode::put_number(&mut *area, slot, end);
         slot = slot % 16384 + 4;

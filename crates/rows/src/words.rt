@@ -1,12 +1,29 @@
 // Words of a text, and parts of it.
-ghost use Rattle.std.specs.Prelude.{◌≡◌, cond, ◌+◌, ◌≤◌, ltb, length, take, set};
-ghost use Rattle.rows.specs.Rows.{part};
+ghost use Rattle.std.specs.Prelude.{◌≡◌, cond, ◌+◌, ◌≤◌, ltb, length, take, drop, set};
+ghost use Rattle.rows.specs.Rows.{part, until};
 
 // The bytes from one place up to another, as far as the text has them.
 pub fn part(text: &[u8], from: usize, to: usize) -> &[u8]
     ensures { result.now ≡ part text.now from to }
 {
     ascii::after(ascii::front(text, to), from)
+}
+
+// Where a byte first stands from a place on, or the text's end.
+pub fn find(text: &[u8], from: usize, b: u8) -> usize
+    requires { from ≤ length text.now }
+    ensures first { result ≡ from + length (until b (drop from text.now)) }
+    ensures behind { from ≤ result }
+    ensures within { result ≤ length text.now }
+{
+    let mut at = from;
+    while at < text.len() {
+        if text[at] == b {
+            return at;
+        }
+        at += 1;
+    }
+    at
 }
 
 // Which of the names, with a space between, the text is; their number for none of them.
@@ -16,7 +33,7 @@ pub fn index(names: &[u8], text: &[u8]) -> usize
     let mut n: usize = 0;
     let mut at: usize = 0;
     while at < names.len() {
-        let end = bytes::scan::find(names, at, names.len(), b' ');
+        let end = find(names, at, b' ');
         if ascii::same(false, &names[at..end], text) {
             return n;
         }
