@@ -1,0 +1,2 @@
+-- Lemmas of the reading of rows.
+mod Until

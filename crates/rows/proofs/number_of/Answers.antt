@@ -1,0 +1,37 @@
+-- The digits that are left make the whole number of what was read.
+use Prim.Native.Nat.{ℕ, ◌+◌, ◌≤◌, ◌<◌}
+use mathlib.Core.Path.{◌≡◌, sym, ap, ◌∙◌}
+use mathlib.Core.List.{List}
+use native.Mathlib.Numerals.{add-one}
+use native.Mathlib.Omega.{arith}
+use lib.ListN.{length, get_or, drop, drop_of_length-le}
+use lib.Seq.{drop-cons}
+use borrow.Author.Rules.{rules}
+use Rattle.rows.specs.Rows.{more, decimal}
+use Rattle.rows.proofs.number_of.Goals as goal
+
+-- one digit is read
+decimal-next : (text : List ℕ) (i n : ℕ) → i < length text
+    → decimal (more n (get_or text i 0)) (drop (i + 1) text) ≡ decimal n (drop i text)
+unfolding decimal
+decimal-next text i n h = rw (add-one, drop-cons text i 0)
+
+-- none is left
+decimal-end : (text : List ℕ) (i n : ℕ) → length text ≤ i → decimal n (drop i text) ≡ n
+unfolding decimal
+decimal-end text i n h = rw drop_of_length-le
+
+pub loop-i-preserved : goal.loop-i-preserved
+loop-i-preserved c =
+    let text = c.args.text.now in
+    let i = c.loop-i.i in (
+      search rules,
+      ap (λ (n : ℕ). decimal n (drop (i + 1) text)) c.more-n.ensures
+          ∙ decimal-next text i c.loop-i.n (omega arith)
+          ∙ c.loop-i.invariant.1,
+    )
+
+pub returns : goal.returns
+returns c =
+    sym (decimal-end c.args.text.now c.loop-i.i c.loop-i.n (omega arith))
+    ∙ c.loop-i.invariant.1
