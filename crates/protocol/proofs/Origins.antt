@@ -22,7 +22,6 @@ use Rattle.protocol.specs.Memory.{Found, Absent, At, later, pick_found, find, is
 use Rattle.protocol.specs.Memory.{left}
 use Rattle.protocol.specs.Order.{in_order}
 use Rattle.protocol.specs.Outcomes.{Outcome}
-use Rattle.protocol.specs.Calls.{opening}
 use Rattle.protocol.specs.Runs.{Call, Made, World, outcome_of, step, run, start}
 use Rattle.protocol.specs.Kept.{Sized, Kept, asked, left_by, hit_by}
 use Rattle.protocol.specs.Demand2.{took, brought_number, brought_by, closed, got_hit, openings, Past, past}

@@ -87,12 +87,16 @@ found-alone f x (p ∷ ps) i a h e n =
         let z : i ≡ 0 = cc in
         let k = same_number_lem (f p).number x s in
         let w = not-true others (and_fst (not others) (no_twice (map f ps)) n) in
-        rw (z, s, eq-eqb p p refl)
-        (none-alone f x p ps (subst (λ v. any (λ q. same_number q.number v) (map f ps) ≡ false) k w))
+        let first : all (alone f x p) (p ∷ ps) ≡ true =
+        rw (s, eq-eqb p p refl)
+        (none-alone f x p ps (subst (λ v. any (λ q. same_number q.number v) (map f ps) ≡ false) k w)) in
+        subst (λ k. all (alone f x (get_or (p ∷ ps) k 0)) (p ∷ ps) ≡ true) (sym z) first
     by false s Absent g e = let z : ◌≡◌ {A = ℕ} 0 1 = cc in absurd (omega arith)
     by false s (At j b c) g e =
         let z : i ≡ suc j = cc in
-        rw (z, s) (g j (cc) (and_snd (not others) (no_twice (map f ps)) n))
+        let there : all (alone f x (get_or (p ∷ ps) (suc j) 0)) (p ∷ ps) ≡ true =
+        rw s (g j (cc) (and_snd (not others) (no_twice (map f ps)) n)) in
+        subst (λ k. all (alone f x (get_or (p ∷ ps) k 0)) (p ∷ ps) ≡ true) (sym z) there
 
 -- the ring whose query behind i others has had one hit more
 module _ (s : Station) (z : Sized s) (i : ℕ) where

@@ -1,7 +1,7 @@
 -- The updates of a line in its present opening, read off the log alone. What demand 3 makes of them, the quiet
 -- periods in which a table says nothing and the sum that each entry is, is said of any list of updates in crate
 -- tables. Nothing here mentions an expected table, a state or an area.
-use Rattle.std.specs.Prelude.{ℕ, Bool, true, false, cond, not, ◌&&◌, List, [], ◌∷◌, eqb}
+use Rattle.std.specs.Prelude.{ℕ, Bool, false, cond, not, ◌&&◌, List, [], ◌∷◌, eqb}
 use Rattle.wire.specs.Header.{payload_of}
 pub use Rattle.tables.specs.History.{Update, sum_at, before_reset, before_run, inside_run, spoiled, speaks}
 use Rattle.protocol.specs.Runs.{Call, Open, Close, Message, Ask, Made, unsent}

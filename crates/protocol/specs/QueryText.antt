@@ -1,6 +1,6 @@
 -- The text of a query (RULES 6.6) from outside: behind two bytes of speed, up to the first zero byte, whatever stands
 -- behind that. One way only to read a payload so, hence this fixes the text.
-use Rattle.std.specs.Prelude.{ℕ, ◌≡◌, true, false, ◌↔◌, List, [], ◌∷◌, ◌++◌, eqb, length}
+use Rattle.std.specs.Prelude.{ℕ, ◌≡◌, true, false, ◌↔◌, List, ◌∷◌, ◌++◌, eqb}
 use Rattle.laws.specs.Tests.{any}
 use Rattle.protocol.specs.Queries.{text_in, has_text}
 
