@@ -104,7 +104,7 @@ def clause_names():
     out = {}
     for f in glob.glob("crates/*/src/**/*.rt", recursive=True):
         t = open(f, encoding="utf-8").read()
-        for m in re.finditer(r"\bfn (\w+)[^{;]*?\)(?: -> [^\n{]*)?\n((?:    (?:requires|ensures)\*?[^\n]*\n(?:        [^\n]*\n|    \}\n)*)+)", t):
+        for m in re.finditer(r"\bfn (\w+)[^{]*?\)(?: -> [^\n{]*)?\n((?:    (?:requires|ensures)\*?[^\n]*\n(?:        [^\n]*\n|    \}\n)*)+)", t):
             for kind in ("requires", "ensures"):
                 names = re.findall(r"^    %s (\w+) \{" % kind, m.group(2), re.M)
                 if len(names) > 1:
@@ -150,30 +150,40 @@ class Env:
             if k < len(self.fn.params):
                 rest = ["args", self.fn.params[k]] + rest[2:]
             return rest, place
-        if step in ("args", "requires", "ranges", "utf8", "type_inv", "lifetimes"):
+        top = {norm(n): n for n in ("args", "requires", "ranges", "utf8", "type_inv", "lifetimes", "well_formed")}
+        if norm(step) in top:
+            rest = [top[norm(step)]] + rest[1:]
+            if rest[0] == "requires" and len(rest) > 1 and rest[1].isdigit():
+                named = CLAUSES.get((self.fn.name, "requires"))
+                if named and int(rest[1]) < len(named):
+                    rest[1] = named[int(rest[1])]
             return rest, place
-        for q in self.fn.chain(place):
-            p = self.fn.places[q]
-            if p["old"] and norm(p["old"]) == norm(step):
-                rest = [p["new"]] + rest[1:]
-                if rest[1:2] == ["inv"]:
-                    rest[1] = "invariant"
-                if rest[1:2] == ["ensures"] and len(rest) > 2 and rest[2].isdigit() and p["callee"]:
-                    named = CLAUSES.get((p["callee"].split("::")[-1], "ensures"))
-                    if named and int(rest[2]) < len(named):
-                        rest[2] = named[int(rest[2])]
-                return rest, place
-        for q in self.fn.chain(place):
-            p = self.fn.places[q]
-            if p["new"] and norm(p["new"]) == norm(step):
-                return [p["new"]] + rest[1:], place
+        # upwards from the place; then, since fewer steps lead up to it than did, from where the variable stands
+        whole = self.fn.chain(self.ctx[root][1])
+        for same in (lambda a, b: norm(a) == norm(b), lambda a, b: norm(a).lower() == norm(b).lower()):
+            for chain in (self.fn.chain(place), whole[: whole.index(place)][::-1] if place in whole else []):
+                for q in chain:
+                    p = self.fn.places[q]
+                    if p["old"] and same(p["old"], step):
+                        rest = [p["new"]] + rest[1:]
+                        if rest[1:2] == ["inv"]:
+                            rest[1] = "invariant"
+                        if rest[1:2] == ["ensures"] and len(rest) > 2 and rest[2].isdigit() and p["callee"]:
+                            named = CLAUSES.get((p["callee"].split("::")[-1], "ensures"))
+                            if named and int(rest[2]) < len(named):
+                                rest[2] = named[int(rest[2])]
+                        return rest, place
+                for q in chain:
+                    p = self.fn.places[q]
+                    if p["new"] and same(p["new"], step):
+                        return [p["new"]] + rest[1:], place
         self.said.append(f"no step {step} at {place}")
         return rest, place
 
     def path(self, root, parts):
         r, place = self.vars[root]
         base = self.ctx[r][0]
-        rest, p = self.walk(root, place, parts)
+        rest, p = self.walk(r, place, parts)
         if rest is None:
             return None, p
         return base + "." + ".".join(rest), None
@@ -216,7 +226,7 @@ class Env:
             h, v, chain, tail = m.group(1), m.group(2), m.group(3), m.group(4)
             if h not in self.results or v not in self.vars:
                 return m.group(0)
-            rest, place = self.walk(v, self.results[h], [x for x in tail.split(".") if x])
+            rest, place = self.walk(self.vars[v][0], self.results[h], [x for x in tail.split(".") if x])
             base = self.ctx[self.vars[v][0]][0]
             if rest is None:
                 return self.at(v, place)
@@ -307,6 +317,7 @@ def convert(path, fn, said):
         return
     invs, answers, places = [], [], set()
     results = {}
+    asks = {}
     inv_names = {}
     for chunk in body_chunks:
         com = [l for l in chunk if l.startswith("--")]
@@ -434,6 +445,8 @@ def convert(path, fn, said):
                 continue
             cv = clause_args[n_args] if n_args < len(clause_args) else (v or "c")
             env.ctx[v or cv] = (v or cv, p, fn.places[p]["name"])
+            if n_args == 0 and typ[:at].strip() == "":
+                asks[name] = fn.places[p]["name"]
             env.vars[v or cv] = (v or cv, p)
             if v and cv != v:
                 env.ctx[cv] = (cv, p, fn.places[p]["name"])
@@ -464,6 +477,10 @@ def convert(path, fn, said):
         for s in env.said + env2.said:
             said.append((path, name + ": " + s))
         answers.append("\n".join(com + [head_ + tail_]) + ("\n" + unf if unf else "") + (f"\n{name}{cm.group(1)}={val}" if cm else ""))
+    # a helper is given the place that it asks for
+    for h, pl in asks.items():
+        answers = [re.sub(r"(?<![^\s(])%s (\(goal\.at\.\S+ \S+\))\.[A-Z]\S*?(?=[\s)])" % re.escape(h), lambda m: f"{h} {m.group(1)}.{pl}", a) for a in answers]
+    places = {p for p in places if any(re.search(r"(?<![\w-])" + re.escape(p) + r"(?![\w-])", re.sub(r"\)\.\S+", "", a)) for a in answers)}
     folder = os.path.dirname(path)
     top = "\n".join(comments)
     usetext = "\n".join(kept_uses)
@@ -513,6 +530,7 @@ def main():
         try:
             fn = Fn(names[key])
             fn.params = parameters(crate, rel)
+            fn.name = rel.split(".")[-1]
             convert(p, fn, said)
         except Exception as e:  # one file that is not understood stays as it is
             said.append((p, f"error {type(e).__name__}: {e}"))
