@@ -1,0 +1,15 @@
+-- The pairs left may all be listed exactly where all may.
+use Prim.Native.Nat.{◌≤◌, ◌-◌}
+use mathlib.Core.Path.{◌≡◌}
+use lib.ListN.{drop}
+use Rattle.laws.specs.Tests.{all}
+use Rattle.namearea.specs.Area.{spans_of}
+use Rattle.namearea.specs.Good.{listable}
+use Rattle.names.proofs.order.all_listable.Given as goal
+
+abbrev pub invariant-loop-i : goal.invariant-loop-i
+invariant-loop-i l =
+    (l.i ≤ l.count) × (all (listable l.area) (drop l.i (spans_of l.count l.area)) ≡ all (listable l.area) (spans_of l.count l.area))
+
+abbrev pub decreases-loop-i : goal.decreases-loop-i
+decreases-loop-i l = l.count - l.i
