@@ -5,7 +5,7 @@ use native.Mathlib.Omega.{arith}
 use mathlib.Core.Path.{◌≡◌, refl, sym, ap, ◌∙◌}
 use mathlib.Core.Bool.{Bool, true, false, not, ◌||◌, false≢true}
 use mathlib.Core.Logic.{inl}
-use mathlib.Core.List.{List, [], ◌∷◌, ◌++◌}
+use mathlib.Core.List.{List, [], ◌∷◌}
 use lib.Dec.{eqb, ltb}
 use lib.ListN.{length}
 use borrow.Author.Tests.{eqb-false, eq-eqb, ltb-false, not-true}
@@ -23,7 +23,7 @@ use Rattle.protocol.proofs.Kept.{order-kept-by-lists, fresh_in_order}
 use Rattle.protocol.proofs.Exactly.{exactly}
 use Rattle.receiving.specs.Feeding.{extent_of, held_bytes, starts, held_size}
 use Rattle.receiving.specs.Events.{Event, Plain, Feed, HeldArea, AsLeft, Lent, Receiver, world_of, lent_held, fed_by}
-use Rattle.receiving.specs.Events.{handle, handle_all, begin, FairHeld, reply_to, FairEvent, FairEvents}
+use Rattle.receiving.specs.Events.{handle, handle_all, begin, FairHeld, reply_to, FairEvent}
 use Rattle.receiving.specs.Frames.{NeverOne}
 use Rattle.receiving.proofs.ByCase.{typed-other, of_feed}
 use Rattle.receiving.proofs.CallsLeave.{feed-leaves}

@@ -1,6 +1,6 @@
 -- One call that brings bytes, from outside: where the message that was taken stands, and what is held then.
 -- Assumes nothing.
-use Prim.Native.Nat.{ℕ, zero, suc, ◌+◌, ◌-◌, ◌≤◌, ◌<◌}
+use Prim.Native.Nat.{ℕ, zero, suc, ◌+◌, ◌-◌}
 use native.Mathlib.Omega.{arith}
 use mathlib.Core.Path.{◌≡◌, refl, sym, ap, ◌∙◌}
 use mathlib.Core.Bool.{Bool, true, false, cond}
@@ -9,7 +9,7 @@ use mathlib.Core.List.{List, [], ◌∷◌, ◌++◌}
 use lib.Dec.{ltb}
 use lib.ListN.{length, get_or, set, take}
 use lib.Seq.{length-take-le}
-use borrow.Author.Tests.{ltb-true, ltb-false}
+use borrow.Author.Tests.{ltb-false}
 use Rattle.laws.specs.Parts.{over}
 use Rattle.laws.proofs.Refusals.{clash}
 use Rattle.wire.specs.Header.{size_of}
@@ -18,9 +18,9 @@ use Rattle.protocol.specs.Lines.{nowhere}
 use Rattle.protocol.specs.State.{Station, line_at}
 use Rattle.protocol.specs.Outcomes.{Terms}
 use Rattle.protocol.proofs.Matching.{line_set}
-use Rattle.receiving.specs.Feeding.{Fed, extent_of, size_at_front, front_of, held_bytes, holding, shut_line, on_line}
+use Rattle.receiving.specs.Feeding.{Fed, extent_of, size_at_front, front_of, held_bytes, shut_line}
 use Rattle.receiving.specs.Events.{unread}
-use Rattle.receiving.specs.Calls.{in_all, held_count, fed, Taken, Places, FeedPlaces}
+use Rattle.receiving.specs.Calls.{in_all, held_count, fed, Places, FeedPlaces}
 use Rattle.receiving.proofs.Extents.{front-past, front-splits}
 use Rattle.receiving.proofs.Cases.{Passed, ByType, outcome}
 use Rattle.receiving.proofs.ByCase.{of_feed, of_over, of_whole, typed-read, typed-other}

@@ -5,7 +5,7 @@ use Rattle.laws.specs.Tests.{first_of}
 use Rattle.wire.specs.Header.{size_of}
 use Rattle.protocol.specs.State.{Station, line_at}
 use Rattle.protocol.specs.Order.{in_order}
-use Rattle.protocol.specs.Outcomes.{Terms, Outcome, quiet, hands_up}
+use Rattle.protocol.specs.Outcomes.{Terms, quiet, hands_up}
 use Rattle.protocol.specs.Blind.{type_rules, unnamed}
 use Rattle.protocol.specs.Kept.{Sized, Kept, after_refusal}
 use Rattle.receiving.specs.Feeding.{Fed, feed_rules, starts, held_bytes, joined, front_of, holding, shut_line, on_line, waiting}

@@ -1,10 +1,9 @@
 -- However a line's bytes are cut, the answers, the bytes sent and the state at the end, held bytes and shut marks aside,
 -- are those of whole messages, each with the clock, the own pong and the areas of the call that brought its last byte,
 -- in the order in which they were completed.
-use Rattle.std.specs.Prelude.{ℕ, ◌≡◌, true, false, List, []}
-use Rattle.protocol.specs.Outcomes.{Terms}
-use Rattle.protocol.specs.Runs.{Area, World, run}
-use Rattle.receiving.specs.Events.{HeldArea, Event, Feed, Receiver, world_of, calls_of, reply_to, handle, handle_all, wholes}
+use Rattle.std.specs.Prelude.{◌≡◌, List, []}
+use Rattle.protocol.specs.Runs.{run}
+use Rattle.receiving.specs.Events.{Event, Receiver, world_of, calls_of, reply_to, handle, handle_all, wholes}
 use Rattle.receiving.specs.Bare.{bare, bare_world}
 
 -- any list, from anywhere: state, route area, and the log of calls with their outcomes

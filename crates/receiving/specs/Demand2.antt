@@ -1,7 +1,7 @@
 -- Demand 2 over lists that also bring bytes as the line does: each message is routed as the base has it (protocol,
 -- specs/Demand2), with the call that brought its last byte. Held bytes and shut marks are aside in it: the state before
 -- and the outcome are read bare.
-use Rattle.std.specs.Prelude.{ℕ, ◌<◌, ◌≡◌, true, false, ◌⊎◌, List, [], ◌∷◌, ◌++◌, length, get_or}
+use Rattle.std.specs.Prelude.{ℕ, ◌<◌, ◌≡◌, true, false, ◌⊎◌, List, [], ◌∷◌, ◌++◌, get_or}
 use Rattle.wire.specs.Header.{kind_of}
 use Rattle.protocol.specs.State.{Station, remembered, line_at}
 use Rattle.protocol.specs.Memory.{capacity, Number, Query, number_in}

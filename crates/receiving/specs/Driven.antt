@@ -1,8 +1,8 @@
 -- However a line's bytes are cut, literally: scraps are handed over one after the other, each until it is used up. The
 -- messages are those of the bytes joined, whatever the scraps are, and each has the terms of the scrap with its last
 -- byte.
-use Rattle.std.specs.Prelude.{ℕ, zero, suc, ◌+◌, ◌≤◌, ◌≡◌, Bool, true, false, List, [], ◌∷◌, ◌++◌, map, length, drop}
-use Rattle.protocol.specs.State.{Station, line_at}
+use Rattle.std.specs.Prelude.{ℕ, zero, suc, ◌+◌, ◌≤◌, ◌≡◌, true, false, List, [], ◌∷◌, ◌++◌, map, length, drop}
+use Rattle.protocol.specs.State.{line_at}
 use Rattle.protocol.specs.Order.{in_order}
 use Rattle.protocol.specs.Outcomes.{Terms}
 use Rattle.protocol.specs.Runs.{Call, Open, Close, Message, Ask, Same, run}

@@ -1,6 +1,6 @@
 -- Lists of calls of every kind, those that bring bytes among them, and what they leave: the state, the route area, each
 -- line's held area, and the log of all, the newest first. What a list comes to in whole-message calls.
-use Rattle.std.specs.Prelude.{ℕ, ◌<◌, Bool, true, false, cond, ◌||◌, List, [], ◌∷◌, ◌++◌, eqb, length}
+use Rattle.std.specs.Prelude.{ℕ, ◌<◌, Bool, cond, ◌||◌, List, [], ◌∷◌, ◌++◌, eqb, length}
 use Rattle.laws.specs.Tests.{any}
 use Rattle.protocol.specs.State.{Station, line_at}
 use Rattle.protocol.specs.Outcomes.{Terms, Outcome}

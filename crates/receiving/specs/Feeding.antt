@@ -7,7 +7,6 @@ use Rattle.std.specs.Prelude.{ℕ, ◌+◌, ◌-◌, Bool, true, false, cond, no
 use Rattle.laws.specs.Tests.{first_of}
 use Rattle.laws.specs.Parts.{over}
 use Rattle.wire.specs.Header.{header_size, largest_message, size_of}
-use Rattle.protocol.specs.declared.Pending.{Pending}
 use Rattle.protocol.specs.declared.Line.{Line}
 use Rattle.protocol.specs.Lines.{with_pending}
 use Rattle.protocol.specs.State.{Station, line_at, with_line}

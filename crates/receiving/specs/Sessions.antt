@@ -6,12 +6,12 @@ use Rattle.laws.specs.Tests.{all}
 use Rattle.wire.specs.Header.{header, message}
 use Rattle.tables.specs.Tables.{none, waiting as waits, settled, broken}
 use Rattle.protocol.specs.Lines.{with_pending, pinged_at}
-use Rattle.protocol.specs.State.{Station, line_at, with_line}
+use Rattle.protocol.specs.State.{line_at, with_line}
 use Rattle.protocol.specs.Outcomes.{Terms, terms_of, only_to}
 use Rattle.protocol.specs.Calls.{fresh}
-use Rattle.protocol.specs.Runs.{Call, Open, Close, Message, Ask, Same, Other}
+use Rattle.protocol.specs.Runs.{Open, Close, Message, Same, Other}
 use Rattle.receiving.specs.Feeding.{waiting}
-use Rattle.receiving.specs.Events.{HeldArea, AsLeft, Lent, Event, Plain, Feed, Receiver, reply_to, used_by, handle, handle_all}
+use Rattle.receiving.specs.Events.{AsLeft, Lent, Event, Plain, Feed, Receiver, reply_to, used_by, handle, handle_all}
 use Rattle.receiving.specs.Events.{begin}
 
 -- a call with a clock, and an output area of so many bytes
