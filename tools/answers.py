@@ -115,6 +115,19 @@ def clause_names():
 CLAUSES = {}
 
 
+def named_places(rest, callee):
+    """`.new.1.0` and `.auto.1.0` of a call, by the callee's parameter."""
+    if not callee or len(rest) < 3 or rest[1] not in ("new", "auto"):
+        return rest
+    k = 2
+    while k < len(rest) and rest[k] == "1":
+        k += 1
+    names = parameters(*callee.split("::", 1)) if "::" in callee else []
+    if k == len(rest) or rest[k] != "0" or k - 2 >= len(names):
+        return rest
+    return rest[:2] + [names[k - 2]] + rest[k + 1 :]
+
+
 class Env:
     """Variables that stand for a place: name -> (root variable, place)."""
 
@@ -172,7 +185,7 @@ class Env:
                             named = CLAUSES.get((p["callee"].split("::")[-1], "ensures"))
                             if named and int(rest[2]) < len(named):
                                 rest[2] = named[int(rest[2])]
-                        return rest, place
+                        return named_places(rest, p["callee"]), place
                 for q in chain:
                     p = self.fn.places[q]
                     if p["new"] and same(p["new"], step):
@@ -187,6 +200,24 @@ class Env:
         if rest is None:
             return None, p
         return base + "." + ".".join(rest), None
+
+    def callee(self, name, parts):
+        """The function that a path's last part calls."""
+        rest, _ = self.walk(self.vars[name][0], self.vars[name][1], parts)
+        if not rest or len(rest) > 1:
+            return None
+        return next((p["callee"] for p in self.fn.places.values() if p["new"] == rest[0] and p["callee"]), None)
+
+    def by_name(self, name, callee, text):
+        """`x.new.1.0`, `x.auto.1.0` and `x.ensures.1` by their names, where x is a call."""
+        def one(m):
+            rest = m.group(1).split(".")
+            if rest[0] == "ensures":
+                named = CLAUSES.get((callee.split("::")[-1], "ensures"))
+                return f"{name}.ensures.{named[int(rest[1])]}" if named and int(rest[1]) < len(named) else m.group(0)
+            return name + "." + ".".join(named_places([""] + rest, callee)[1:])
+
+        return re.sub(r"(?<![\w.'-])%s\.((?:new|auto)(?:\.[01])+|ensures\.\d+)(?![\w'-])" % re.escape(name), one, text)
 
     def turn(self, text):
         # lets that name a place go, in their order
@@ -218,6 +249,10 @@ class Env:
                 text = text[: m.start()] + re.sub(r"^\n\s*", "", text[m.start() :])
                 pos = m.start()
             else:
+                if pm and pm.group(1) in self.vars and pm.group(2):
+                    callee = self.callee(pm.group(1), [x for x in pm.group(2).split(".") if x])
+                    if callee:
+                        text = text[: m.end()] + self.by_name(name, callee, text[m.end() :])
                 if name in self.vars:
                     del self.vars[name]
                 pos = m.start() + 4
@@ -271,7 +306,7 @@ def plain_tests(val):
 
 def parameters(crate, rel):
     """The names of a function's parameters, in order."""
-    parts = rel.split(".")
+    parts = rel.replace("::", ".").split(".")
     name = parts[-1]
     for f in glob.glob(f"crates/{crate}/src/**/*.rt", recursive=True):
         mod = os.path.splitext(os.path.relpath(f, f"crates/{crate}/src"))[0].replace("/", ".")
