@@ -9,22 +9,21 @@ use lib.Dec.{eqb, leb}
 use lib.ListN.{length, take, drop, drop_of_length-le}
 use lib.Seq.{drop-length}
 use borrow.Author.Tests.{eqb-true, leb-true, leb-false}
-use Rattle.bytes.specs.Bytes.{index_of, index_after}
+use Rattle.std.specs.List.{position_or_len}
+use Rattle.std.proofs.lemmas.List.Recursion.{is_position_or_len}
 use Rattle.ascii.specs.Text.{onto, pieces, filled}
 use Rattle.xtry.specs.Pairs.{comma, space, is_comma, bare, after_commas, items_of, up_to, past}
 
 -- ---- what stands before the first s, and what after it
 
--- the kit's index of a byte
-pub index-up_to : (s : ℕ) (text : List ℕ) → index_of s text ≡ length (up_to s text)
-unfolding index_of index_after up_to
-index-up_to s [] = refl
-index-up_to s (b ∷ bs) = go (eqb b s) (index-up_to s bs)
+-- the index of the first s, by the library's word, and the length where there is none
+pub index-up_to : (s : ℕ) (text : List ℕ) → position_or_len (λ b. eqb b s) text ≡ length (up_to s text)
+unfolding up_to
+index-up_to s text = sym (is_position_or_len (λ xs. length (up_to s xs)) (λ b. eqb b s) refl (λ b bs. go (eqb b s) b bs) text)
   where
-    go : (t : Bool) → index_of s bs ≡ length (up_to s bs) → index_after t (index_of s bs)
-        ≡ length (cond t [] (b ∷ up_to s bs))
-    go true h = refl
-    go false h = ap suc h
+    go : (t : Bool) (b : ℕ) (bs : List ℕ) → length (cond t [] (b ∷ up_to s bs)) ≡ cond t 0 (1 + length (up_to s bs))
+    go true b bs = refl
+    go false b bs = omega arith
 
 pub up_to-take : (s : ℕ) (text : List ℕ) → up_to s text ≡ take (length (up_to s text)) text
 unfolding up_to

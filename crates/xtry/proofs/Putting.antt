@@ -1,9 +1,10 @@
 -- Laws of texts put over an area one after the other.
 use Prim.Native.Nat.{ℕ, ◌+◌, ◌-◌, ◌≤◌, ◌<◌}
-use mathlib.Core.Path.{◌≡◌, ap, ◌∙◌}
+use mathlib.Core.Path.{◌≡◌, sym, ap, ◌∙◌}
 use mathlib.Core.List.{List, ◌∷◌, ◌++◌, append_assoc}
 use native.Mathlib.Omega.{arith}
 use lib.ListN.{length, take, drop, set, length-append}
+use lib.Seq.{drop-drop}
 use borrow.Rule.Slice.PartMut.{put_mid}
 use Rattle.laws.specs.Parts.{over, Put}
 use Rattle.laws.proofs.Text.{over-set, put_then}
@@ -29,6 +30,21 @@ put-led n at lead d area ys e h k =
       written =
           over-copied (at + 1) (take d.size d.bytes) (set area at lead) ys k
           ∙ ap (λ x. over (at + 1) x (set area at lead)) (spelled n e)
+          ∙ over-set at lead (decimal n) area h;
+      moved = omega (arith, spelled-size n e, ap length (spelled n e));
+    }
+
+-- the same where the part that is lent is as long as the digits
+pub put-led_whole : (n at lead k : ℕ) (d : Digits) (area ys : List ℕ) → d ≡ digits_for n → at < length area
+    → k ≡ d.size → ys ≡ take d.size d.bytes
+    → Put at (lead ∷ decimal n) area (put_mid (at + 1) k (set area at lead) ys) (at + 1 + d.size)
+put-led_whole n at lead k d area ys e h s y =
+    let m : k ≡ length ys = s ∙ sym (spelled-size n e) ∙ ap length (sym y) in
+    record {
+      written =
+          ap (λ z. take (at + 1) (set area at lead) ++ (ys ++ z))
+          (drop-drop k (at + 1) (set area at lead) ∙ ap (λ j. drop (at + 1 + j) (set area at lead)) m)
+          ∙ ap (λ x. over (at + 1) x (set area at lead)) (y ∙ spelled n e)
           ∙ over-set at lead (decimal n) area h;
       moved = omega (arith, spelled-size n e, ap length (spelled n e));
     }

@@ -1,5 +1,5 @@
 -- Pairs in text, as X-Try lists them (RULES 15.13, 15.14).
-use Rattle.std.specs.Prelude.{ℕ, ◌+◌, Bool, cond, not, ◌&&◌, List, [], ◌∷◌, ◌++◌, map, eqb, leb, length, take, get_or}
+use Rattle.std.specs.Prelude.{ℕ, Bool, cond, not, ◌&&◌, List, [], ◌∷◌, ◌++◌, map, eqb, leb, length, take, get_or}
 use Rattle.laws.specs.Tests.{all}
 use Rattle.laws.specs.Parts.{over}
 use Rattle.digits.specs.Decimal.{decimal}

@@ -7,7 +7,7 @@ pub mod write;
 
 // The address of a host in network order, and its port.
 #[repr(C)]
-#[derive(Drop)]
+#[derive(Clone, Copy)]
 pub struct Pair {
     pub address: [u8; 4],
     pub port: u16,

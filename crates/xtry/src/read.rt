@@ -34,7 +34,7 @@ struct Taken {
 fn find(text: &[u8], b: u8) -> usize
     ensures { result ≡ length (up_to b text.now) }
 {
-    bytes::scan::find(text, 0, text.len(), b)
+    text.iter().position(|x| *x == b).unwrap_or(text.len())
 }
 
 // The number of a text of one to `widest` digits.

@@ -21,7 +21,7 @@ fn put_number(out: &mut [u8], at: usize, lead: u8, n: u16) -> usize
     let spelled = digits.bytes;
     out[at] = lead;
     let from = at + 1;
-    bytes::copy(&spelled[..size], &mut out[from..]);
+    out[from..from + size].copy_from_slice(&spelled[..size]);
     from + size
 }
 
