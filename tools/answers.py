@@ -514,7 +514,7 @@ def convert(path, fn, said):
         answers.append("\n".join(com + [head_ + tail_]) + ("\n" + unf if unf else "") + (f"\n{name}{cm.group(1)}={val}" if cm else ""))
     # a helper is given the place that it asks for
     for h, pl in asks.items():
-        answers = [re.sub(r"(?<![^\s(])%s (\(goal\.at\.\S+ \S+\))\.[A-Z]\S*?(?=[\s)])" % re.escape(h), lambda m: f"{h} {m.group(1)}.{pl}", a) for a in answers]
+        answers = [re.sub(r"(?<![^\s(])%s (\(goal\.at\.\S+ \S+\))\.[A-Z][^\s,;)]*" % re.escape(h), lambda m: f"{h} {m.group(1)}.{pl}", a) for a in answers]
     places = {p for p in places if any(re.search(r"(?<![\w-])" + re.escape(p) + r"(?![\w-])", re.sub(r"\)\.\S+", "", a)) for a in answers)}
     folder = os.path.dirname(path)
     top = "\n".join(comments)
