@@ -1,0 +1,11 @@
+-- Each turn moves the next text.
+use Prim.Native.Nat.{◌-◌}
+use lib.ListN.{length}
+use Rattle.namelist.proofs.GapLaws.{Turn}
+use Rattle.namelist.proofs.gaps.close_gaps.Given as goal
+
+abbrev pub invariant-loop-count : goal.invariant-loop-count
+invariant-loop-count l = Turn l.initial.area l.area l.rising l.i l.from l.to
+
+abbrev pub decreases-loop-count : goal.decreases-loop-count
+decreases-loop-count l = length l.initial.area - l.from
