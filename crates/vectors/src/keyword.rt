@@ -2,10 +2,11 @@
 use crate::print;
 use keywords::cut::Cut;
 use rows::words;
+use std::io;
 
-pub(crate) fn place(keyword: &[u8], bits: u32) {
+fn place(rt: &impl Print, keyword: &[u8], bits: u32) -> io::Result<()> {
     let n = keywords::hash::place(keyword, bits);
-    print::number(n as u64);
+    print::number(rt, u64::from(n))
 }
 
 // The first keyword from a place on.
@@ -21,8 +22,7 @@ fn next(text: &[u8], at: usize) -> Cut {
 fn starts(text: &[u8], area: &mut [u8]) -> usize {
     let mut count: usize = 0;
     let mut at: usize = 0;
-    let mut i: usize = 0;
-    while i < 256 {
+    for _ in 0..256 {
         let cut = next(text, at);
         count = print::noted(
             cut.start < cut.end,
@@ -31,22 +31,21 @@ fn starts(text: &[u8], area: &mut [u8]) -> usize {
             (cut.start % 256) as u8,
         );
         at = cut.end;
-        i += 1;
     }
     count
 }
 
-fn cuts(text: &[u8]) {
+fn cuts(rt: &impl Print, text: &[u8]) -> io::Result<()> {
     let mut area = [0u8; 256];
     let n = starts(text, &mut area);
-    print::number(n as u64);
-    print::list(&area, n, b',');
+    print::number(rt, n as u64)?;
+    print::list(rt, &area, n, b',')
 }
 
-pub(crate) fn values(kind: usize, row: &[u8]) {
+pub(crate) fn values(rt: &impl Print, kind: usize, row: &[u8]) -> io::Result<()> {
     match kind {
-        0 => place(rows::word(row, 0, 1), rows::number(row, 0, 0)),
-        1 => cuts(rows::word(row, 0, 0)),
-        _ => place(rows::word(row, 0, 0), 13),
+        0 => place(rt, rows::word(row, 0, 1), rows::number(row, 0, 0)),
+        1 => cuts(rt, rows::word(row, 0, 0)),
+        _ => place(rt, rows::word(row, 0, 0), 13),
     }
 }

@@ -1,14 +1,15 @@
 // A row for each line of the input: its first word says which kind.
 ghost use Rattle.std.specs.Prelude.{◌≡◌, length};
 
-use crate::{calls, keyword, lists, pairs, print, sessions, updates};
+use crate::{answers, calls, keyword, lists, pairs, print, sessions, updates};
 use rows::words;
+use std::io;
 
 // Room for the input, and for the bytes of a row.
-pub(crate) fn room() -> [u8; 98304]
-    ensures { 98304 ≡ length result }
+pub(crate) fn room() -> [u8; 131072]
+    ensures { 131072 ≡ length result }
 {
-    [0; 98304]
+    [0; 131072]
 }
 
 // Room for what is written, which is a session's text at the longest.
@@ -21,7 +22,7 @@ fn text_room() -> [u8; 118784]
 // Where the word behind the space at this place ends.
 fn after(line: &[u8], at: usize) -> usize {
     if at < line.len() {
-        return bytes::scan::find(line, at + 1, line.len(), b' ');
+        return words::find(line, at + 1, b' ');
     }
     line.len()
 }
@@ -46,86 +47,88 @@ fn skipped(kind: usize, one: usize, two: usize, four: usize) -> usize {
 
 // What a row begins with: its kind, which is `case` for `casehash` and `session` for `file`, its label, and words that
 // are shown again.
-fn head(kind: usize, line: &[u8], one: usize, end: usize) {
+fn head(rt: &impl Print, kind: usize, line: &[u8], one: usize, end: usize) -> io::Result<()> {
     match kind {
-        11 => {
-            io::write_all(1, b"case");
-        }
-        13 => {
-            io::write_all(1, b"session");
-        }
-        _ => {
-            io::write_all(1, words::part(line, 0, one));
-        }
+        11 => rt.write_all(b"case")?,
+        13 => rt.write_all(b"session")?,
+        _ => rt.write_all(words::part(line, 0, one))?,
     }
-    io::write_all(1, words::part(line, one, end));
+    rt.write_all(words::part(line, one, end))
 }
 
-fn values(kind: usize, label: &[u8], row: &[u8], out: &mut [u8]) {
+fn values(
+    rt: &impl Print,
+    kind: usize,
+    label: &[u8],
+    row: &[u8],
+    out: &mut [u8],
+) -> io::Result<()> {
     match kind {
-        0 | 1 | 11 => keyword::values(kind, row),
-        2 | 3 | 4 | 5 => updates::values(kind, row, out),
-        6 | 7 | 8 | 9 => pairs::values(kind, row, out),
-        12 | 13 => sessions::values(kind, label, row, out),
-        16 => calls::look(row, out),
-        17 => lists::values(row),
-        18 => calls::relay(row, out),
-        _ => calls::values(kind, row, out),
+        0 | 1 | 11 => keyword::values(rt, kind, row),
+        2 | 3 | 4 | 5 => updates::values(rt, kind, row, out),
+        6 | 7 | 8 | 9 => pairs::values(rt, kind, row, out),
+        12 | 13 => sessions::values(rt, kind, label, row, out),
+        16 => calls::look(rt, row, out),
+        17 => lists::values(rt, row),
+        18 => calls::relay(rt, row, out),
+        19 | 20 | 21 => answers::values(rt, kind, row, out),
+        _ => calls::values(rt, kind, row, out),
     }
 }
 
-fn read(kind: usize, label: &[u8], text: &[u8]) {
+fn read(rt: &impl Print, kind: usize, label: &[u8], text: &[u8]) -> io::Result<()> {
     let mut area = room();
     let n = rows::read(text, &mut area);
     let mut out = text_room();
-    values(kind, label, words::part(&area, 0, n), &mut out);
+    values(rt, kind, label, words::part(&area, 0, n), &mut out)
 }
 
-fn row(kind: usize, line: &[u8], one: usize) {
+fn row(rt: &impl Print, kind: usize, line: &[u8], one: usize) -> io::Result<()> {
     let two = after(line, one);
     let three = after(line, two);
     let four = after(line, three);
-    head(kind, line, one, shown(kind, two, three, four));
+    head(rt, kind, line, one, shown(kind, two, three, four))?;
     let text = words::part(line, skipped(kind, one, two, four), line.len());
-    read(kind, words::part(line, one, two), text);
-    print::mark(b'\n');
+    read(rt, kind, words::part(line, one, two), text)?;
+    print::mark(rt, b'\n')
 }
 
 // A line of no kind is shown, unless it is empty or begins with `#`.
-fn unread(line: &[u8]) {
+fn unread(rt: &impl Print, line: &[u8]) -> io::Result<()> {
     if ascii::same(false, words::part(line, 0, 1), b"#") {
-        return;
+        return Ok(());
     }
     if line.len() == 0 {
-        return;
+        return Ok(());
     }
-    io::write_all(1, b"unread ");
-    io::write_all(1, line);
-    print::mark(b'\n');
+    rt.write_all(b"unread ")?;
+    rt.write_all(line)?;
+    print::mark(rt, b'\n')
 }
 
 fn kind_of(name: &[u8]) -> usize {
     words::index(
-        b"place keywords update withheld table run group field try written case casehash session file calls order look names relay",
+        b"place keywords update withheld table run group field try written case casehash session file calls order look names relay hit next answer",
         name,
     )
 }
 
-fn one(line: &[u8]) {
-    let end = bytes::scan::find(line, 0, line.len(), b' ');
+fn one(rt: &impl Print, line: &[u8]) -> io::Result<()> {
+    let end = words::find(line, 0, b' ');
     let kind = kind_of(words::part(line, 0, end));
-    if kind < 19 {
-        row(kind, line, end);
+    if kind < 22 {
+        row(rt, kind, line, end)
     } else {
-        unread(line);
+        unread(rt, line)
     }
 }
 
-pub(crate) fn all(input: &[u8]) {
+pub(crate) fn all(rt: &impl Print, input: &[u8]) -> io::Result<()> {
     let mut at = 0;
     while at < input.len() {
-        let end = bytes::scan::find(input, at, input.len(), b'\n');
-        one(words::part(input, at, end));
+        let end = words::find(input, at, b'\n');
+        one(rt, words::part(input, at, end))?;
         at = end + 1;
     }
+    Ok(())
 }

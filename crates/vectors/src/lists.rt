@@ -5,6 +5,7 @@ ghost use Rattle.std.specs.Prelude.{◌≤◌};
 use crate::print;
 use namearea::{count_in, name_of, span_at};
 use rows::words;
+use std::io;
 
 // Bytes at a place of the area, as far as it has them.
 fn put_bytes(area: &mut [u8], at: usize, bytes: &[u8]) {
@@ -35,14 +36,12 @@ fn put_name(area: &mut [u8], i: usize, offset: u32, bytes: &[u8]) {
 // same.
 fn fill(area: &mut [u8], n: u32, offset: u32) {
     put_number(&mut *area, 0, n);
-    let mut i: u32 = 0;
-    while i < 512 {
+    for i in 0..512u32 {
         if n <= i {
             return;
         }
         let name = [(1 + i % 128) as u8, (1 + i / 128) as u8];
         put_name(&mut *area, i as usize, offset % 65536 + 2 * i, &name);
-        i += 1;
     }
 }
 
@@ -74,22 +73,23 @@ fn change(kind: usize, area: &mut [u8], name: &[u8]) -> u8 {
 }
 
 // `add NAME` or `remove NAME`: the answer, with `=` behind it where every byte of the area is as before.
-fn changed(kind: usize, area: &mut [u8], name: &[u8]) {
+fn changed(rt: &impl Print, kind: usize, area: &mut [u8], name: &[u8]) -> io::Result<()> {
     let mut room = [0u8; 8192];
     wire::copy_onto(area, &mut room);
     let answer = change(kind, &mut *area, name);
-    print::number(answer as u64);
+    print::number(rt, u64::from(answer))?;
     if ascii::same(false, words::part(&room, 0, area.len()), area) {
-        print::mark(b'=');
+        print::mark(rt, b'=')?;
     }
+    Ok(())
 }
 
 // `find NAME`: the answer and the place.
-fn found(area: &[u8], name: &[u8]) {
+fn found(rt: &impl Print, area: &[u8], name: &[u8]) -> io::Result<()> {
     let f = names::search::find(area, name);
-    print::number(f.answer as u64);
-    print::mark(b'@');
-    io::print_decimal(1, f.place as u64);
+    let answer = f.answer;
+    let place = f.place;
+    print!(rt; " {answer}@{place}")
 }
 
 // A run of equal bytes ends with the first one.
@@ -101,47 +101,58 @@ fn ends(bytes: &[u8]) -> bool {
 }
 
 // A byte and how many times it stands there.
-fn run_of(b: u8, n: usize, first: bool) {
+fn run_of(rt: &impl Print, b: u8, n: usize, first: bool) -> io::Result<()> {
     if !first {
-        print::mark(b',');
+        print::mark(rt, b',')?;
     }
-    io::print_decimal(1, b as u64);
-    print::mark(b'*');
-    io::print_decimal(1, n as u64);
+    print!(rt; "{b}*{n}")
 }
 
 // Bytes by runs of equal ones, none of them longer than 131,072.
-pub(crate) fn runs(bytes: &[u8]) {
+pub(crate) fn runs(rt: &impl Print, bytes: &[u8]) -> io::Result<()> {
     let mut n = 0;
-    let mut i = 0;
-    while i < bytes.len() {
+    for i in 0..bytes.len() {
         n = n % 131072 + 1;
         if ends(&bytes[i..]) {
-            run_of(bytes[i], n, i < n);
+            run_of(rt, bytes[i], n, i < n)?;
             n = 0;
         }
-        i += 1;
     }
+    Ok(())
 }
 
 // `table LENGTH INFINITY ROOM`: the answer, and all bytes of an output of so many, zeros at first.
-fn table(area: &[u8], row: &[u8], k: usize, out: &mut [u8]) {
+fn table(rt: &impl Print, area: &[u8], row: &[u8], k: usize, out: &mut [u8]) -> io::Result<()> {
     let size = rows::number(row, k, 1);
     let infinity = rows::byte(row, k, 2);
     let answer = nametable::own_table(area, size, infinity, &mut *out);
-    print::number(answer as u64);
-    print::mark(b':');
-    runs(out);
+    print!(rt; " {answer}:")?;
+    runs(rt, out)
 }
 
-fn event(kind: usize, area: &mut [u8], row: &[u8], k: usize) {
+fn event(rt: &impl Print, kind: usize, area: &mut [u8], row: &[u8], k: usize) -> io::Result<()> {
     match kind {
-        0 | 1 => changed(kind, area, rows::word(row, k, 1)),
-        2 => found(area, rows::word(row, k, 1)),
+        0 | 1 => changed(rt, kind, area, rows::word(row, k, 1)),
+        2 => found(rt, area, rows::word(row, k, 1)),
         3 => {
             let mut room = [0u8; 65544];
-            table(area, row, k, words::front(&mut room, rows::size(row, k, 3)));
+            let out = words::front(&mut room, rows::size(row, k, 3));
+            table(rt, area, row, k, out)
         }
+        _ => {
+            by_hand(kind, area, row, k);
+            Ok(())
+        }
+    }
+}
+
+// An event of which nothing is told.
+fn done(kind: usize, area: &mut [u8], row: &[u8], k: usize) {
+    match kind {
+        0 | 1 => {
+            change(kind, area, rows::word(row, k, 1));
+        }
+        2 | 3 => {}
         _ => by_hand(kind, area, row, k),
     }
 }
@@ -166,42 +177,52 @@ fn width(kind: usize) -> usize
 }
 
 // The events from the second word on.
-fn run(area: &mut [u8], row: &[u8]) {
+fn run(rt: &impl Print, area: &mut [u8], row: &[u8]) -> io::Result<()> {
     let mut k: usize = 1;
     while k < rows::count(row) {
         let kind = kind_of(row, k);
-        event(kind, &mut *area, row, k);
+        event(rt, kind, &mut *area, row, k)?;
+        k += width(kind);
+    }
+    Ok(())
+}
+
+// The events from the fifth word on, of which nothing is told.
+pub(crate) fn run_quietly(area: &mut [u8], row: &[u8]) {
+    let mut k: usize = 4;
+    while k < rows::count(row) {
+        let kind = kind_of(row, k);
+        done(kind, &mut *area, row, k);
         k += width(kind);
     }
 }
 
 // The first `count` names.
-fn list(area: &[u8], count: usize) {
-    print::start(count);
-    let mut i = 0;
-    while i < count {
+fn list(rt: &impl Print, area: &[u8], count: usize) -> io::Result<()> {
+    print::start(rt, count)?;
+    for i in 0..count {
         if 0 < i {
-            print::mark(b',');
+            print::mark(rt, b',')?;
         }
-        print::joined(name_of(area, span_at(area, i)), 0);
-        i += 1;
+        print::joined(rt, name_of(area, span_at(area, i)), 0)?;
     }
+    Ok(())
 }
 
 // What every call on the area answers first, and the names where that is 0.
-fn listed(area: &[u8]) {
+fn listed(rt: &impl Print, area: &[u8]) -> io::Result<()> {
     let answer = names::search::list_answer(area);
-    print::number(answer as u64);
+    print::number(rt, u64::from(answer))?;
     if answer == 0 {
-        list(area, count_in(area) as usize);
+        list(rt, area, count_in(area) as usize)
     } else {
-        print::start(0);
+        print::start(rt, 0)
     }
 }
 
-pub(crate) fn values(row: &[u8]) {
+pub(crate) fn values(rt: &impl Print, row: &[u8]) -> io::Result<()> {
     let mut room = [0u8; 8192];
     let area = words::front(&mut room, rows::size(row, 0, 0));
-    run(&mut *area, row);
-    listed(area);
+    run(rt, &mut *area, row)?;
+    listed(rt, area)
 }

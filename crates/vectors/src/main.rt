@@ -1,6 +1,7 @@
 // The vectors over the proved crates: a row is printed for each line of standard input, as docs/VECTORS.md says.
 #![tactic(auto)]
 
+mod answers;
 mod calls;
 mod keyword;
 mod lines;
@@ -10,8 +11,10 @@ mod print;
 mod sessions;
 mod updates;
 
-fn main() {
-    let mut input = lines::room();
-    let size = io::read_full(0, &mut input);
-    lines::all(&input[..size]);
+use std::io;
+
+fn main(rt: HostRuntime) -> io::Result<()> {
+    let mut area = lines::room();
+    let size = input::fill(&mut rt.reader(), &mut area)?;
+    lines::all(&rt, &area[..size])
 }

@@ -3,18 +3,20 @@
 use crate::print;
 use handshake::{Asked, Group, Wrote};
 use rows::words;
+use std::io;
 use xtry::{Pair, Pairs};
 
-fn group_words(g: Group) {
-    print::answer(g.answer, g.used);
-    print::answer(g.kind, g.major as usize);
-    print::mark(b'.');
-    io::print_decimal(1, g.minor as u64);
-    print::number(g.code as u64);
+fn group_words(rt: &impl Print, g: Group) -> io::Result<()> {
+    print::answer(rt, g.answer, g.used)?;
+    print::answer(rt, g.kind, g.major as usize)?;
+    print::mark(rt, b'.')?;
+    let minor = g.minor;
+    print!(rt; "{minor}")?;
+    print::number(rt, u64::from(g.code))
 }
 
-fn group(row: &[u8]) {
-    group_words(handshake::read_group(rows::word(row, 0, 0)));
+fn group(rt: &impl Print, row: &[u8]) -> io::Result<()> {
+    group_words(rt, handshake::read_group(rows::word(row, 0, 0)))
 }
 
 fn asked(row: &[u8], out: &mut [u8]) -> Asked {
@@ -25,40 +27,37 @@ fn asked(row: &[u8], out: &mut [u8]) -> Asked {
     )
 }
 
-fn field(row: &[u8], out: &mut [u8]) {
+fn field(rt: &impl Print, row: &[u8], out: &mut [u8]) -> io::Result<()> {
     let r = asked(row, &mut *out);
-    print::answer(r.answer, r.used);
-    print::list(out, r.written, 0);
+    print::answer(rt, r.answer, r.used)?;
+    print::list(rt, out, r.written, 0)
 }
 
-fn pair_words(p: Pair, i: usize) {
+fn pair_words(rt: &impl Print, p: Pair, i: usize) -> io::Result<()> {
     let address = p.address;
     if 0 < i {
-        print::mark(b',');
+        print::mark(rt, b',')?;
     }
-    print::joined(&address, b'.');
-    print::mark(b':');
-    io::print_decimal(1, p.port as u64);
+    print::joined(rt, &address, b'.')?;
+    let port = p.port;
+    print!(rt; ":{port}")
 }
 
-fn pairs_words(found: Pairs) {
-    print::start(found.count);
-    let mut i: usize = 0;
-    while i < 32 {
+fn pairs_words(rt: &impl Print, found: Pairs) -> io::Result<()> {
+    print::start(rt, found.count)?;
+    for i in 0..32 {
         if found.count <= i {
-            return;
+            return Ok(());
         }
-        let p = found.pairs[i];
-        pair_words(p, i);
-        i += 1;
+        pair_words(rt, found.pairs[i], i)?;
     }
+    Ok(())
 }
 
-fn try_hosts(row: &[u8]) {
+fn try_hosts(rt: &impl Print, row: &[u8]) -> io::Result<()> {
     let r = handshake::hosts::try_pairs(rows::word(row, 0, 0));
-    print::answer(r.answer, r.used);
-    let found = r.pairs;
-    pairs_words(found);
+    print::answer(rt, r.answer, r.used)?;
+    pairs_words(rt, r.pairs)
 }
 
 // The pair whose six bytes stand here: the address, and the port with its low byte first.
@@ -75,11 +74,8 @@ fn pair_at(bytes: &[u8], at: usize) -> Pair {
 fn pairs_of(bytes: &[u8]) -> Pairs {
     let zero = pair_at(bytes, bytes.len());
     let mut pairs = [zero; 32];
-    let mut i: usize = 0;
-    while i < 32 {
-        let p = pair_at(bytes, i * 6);
-        pairs[i] = p;
-        i += 1;
+    for i in 0..32 {
+        pairs[i] = pair_at(bytes, i * 6);
     }
     Pairs {
         count: bytes.len() / 6,
@@ -95,19 +91,19 @@ fn wrote(what: usize, pairs: Pairs, out: &mut [u8]) -> Wrote {
     }
 }
 
-fn written(row: &[u8], out: &mut [u8]) {
+fn written(rt: &impl Print, row: &[u8], out: &mut [u8]) -> io::Result<()> {
     let what = words::index(b"greeting ok", rows::word(row, 0, 0));
     let pairs = pairs_of(rows::word(row, 0, 2));
     let r = wrote(what, pairs, words::front(&mut *out, rows::size(row, 0, 1)));
-    print::number(r.answer as u64);
-    print::list(out, r.written, 0);
+    print::number(rt, u64::from(r.answer))?;
+    print::list(rt, out, r.written, 0)
 }
 
-pub(crate) fn values(kind: usize, row: &[u8], out: &mut [u8]) {
+pub(crate) fn values(rt: &impl Print, kind: usize, row: &[u8], out: &mut [u8]) -> io::Result<()> {
     match kind {
-        6 => group(row),
-        7 => field(row, out),
-        8 => try_hosts(row),
-        _ => written(row, out),
+        6 => group(rt, row),
+        7 => field(rt, row, out),
+        8 => try_hosts(rt, row),
+        _ => written(rt, row, out),
     }
 }

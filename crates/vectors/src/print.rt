@@ -1,62 +1,55 @@
 // Words, numbers and lists of a row, on standard output, each with a space before it.
 use rows::words;
+use std::io;
 
-pub(crate) fn mark(b: u8) {
-    let text = [b];
-    io::write_all(1, &text);
+pub(crate) fn mark(rt: &impl Print, b: u8) -> io::Result<()> {
+    rt.write_all(&[b])
 }
 
-pub(crate) fn number(n: u64) {
-    mark(b' ');
-    io::print_decimal(1, n);
+pub(crate) fn number(rt: &impl Print, n: u64) -> io::Result<()> {
+    print!(rt; " {n}")
 }
 
 // An answer and how many bytes were used, or written.
-pub(crate) fn answer(n: u8, size: usize) {
-    number(n as u64);
-    number(size as u64);
+pub(crate) fn answer(rt: &impl Print, n: u8, size: usize) -> io::Result<()> {
+    print!(rt; " {n} {size}")
 }
 
-pub(crate) fn flag(set: bool) {
-    if set {
-        number(1);
-    } else {
-        number(0);
-    }
+pub(crate) fn flag(rt: &impl Print, set: bool) -> io::Result<()> {
+    number(rt, u64::from(set))
 }
 
 // What stands before a list of so many items: `-` for none.
-pub(crate) fn start(size: usize) {
-    mark(b' ');
+pub(crate) fn start(rt: &impl Print, size: usize) -> io::Result<()> {
+    mark(rt, b' ')?;
     if size == 0 {
-        mark(b'-');
+        mark(rt, b'-')?;
     }
+    Ok(())
 }
 
 // A byte of a list: two digits with nothing between, or a number behind a separator.
-pub(crate) fn item(i: usize, b: u8, separator: u8) {
+fn item(rt: &impl Print, i: usize, b: u8, separator: u8) -> io::Result<()> {
     if separator == 0 {
-        io::print_hex(1, b as u64, 2);
-        return;
+        return print!(rt; "{b:02x}");
     }
     if 0 < i {
-        mark(separator);
+        mark(rt, separator)?;
     }
-    io::print_decimal(1, b as u64);
+    print!(rt; "{b}")
 }
 
-pub(crate) fn joined(bytes: &[u8], separator: u8) {
-    let mut i = 0;
-    while i < bytes.len() {
-        item(i, bytes[i], separator);
-        i += 1;
+pub(crate) fn joined(rt: &impl Print, bytes: &[u8], separator: u8) -> io::Result<()> {
+    for i in 0..bytes.len() {
+        item(rt, i, bytes[i], separator)?;
     }
+    Ok(())
 }
 
 // The first n bytes, in hexadecimal where the separator is 0.
-pub(crate) fn list(bytes: &[u8], n: usize, separator: u8) {
-    start(n);
-    joined(words::part(bytes, 0, n), separator);
+pub(crate) fn list(rt: &impl Print, bytes: &[u8], n: usize, separator: u8) -> io::Result<()> {
+    start(rt, n)?;
+    joined(rt, words::part(bytes, 0, n), separator)
 }
 
 // One byte more in the area, if it has that place, or none; the place behind it.
@@ -68,13 +61,11 @@ pub(crate) fn noted(some: bool, area: &mut [u8], at: usize, b: u8) -> usize {
 }
 
 // The numbers of the flags that are set.
-pub(crate) fn flags(set: [bool; 8]) {
+pub(crate) fn flags(rt: &impl Print, set: [bool; 8]) -> io::Result<()> {
     let mut places = [0u8; 8];
     let mut n: usize = 0;
-    let mut k: usize = 0;
-    while k < 8 {
-        n = noted(set[k], &mut places, n, k as u8);
-        k += 1;
+    for k in 0..8u8 {
+        n = noted(set[k as usize], &mut places, n, k);
     }
-    list(&places, n, b',');
+    list(rt, &places, n, b',')
 }

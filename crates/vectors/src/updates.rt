@@ -3,6 +3,7 @@
 // `table LABEL HAD OLD WAS NEW INFINITY SIZE AREA`, and `run ENTRIES BITS SIZE` with the same words behind these.
 use crate::print;
 use rows::words;
+use std::io;
 use tablemessages::Written;
 use tables::{Table, Updated, no_table};
 use tablewriter::Wanted;
@@ -20,8 +21,7 @@ fn pick(first: bool, a: u8, b: u8) -> u8 {
 fn updated(row: &[u8], ttl: u8, hops: u8, part: &mut [u8]) -> Updated {
     let count = rows::count(row);
     let mut u = none();
-    let mut n: usize = 2;
-    while n < count {
+    for n in 2..count {
         let table = u.table;
         let last = n + 1 == count;
         u = tablereader::updates::update(
@@ -31,29 +31,27 @@ fn updated(row: &[u8], ttl: u8, hops: u8, part: &mut [u8]) -> Updated {
             rows::word(row, n, 0),
             &mut *part,
         );
-        n += 1;
     }
     u
 }
 
-fn table_words(t: Table) {
-    print::answer(t.mark, t.length as usize);
-    print::answer(t.infinity, t.nextplace as usize);
-    print::answer(t.runsize, t.runbits as usize);
-    print::number(t.nextentry as u64);
+fn table_words(rt: &impl Print, t: Table) -> io::Result<()> {
+    print::answer(rt, t.mark, t.length as usize)?;
+    print::answer(rt, t.infinity, t.nextplace as usize)?;
+    print::answer(rt, t.runsize, t.runbits as usize)?;
+    print::number(rt, u64::from(t.nextentry))
 }
 
-fn update(row: &[u8]) {
+fn update(rt: &impl Print, row: &[u8]) -> io::Result<()> {
     let mut part = [7u8; 8];
     let u = updated(row, rows::byte(row, 0, 0), rows::byte(row, 0, 1), &mut part);
-    print::number(u.answer as u64);
-    let table = u.table;
-    table_words(table);
-    print::list(&part, 8, b',');
+    print::number(rt, u64::from(u.answer))?;
+    table_words(rt, u.table)?;
+    print::list(rt, &part, 8, b',')
 }
 
 // Line 0 alone is open, and has the table.
-fn withheld(row: &[u8]) {
+fn withheld(rt: &impl Print, row: &[u8]) -> io::Result<()> {
     let mut part = [7u8; 8];
     let u = updated(row, 1, 0, &mut part);
     let table = u.table;
@@ -67,7 +65,7 @@ fn withheld(row: &[u8]) {
         rows::word(row, 0, 1),
         rows::byte(row, 0, 0),
     );
-    print::flag(!passing[0]);
+    print::flag(rt, !passing[0])
 }
 
 // The update from the old table, or from none where HAD is 0, to the new one.
@@ -87,18 +85,19 @@ fn written(row: &[u8], out: &mut [u8]) -> Written {
     )
 }
 
-fn table(kind: usize, row: &[u8], out: &mut [u8]) {
+fn table(rt: &impl Print, kind: usize, row: &[u8], out: &mut [u8]) -> io::Result<()> {
     let r = written(row, &mut *out);
-    print::answer(r.answer, r.written);
+    print::answer(rt, r.answer, r.written)?;
     if kind == 4 {
-        print::list(out, r.written, 0);
+        print::list(rt, out, r.written, 0)?;
     }
+    Ok(())
 }
 
-pub(crate) fn values(kind: usize, row: &[u8], out: &mut [u8]) {
+pub(crate) fn values(rt: &impl Print, kind: usize, row: &[u8], out: &mut [u8]) -> io::Result<()> {
     match kind {
-        2 => update(row),
-        3 => withheld(row),
-        _ => table(kind, row, out),
+        2 => update(rt, row),
+        3 => withheld(rt, row),
+        _ => table(rt, kind, row, out),
     }
 }
