@@ -1,7 +1,7 @@
 -- The tally kept beside the state over any list of calls, those that bring bytes among them. Each whole message and
 -- each call that brings bytes counts once, by its answer; but a call that waits does not, nor do openings, closings and
 -- own queries.
-use Rattle.std.specs.Prelude.{ℕ, suc, ◌<◌, min, ◌≡◌, Bool, true, cond, not, List, [], ◌∷◌, ltb, get_or}
+use Rattle.std.specs.Prelude.{ℕ, suc, ◌<◌, min, ◌≡◌, Bool, true, cond, not, List, [], ◌∷◌, get_or}
 use Rattle.laws.specs.Tests.{all}
 use Rattle.receiving.specs.Feeding.{waiting}
 use Rattle.receiving.specs.Events.{Event, Plain, Feed, Receiver, fed_by, reply_to, handle}
