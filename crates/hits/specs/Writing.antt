@@ -1,5 +1,5 @@
 -- A hit's payload written (RULES 25.8).
-use Rattle.std.specs.Prelude.{ℕ, ◌+◌, cond, List, ◌∷◌, ◌++◌, leb, length}
+use Rattle.std.specs.Prelude.{ℕ, cond, List, ◌∷◌, ◌++◌, leb, length}
 use Rattle.laws.specs.Bytes.{little_bytes}
 use Rattle.laws.specs.Parts.{over}
 use Rattle.hits.specs.declared.writing.Responder.{Responder}
