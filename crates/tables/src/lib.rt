@@ -21,7 +21,7 @@ pub const BROKEN: u8 = 4;
 
 // What is kept of a table beside its entries, which stand in the lent part, one byte an entry.
 #[repr(C)]
-#[derive(Drop)]
+#[derive(Clone, Copy)]
 pub struct Table {
     pub mark: u8,
     pub length: u32,
