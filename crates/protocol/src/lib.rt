@@ -35,7 +35,7 @@ pub const LARGEST_TEXT: usize = LARGEST_PAYLOAD - 3;
 
 // A stored pong: its first 14 bytes, its Hops, and the clock of the call that brought it.
 #[repr(C)]
-#[derive(Drop)]
+#[derive(Clone, Copy)]
 pub struct Pong {
     pub bytes: [u8; 14],
     pub hops: u8,
@@ -45,7 +45,7 @@ pub struct Pong {
 // What a line has brought of a message that is not whole: how many bytes, which stand in the held area that the caller
 // lends for that line, and whether the line is shut, which takes no more bytes until it is closed and opened.
 #[repr(C)]
-#[derive(Drop)]
+#[derive(Clone, Copy)]
 pub struct Pending {
     pub count: u16,
     pub shut: bool,
@@ -54,7 +54,7 @@ pub struct Pending {
 // One line: whether it is open, the time of the last accepted ping, a ring of ten pongs, its neighbour's table, whose
 // entries are in the route area, and the message that it has begun.
 #[repr(C)]
-#[derive(Drop)]
+#[derive(Clone, Copy)]
 pub struct Line {
     pub live: bool,
     pub pinged: bool,
@@ -68,7 +68,7 @@ pub struct Line {
 
 // What this station says of itself in a pong, and whether it takes calls.
 #[repr(C)]
-#[derive(Drop)]
+#[derive(Clone, Copy)]
 pub struct Own {
     pub port: u16,
     pub address: [u8; 4],
@@ -80,7 +80,7 @@ pub struct Own {
 // What a look-up of a number finds among the remembered queries: whether it is there, how many were remembered after
 // it, who asked, and how many hits of it were passed back or delivered.
 #[repr(C)]
-#[derive(Drop)]
+#[derive(Clone, Copy)]
 pub struct Lookup {
     pub found: bool,
     pub after: usize,
@@ -91,7 +91,7 @@ pub struct Lookup {
 // The age of a query: whether its number was looked up and found, and how many queries were remembered after it, which
 // is 0 for the newest, and where there is no age.
 #[repr(C)]
-#[derive(Drop)]
+#[derive(Clone, Copy)]
 pub struct Age {
     pub known: bool,
     pub after: usize,
@@ -100,7 +100,7 @@ pub struct Age {
 // What a caller is told of a look-up: the answer, who asked, and how many queries were remembered after it. Refused, it
 // tells of nobody, and of none.
 #[repr(C)]
-#[derive(Drop)]
+#[derive(Clone, Copy)]
 pub struct Finding {
     pub answer: u8,
     pub asker: u8,
@@ -112,7 +112,7 @@ pub struct Finding {
 // length in the message), whether a hit is delivered here, and the age of the query that a hit answers or a query
 // repeats, where that was found.
 #[repr(C)]
-#[derive(Drop)]
+#[derive(Clone, Copy)]
 pub struct Report {
     pub answer: u8,
     pub used: usize,

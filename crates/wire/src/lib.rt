@@ -26,7 +26,7 @@ pub const LARGEST_MESSAGE: usize = 4119;
 
 // The header of a message: its number as two little-endian halves, type, TTL, Hops and the payload length.
 #[repr(C)]
-#[derive(Drop)]
+#[derive(Clone, Copy)]
 pub struct Header {
     pub lo: u64,
     pub hi: u64,
