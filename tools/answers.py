@@ -62,6 +62,17 @@ def as_record(val, clauses):
             depth -= 1
         elif depth == 0:
             start = m.end()
+    # the tuple may be what `rw` or `simp` is given last
+    m = re.match(r"\s*(?:rw|simp)\s", val[start:])
+    if m and val.rstrip().endswith(")"):
+        depth = 0
+        for i in range(len(val.rstrip()) - 1, start, -1):
+            depth += {")": 1, "]": 1, "}": 1, "(": -1, "[": -1, "{": -1}.get(val[i], 0)
+            if depth == 0:
+                parts = split_tuple(val[i:])
+                if parts and len(parts) == len(clauses) and val[start + m.end() : i].strip():
+                    return val[:i] + "(record {\n      " + ";\n      ".join(f"{c} = {p}" for c, p in zip(clauses, parts)) + ";\n    })"
+                break
     parts = split_tuple(val[start:])
     if not parts or len(parts) != len(clauses):
         return val
@@ -298,10 +309,16 @@ def declarations(text):
     return out
 
 
-def plain_tests(val):
-    """A test of `!x` says `x ≡ false` or `x ≡ true` itself."""
-    val = re.sub(r"\(not-(?:true|false) \S+ (\S*\.if-not[_-][^\s)]*\.(?:true|false))\)", r"\1", val)
-    return re.sub(r"not-(?:true|false) \S+ (\S*\.if-not[_-][^\s)]*\.(?:true|false))", r"\1", val)
+def plain_tests(val, fn):
+    """A test of `!f(..)` says that `f`'s answer `≡ false` or `≡ true` itself; one of a `!x.y` still says `not x.y`."""
+    called = {norm(p["callee"].split("::")[-1]) for p in fn.places.values() if p["callee"]}
+
+    def plain(m):
+        return m.group(1) if norm(re.sub(r"(?:-then-|-else-|-in-|-\d+$).*", "", m.group(2))) in called else m.group(0)
+
+    fact = r"(\S*\.if-not[_-]([^\s).]*)\.(?:true|false))"
+    val = re.sub(r"\(not-(?:true|false) \S+ " + fact + r"\)", plain, val)
+    return re.sub(r"not-(?:true|false) \S+ " + fact, plain, val)
 
 
 def parameters(crate, rel):
@@ -431,7 +448,7 @@ def convert(path, fn, said):
             clauses = fn.clauses.get(goal) or fn.clauses.get(fn.needs[i][0])
             if clauses:
                 val = as_record(val, clauses)
-            val = plain_tests(val)
+            val = plain_tests(val, fn)
             if len(args) > 1 and re.search(r"(?<![\w.])κs(?![\w])", val):
                 said.append((path, "κs in " + name))
             for s in env.said:
@@ -505,7 +522,7 @@ def convert(path, fn, said):
             v = next(iter(env.vars))
             val = " " + f"(goal.at.{env.ctx[v][2]} {v}).{fn.places[result]['name']}" if env.ctx[v][1] != result else " " + v
         else:
-            val = plain_tests(env.turn(val))
+            val = plain_tests(env.turn(val), fn)
         places |= env.used | env2.used
         if result:
             places.add(fn.places[result]["name"])

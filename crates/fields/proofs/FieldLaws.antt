@@ -7,6 +7,7 @@ use native.Mathlib.Omega.{arith}
 use lib.Dec.{ltb, leb, eqb}
 use lib.ListN.{length, take, drop, length-drop, length-append}
 use lib.Seq.{drop-drop, drop-length}
+use borrow.Rule.Slice.PartMut.{put_mid}
 use borrow.Author.Tests.{eq-eqb, ne_eqb, leb-true, ltb-true, ltb-false}
 use Rattle.laws.specs.Tests.{all}
 use Rattle.laws.specs.Parts.{over}
@@ -321,10 +322,10 @@ module _ {s name : List ℕ} {next : ℕ} {there : Bool} {first : ℕ} (b : Begu
       → (to : ℕ) → to ≡ cond there first next → Begun s name (next + length line + 2) st.found to
   begun-on {line} d mine st step to e =
       record {
-        whole = rw e (place there b.unmet-yet);
+        whole = rw e (place there b.unmet_yet);
         unmet_yet = λ u.
             let n = unmet name line (lines_of (drop (next + length line + 2) s)) mine there (rw step at u) in
-            n.1 ∙ ap (value_for name) (sym (next-lines s line next d.inside (ended-line d))) ∙ b.unmet-yet n.0;
+            n.1 ∙ ap (value_for name) (sym (next-lines s line next d.inside (ended-line d))) ∙ b.unmet_yet n.0;
       }
     where
       place : (t : Bool) → (t ≡ false → WholeFrom name s next) → WholeFrom name s (cond t first next)
@@ -393,6 +394,13 @@ module _ {s name : List ℕ} {long : ℕ} {area : List ℕ} {next : ℕ} {mine t
           size = z ∙ w.size;
           room = omega (arith, w.room);
         }
+
+-- `l[at..at + part.len()].copy_from_slice(part)`
+pub over-part : (at : ℕ) (part l ys : List ℕ) (k : ℕ) → k ≡ length part → ys ≡ part
+    → put_mid at k l ys ≡ over at part l
+over-part at part l ys k h y =
+    ap (λ z. take at l ++ (ys ++ z)) (drop-drop k at l ∙ ap (λ j. drop (at + j) l) h)
+    ∙ ap (λ x. take at l ++ (x ++ drop (at + length part) l)) y
 
 pub none-separated : (b : ℕ) → b ≡ 0 → separated b ≡ []
 none-separated b e = rw (eq-eqb b 0 e)

@@ -120,7 +120,7 @@ fn line_step(name: &[u8], mine: bool, found: bool, line: &[u8], n: usize) -> Ste
 
 // Whether all lines are fields, each with the lines that go on with it; then whether one of the name is there, and how
 // long its value is.
-#[derive(Drop)]
+#[derive(Clone, Copy)]
 pub struct Found {
     pub good: bool,
     pub there: bool,
@@ -229,12 +229,12 @@ fn put(out: &mut [u8], at: usize, separator: u8, part: &[u8]) -> usize
     ensures out_after { out.new ≡ over at (separated separator ++ part.now) out.old }
 {
     if separator == 0 {
-        bytes::copy(part, &mut out[at..]);
+        out[at..at + part.len()].copy_from_slice(part);
         return at + part.len();
     }
     out[at] = separator;
     let from = at + 1;
-    bytes::copy(part, &mut out[from..]);
+    out[from..from + part.len()].copy_from_slice(part);
     from + part.len()
 }
 
