@@ -154,7 +154,7 @@ module _ {bits : ℕ} (w : Width bits) (size place : ℕ) (d : List ℕ) (h : He
       let sum : ℕ = h.table.nextentry + length (numbers bits d) in
       let all : ℕ = length h.entries in
       and_both
-      a.open-to
+      a.open_to
       (and_both
       (eq-eqb place h.table.nextplace (sym a.next))
       (and_both

@@ -113,8 +113,8 @@ module _ (number : List ℕ) (sixteen : length number ≡ 16) (old new : List �
       h
       (from_old h old infinity stands)
       (parts_of size (data_of new old))
-      (parts-joined size (data_of new old) a.data-size.0)
-      (payloads-short true old new infinity size a.data-size.1)
+      (parts-joined size (data_of new old) a.data_size.0)
+      (payloads-short true old new infinity size a.data_size.1)
 
   with_none : Accepted false old new infinity size → length new ≤ room
       → ReadAs room h (messages_of number false old new infinity size) (settled_as new infinity)
@@ -136,8 +136,8 @@ module _ (number : List ℕ) (sixteen : length number ≡ 16) (old new : List �
       (reset_to (length new) infinity)
       (from-reset (length new) infinity)
       (parts_of size (data_of new base))
-      (parts-joined size (data_of new base) a.data-size.0)
-      (payloads-short false old new infinity size a.data-size.1).1)
+      (parts-joined size (data_of new base) a.data_size.0)
+      (payloads-short false old new infinity size a.data_size.1).1)
 
 pub round_trip : RoundTrip
 round_trip number true old old_infinity new infinity size outLength room h sixteen e within stands =
@@ -165,6 +165,6 @@ bytes-round_trip number had old old_infinity new infinity size out room h sixtee
     let a : Accepted had old new infinity size = accepted number had old old_infinity new infinity size (length out) e in
     rw (
       written-bytes number had old old_infinity new infinity size out e,
-      (all_whole number had old new infinity size sixteen a.data-size.1).bytes,
+      (all_whole number had old new infinity size sixteen a.data_size.1).bytes,
     )
     (round_trip number had old old_infinity new infinity size (length out) room h sixteen e within stands)

@@ -12,7 +12,7 @@ pub struct Written {
 
 // How a run is written: from an old table or from Infinity, in 4 bits or in 8, how much data in a message and how many
 // messages.
-#[derive(Drop)]
+#[derive(Clone, Copy)]
 pub struct Plan {
     pub had: bool,
     pub infinity: u8,
