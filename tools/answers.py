@@ -124,6 +124,8 @@ def clause_names():
 
 
 CLAUSES = {}
+# the variables whose `!x` the crate's code tests
+LOCALS = set()
 
 
 def named_places(rest, callee):
@@ -310,8 +312,8 @@ def declarations(text):
 
 
 def plain_tests(val, fn):
-    """A test of `!f(..)` says that `f`'s answer `≡ false` or `≡ true` itself; one of a `!x.y` still says `not x.y`."""
-    called = {norm(p["callee"].split("::")[-1]) for p in fn.places.values() if p["callee"]}
+    """A test of `!f(..)` says that `f`'s answer `≡ false` or `≡ true` itself, and so does one of `!x`; one of a `!x.y` still says `not x.y`."""
+    called = {norm(p["callee"].split("::")[-1]) for p in fn.places.values() if p["callee"]} | LOCALS
 
     def plain(m):
         return m.group(1) if norm(re.sub(r"(?:-then-|-else-|-in-|-\d+$).*", "", m.group(2))) in called else m.group(0)
@@ -573,6 +575,8 @@ def main():
     names = json.load(open(tmp + "/names.json"))
     said = []
     CLAUSES.update(clause_names())
+    for f in glob.glob(here + "/src/**/*.rt", recursive=True):
+        LOCALS.update(norm(w) for w in re.findall(r"!(\w+)\b(?![.(\[])", open(f, encoding="utf-8").read()))
     for p in paths:
         rel = os.path.relpath(os.path.dirname(p), here + "/proofs").replace("/", ".")
         key = f"Rattle-{crate}-proofs.{rel}.Lts"
