@@ -95,11 +95,14 @@ class Fn:
         self.changed = d["changed"]
 
     def need(self, *names):
-        for pick in (lambda o: o, norm, lambda o: re.sub(r"^overflow-", "", norm(o)), lambda o: re.sub(r"^(overflow|shared-slice|slice-bounds|nonzero)-", "", norm(o))):
-            for n in names:
-                for i, (o, new) in enumerate(self.needs):
-                    if pick(o) == pick(n) or pick(new) == pick(n):
-                        return i
+        picks = (lambda o: o, norm, lambda o: re.sub(r"^overflow-", "", norm(o)), lambda o: re.sub(r"^(overflow|shared-slice|slice-bounds|nonzero)-", "", norm(o)))
+        # names as they were go first: a name of today may be that of another goal then
+        for which in (0, 1):
+            for pick in picks:
+                for n in names:
+                    for i, need in enumerate(self.needs):
+                        if pick(need[which]) == pick(n):
+                            return i
         return None
 
     def chain(self, place):
