@@ -1,5 +1,5 @@
 -- Names that have every keyword of a text (RULES 25.7): keywords are compared whole, in lower case.
-use Rattle.std.specs.Prelude.{ℕ, Bool, true, false, ◌&&◌, List, [], ◌∷◌, map, leb, ltb, length}
+use Rattle.std.specs.Prelude.{ℕ, Bool, false, ◌&&◌, List, [], ◌∷◌, map, leb, ltb, length}
 use Rattle.laws.specs.Tests.{any, all}
 use Rattle.laws.specs.Numbers.{counting}
 use Rattle.ascii.specs.Text.{same}

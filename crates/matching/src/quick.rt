@@ -11,7 +11,7 @@ use crate::kept::part_at;
 const BLOCK: usize = 16;
 
 // How many bytes a word has, and three of them modulo 32.
-#[derive(Drop)]
+#[derive(Clone, Copy)]
 pub struct Sample {
     pub size: usize,
     pub first: u8,

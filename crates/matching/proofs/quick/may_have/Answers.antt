@@ -1,0 +1,45 @@
+-- No place before place `at` agrees. The last block begins at one of these, or just behind them.
+use Prim.Native.Nat.{◌+◌, ◌-◌}
+use mathlib.Core.Path.{refl}
+use native.Mathlib.Omega.{arith}
+use lib.ListN.{length}
+use Rattle.laws.proofs.Refusals.{clash}
+use Rattle.matching.proofs.QuickLaws.{none-join, none-all}
+use Rattle.matching.proofs.quick.may_have.Goals as goal
+
+pub returns-then-size-eq0 : goal.returns-then-size-eq0
+returns-then-size-eq0 c = λ e. absurd (clash refl e)
+
+pub returns-then-name-size : goal.returns-then-name-size
+returns-then-name-size c = λ e p a. absurd (omega (arith, a.inside))
+
+pub returns-then-places-lt-BLOCK : goal.returns-then-places-lt-BLOCK
+returns-then-places-lt-BLOCK c =
+    let x = c.args in
+    let places = length x.name.now - (x.s.size - 1) in
+    λ e. none-all x.s x.name.now (0 + places) (omega arith) (c.meets.ensures e)
+
+pub loop-at-init : goal.loop-at-init
+loop-at-init c = (omega arith, λ p h k a. absurd (omega arith))
+
+pub returns-then-meets : goal.returns-then-meets
+returns-then-meets c = λ e. absurd (clash refl e)
+
+pub loop-at-preserved : goal.loop-at-preserved
+loop-at-preserved c =
+    let l = c.loop-at in
+    let x = c.args in
+    let next = c.meets-in-loop-at.ensures c.if-meets.false in (
+      omega arith,
+      none-join x.s x.name.now 0 l.at l.at (l.at + 16) 0 (l.at + 16) l.invariant.1 next (omega arith)
+          (omega arith) (omega arith),
+    )
+
+pub returns : goal.returns
+returns c =
+    let l = c.loop-at in
+    let x = c.args in
+    let places = length x.name.now - (x.s.size - 1) in
+    λ e. none-all x.s x.name.now places (omega arith)
+    (none-join x.s x.name.now 0 l.at (places - 16) (places - 16 + 16) 0 places l.invariant.1
+    (c.meets-2.ensures e) (omega arith) (omega arith) (omega arith))
