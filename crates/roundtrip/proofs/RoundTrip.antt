@@ -98,14 +98,14 @@ module _ (number : List ℕ) (sixteen : length number ≡ 16) (old new : List �
       → AllFull (length new) room h (messages true)
   unfolding messages_of payloads_of
   full_with_old room h a f =
-      let w = all_whole number true old new infinity size sixteen a.data-size.1 in
+      let w = all_whole number true old new infinity size sixteen a.data_size.1 in
       run-full old room h (messages true) w.payloads f
 
   full_with_none : (room : ℕ) (h : Held) → Accepted false old new infinity size → length new ≤ room
       → AllFull (length new) room h (messages false)
   unfolding messages_of payloads_of
   full_with_none room h a within =
-      let w = all_whole number false old new infinity size sixteen a.data-size.1 in
+      let w = all_whole number false old new infinity size sixteen a.data_size.1 in
       let base : List ℕ = base_of false old new infinity in
       let reset : List ℕ = update number (reset_payload (length new) infinity) in
       let good = a.fresh.length-test in
@@ -210,7 +210,7 @@ module _ (number : List ℕ) (sixteen : length number ≡ 16) (old : List ℕ) (
       (λ (last : Held). FedTo s L area (length ms) (length (joined ms)) last (fed t L s area (joined ms)))
       r.held
       (feeding L (length new) (length (joined ms)) t s area h ms w refl within
-      (all-sendable number sixteen old new infinity size had a.data-size.1)
+      (all-sendable number sixteen old new infinity size had a.data_size.1)
       (writer_full had s.room h a within stands)
       r.answers
       (le_refl (length (joined ms)))
