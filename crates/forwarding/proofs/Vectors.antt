@@ -3,7 +3,7 @@ use Prim.Native.Nat.{ℕ}
 use mathlib.Core.Path.{◌≡◌, refl}
 use mathlib.Core.Bool.{Bool, true, false}
 use mathlib.Core.List.{List, [], ◌∷◌, ◌++◌, map}
-use lib.ListN.{length, get_or, replicate, drop}
+use lib.ListN.{get_or, replicate, drop}
 use Rattle.wire.specs.Header.{message}
 use Rattle.keywords.specs.Keywords.{lower}
 use Rattle.keywords.specs.Keywords.{keywords_of, pieces, filled, is_separator}

@@ -1,0 +1,15 @@
+-- Line by line.
+use Prim.Native.Nat.{◌-◌, ◌≤◌}
+use mathlib.Core.Path.{◌≡◌}
+use mathlib.Core.Bool.{false, ◌&&◌}
+use mathlib.Core.List.{◌++◌}
+use lib.ListN.{get_or, take, drop}
+use Rattle.protocol.specs.Lines.{each_line, is_other}
+use Rattle.forwarding.proofs.lines.open_others.Given as goal
+
+abbrev pub invariant-loop-k : goal.invariant-loop-k
+invariant-loop-k l =
+    (l.k ≤ 8) × (l.others ≡ take l.k (each_line (λ k. is_other l.line k && get_or l.live k false)) ++ drop l.k l.live)
+
+abbrev pub decreases-loop-k : goal.decreases-loop-k
+decreases-loop-k l = 8 - l.k
