@@ -1,10 +1,10 @@
 -- Laws of the X-Try field of a group: what asking for it gives, as the answer with its pairs.
-use Prim.Native.Nat.{ℕ, ◌+◌, ◌≤◌}
+use Prim.Native.Nat.{ℕ, ◌≤◌}
 use mathlib.Core.Path.{◌≡◌, refl, sym, ap, ◌∙◌}
 use mathlib.Core.Bool.{Bool, true, false, cond, not, ◌||◌}
 use mathlib.Core.List.{List, [], ◌∷◌}
 use native.Mathlib.Omega.{arith}
-use lib.Dec.{eqb, ltb}
+use lib.Dec.{eqb}
 use lib.ListN.{length, take}
 use borrow.Author.Tests.{eqb-false, le-ltb}
 use Rattle.laws.specs.Tests.{first_of, all}
@@ -13,14 +13,12 @@ use Rattle.laws.proofs.Over.{over-length, over-front}
 use Rattle.groups.specs.Lines.{group_length}
 use Rattle.fields.specs.Fields.{is_none, comma_between, fields_of, values_of, is_absent, value_for}
 use Rattle.xtry.specs.Pairs.{items_of, good_pair, pairs_from, pairs_of, read_answer, tried_of}
-use Rattle.xtry.specs.declared.Tried.{Tried}
 use Rattle.xtry.proofs.Items.{no_items}
 use Rattle.handshake.specs.Group.{understood, read_number, fields_in, asked_from, asked_number, asked_with, ask_field}
 use Rattle.handshake.specs.Group.{asked_out}
 use Rattle.handshake.specs.Groups.{try_name}
 use Rattle.handshake.specs.Tried.{try_value, group_answer, group_tried, tried_number}
 use Rattle.handshake.specs.declared.Asked.{Asked}
-use Rattle.handshake.specs.declared.TriedGroup.{TriedGroup}
 use Rattle.handshake.proofs.Behind.{value-most}
 use Rattle.handshake.proofs.Order.{not-ten}
 use Rattle.handshake.proofs.HostsBehind.{refused-hosts}

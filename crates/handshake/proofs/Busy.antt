@@ -14,6 +14,7 @@ use Rattle.laws.specs.Parts.{over}
 use Rattle.laws.specs.Text.{codes}
 use Rattle.laws.proofs.Text.{over_append}
 use Rattle.laws.proofs.Over.{over-copied, over-length, over-front}
+use Rattle.fields.proofs.FieldLaws.{over-part}
 use Rattle.xtry.specs.Pairs.{space}
 use Rattle.xtry.specs.Writing.{pairs_text, pairs_in, can_write, led, led_size, led_over}
 use Rattle.xtry.specs.declared.Pair.{Pair}
@@ -92,20 +93,29 @@ module _ (pairs : Pairs) (area first : List ℕ) (room : 1024 ≤ length area)
       pub busy-fits : 29 + n + 4 ≤ length mid
       busy-fits = omega (arith, ap length mid_is, over-length 29 text first (omega (arith, count-is, sized)), sized)
 
-      pub busy-all : (zs : List ℕ) → zs ≡ take 4 (crlf ++ crlf) ++ drop 4
-          (take (length mid - (29 + n)) (drop (29 + n) mid))
-          → put_mid (29 + n) (length mid - (29 + n)) mid zs ≡ over 0 (named_bytes (pairs_in pairs)) area
+      busy-over : over (29 + n) (crlf ++ crlf) mid ≡ over 0 (named_bytes (pairs_in pairs)) area
       unfolding named_bytes
-      busy-all zs k =
-          over-copied (29 + n) (crlf ++ crlf) mid zs k
-          ∙ ap₂ (λ i x. over (29 + i) (crlf ++ crlf) x) count-is mid_is
+      busy-over =
+          ap₂ (λ i x. over (29 + i) (crlf ++ crlf) x) count-is mid_is
           ∙ over_append 29 text (crlf ++ crlf) first (omega (arith, count-is, sized))
           ∙ ap (over 29 (text ++ (crlf ++ crlf))) first-is
           ∙ over_append 0 named_head (text ++ (crlf ++ crlf)) area (omega arith)
 
+      -- the last four bytes put in a part of four
+      pub busy-put : (k : ℕ) (zs : List ℕ) → k ≡ 4 → zs ≡ crlf ++ crlf
+          → put_mid (29 + n) k mid zs ≡ over 0 (named_bytes (pairs_in pairs)) area
+      busy-put k zs e z = over-part (29 + n) (crlf ++ crlf) mid zs k e z ∙ busy-over
+
+      pub busy-all : (zs : List ℕ) → zs ≡ take 4 (crlf ++ crlf) ++ drop 4
+          (take (length mid - (29 + n)) (drop (29 + n) mid))
+          → put_mid (29 + n) (length mid - (29 + n)) mid zs ≡ over 0 (named_bytes (pairs_in pairs)) area
+      busy-all zs k =
+          over-copied (29 + n) (crlf ++ crlf) mid zs k
+          ∙ busy-over
+
 -- the reply at the front of an area, taken alone
 taken_is : (named zeros text : List ℕ) (n : ℕ) → n ≡ length named → text ≡ over 0 named zeros → take n text ≡ named
-taken_is named zeros text n e f = ap₂ take e f ∙ over-front named zeros
+taken_is named zeros t n e f = ap₂ take e f ∙ over-front named zeros
 
 pub busy-taken : (named zeros text : List ℕ) (n : ℕ) → n ≡ length named → text ≡ over 0 named zeros
     → n ≡ length (take n text)

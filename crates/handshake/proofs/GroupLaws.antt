@@ -20,7 +20,7 @@ use Rattle.fields.specs.Step.{no_fields, found_in, fits_in, written_in}
 use Rattle.handshake.specs.declared.Group.{Group}
 use Rattle.handshake.specs.declared.Asked.{Asked}
 use Rattle.handshake.specs.Group.{lines_in, start_in, fields_in, is_start, understood, group_number, read_number}
-use Rattle.handshake.specs.Group.{group_from, read_group, value_in, asked_from, asked_number, asked_with, ask_field}
+use Rattle.handshake.specs.Group.{group_from, read_group, asked_from, asked_number, asked_with, ask_field}
 use Rattle.handshake.specs.Group.{asked_out}
 
 -- the group's length, its first line with what that says, and what stands behind it

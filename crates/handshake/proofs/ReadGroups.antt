@@ -21,7 +21,7 @@ use Rattle.xtry.specs.Writing.{octet_of, pair_text, pairs_text, pairs_in, can_wr
 use Rattle.xtry.specs.Claims.{is_host}
 use Rattle.xtry.specs.declared.Pair.{Pair}
 use Rattle.xtry.specs.declared.Pairs.{Pairs}
-use Rattle.xtry.proofs.ReadBack.{clean, digit-clean, pairs-clean, Host, host-first, below_thousand, part, behind₁}
+use Rattle.xtry.proofs.ReadBack.{clean, digit-clean, pairs-clean, host-first, below_thousand, part, behind₁}
 use Rattle.xtry.proofs.ReadBack.{pair-split, decimal-all, pairs_items, pairs-good, pairs-same, pairs_small}
 use Rattle.xtry.proofs.Listing.{can-few}
 use Rattle.handshake.specs.Group.{lines_in, start_in, is_start, understood, group_number, group_from, read_group}

@@ -20,7 +20,8 @@ fn put_whole(text: &[u8], out: &mut [u8]) -> Wrote
             written: 0,
         };
     }
-    let written = bytes::copy(text, out);
+    let written = text.len();
+    out[..written].copy_from_slice(text);
     Wrote { answer: 0, written }
 }
 
@@ -46,10 +47,10 @@ fn put_busy(pairs: Pairs, out: &mut [u8]) -> usize
     ensures value { (result ≡ length (named_bytes (pairs_in pairs))) × (result ≤ 1024) }
     ensures out_after { out.new ≡ over 0 (named_bytes (pairs_in pairs)) out.old }
 {
-    bytes::copy(b"GNUTELLA/0.6 503 Busy\r\nX-Try:", &mut *out);
+    out[..29].copy_from_slice(b"GNUTELLA/0.6 503 Busy\r\nX-Try:");
     let n = write_pairs(pairs, b' ', &mut out[29..]);
     let end = 29 + n;
-    bytes::copy(b"\r\n\r\n", &mut out[end..]);
+    out[end..end + 4].copy_from_slice(b"\r\n\r\n");
     end + 4
 }
 

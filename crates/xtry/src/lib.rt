@@ -15,7 +15,7 @@ pub struct Pair {
 
 // Up to 32 pairs: the first `count` places are in use, the others are zero when read.
 #[repr(C)]
-#[derive(Drop)]
+#[derive(Clone, Copy)]
 pub struct Pairs {
     pub count: usize,
     pub pairs: [Pair; 32],
