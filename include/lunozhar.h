@@ -1,6 +1,6 @@
 /* The proved core of a Gnutella 0.6 station, for C11 and C++11 on x86-64.
  *
- * Link target/staticlib/liblunozhar.a, which `rt staticlib lunozhar` proves and writes. Nothing here allocates,
+ * Link target/staticlib/liblunozhar.a, which `./library` proves and writes. Nothing here allocates,
  * starts a thread, keeps a pointer or has a state of its own: everything is in the structs and areas that the
  * caller lends for the length of a call.
  *

@@ -12,7 +12,7 @@ fn main() {
     let archive = folder.join("liblunozhar.a");
     println!("cargo:rerun-if-changed={}", archive.display());
     if !archive.exists() {
-        panic!("{} is not there: run `rt staticlib lunozhar` in the repository first", archive.display());
+        panic!("{} is not there: run `./library` in the repository first", archive.display());
     }
     println!("cargo:rustc-link-search=native={}", folder.display());
     println!("cargo:rustc-link-lib=static=lunozhar");

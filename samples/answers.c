@@ -5,7 +5,7 @@
  * for what nobody has, and at last it is handed a hit that states two results and has one.
  * samples/answers.out is what this prints.
  *
- *     rt staticlib lunozhar
+ *     ./library
  *     cc -std=c11 -Wall -Wextra -Werror -Iinclude samples/answers.c target/staticlib/liblunozhar.a -o target/answers
  *     target/answers */
 #include "lunozhar.h"

@@ -4,7 +4,7 @@
  * that has "river", and one more update brings the neighbour's copy to the new table.
  * samples/names.out is what this prints.
  *
- *     rt staticlib lunozhar
+ *     ./library
  *     cc -std=c11 -Wall -Wextra -Werror -Iinclude samples/names.c target/staticlib/liblunozhar.a -o target/names
  *     target/names */
 #include "lunozhar.h"

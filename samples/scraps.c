@@ -3,7 +3,7 @@
  * bytes: that is answered 5, and the line is shut (19) until it is closed and opened; then its ping is answered.
  * samples/scraps.out is what this prints.
  *
- *     rt staticlib lunozhar
+ *     ./library
  *     cc -std=c11 -Wall -Wextra -Werror -Iinclude samples/scraps.c target/staticlib/liblunozhar.a -o target/scraps
  *     target/scraps */
 #include "lunozhar.h"

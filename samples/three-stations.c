@@ -4,7 +4,7 @@
  * its query for "river" goes nowhere. What C told B of does not come back to C.
  * samples/three-stations.out is what this prints.
  *
- *     rt staticlib lunozhar
+ *     ./library
  *     cc -std=c11 -Wall -Wextra -Werror -Iinclude samples/three-stations.c target/staticlib/liblunozhar.a \
  *         -o target/three-stations
  *     target/three-stations */

@@ -3,7 +3,7 @@
  * refused. Then the station asks both for "lake" itself, the hit comes once more, and both queries are looked up.
  * samples/two-lines.out is what this prints.
  *
- *     rt staticlib lunozhar
+ *     ./library
  *     cc -std=c11 -Wall -Wextra -Werror -Iinclude samples/two-lines.c target/staticlib/liblunozhar.a \
  *         -o target/two-lines
  *     target/two-lines */

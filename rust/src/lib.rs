@@ -38,7 +38,7 @@
 //! a query. [`handshake`] reads and writes the groups of lines that open a connection.
 //! A refusal is a [`Refusal`], with its number. [`raw`] is what C sees.
 //!
-//! The core is linked from `target/staticlib/liblunozhar.a` of the repository, which `rt staticlib lunozhar` proves and writes for x86-64; the
+//! The core is linked from `target/staticlib/liblunozhar.a` of the repository, which `./library` proves and writes for x86-64; the
 //! variable `LUNOZHAR_LIB` names another folder that holds it.
 #![deny(missing_docs, unsafe_code)]
 
