@@ -1,9 +1,8 @@
 // The text of a query.
-ghost use Rattle.std.specs.Prelude.{◌≡◌, eqb};
+ghost use Rattle.std.specs.Prelude.{◌≡◌, eqb, length};
 ghost use Rattle.laws.specs.Tests.{any};
+ghost use Rattle.protocol.specs.Queries.{until_zero};
 ghost use Rattle.forwarding.specs.Texts.{text_of};
-
-use ascii::until_zero;
 
 // Whether a payload has a text, which a zero byte ends, and the text's length.
 #[repr(C)]
@@ -11,6 +10,20 @@ use ascii::until_zero;
 pub struct Text {
     pub ended: bool,
     pub length: usize,
+}
+
+// How many bytes stand before the first zero byte, or are there if none is zero.
+fn until_zero(part: &[u8]) -> usize
+    ensures { result ≡ length (until_zero part.now) }
+{
+    let mut i = 0;
+    while i < part.len() {
+        if part[i] == 0 {
+            return i;
+        }
+        i += 1;
+    }
+    i
 }
 
 // Whether a text has a zero byte.
