@@ -1,7 +1,7 @@
 -- Of two pings of a line that are taken the second comes a second later; eleven pongs at most answer a ping; and a
 -- message that has its first bytes gives just these.
 -- Assumes nothing.
-use Rattle.std.proofs.Common.{◌≡◌, ℕ, ◌+◌, ◌*◌, ◌<◌, ◌≤◌, Bool, true, false, cond, not, ◌&&◌, ◌||◌, eqb, ltb, leb, List, [], ◌∷◌, length, take, replicate, refl, ap, ◌∙◌, arith, length-take, ltb-false, ne_eqb}
+use Rattle.std.proofs.Common.{◌≡◌, ℕ, ◌+◌, ◌*◌, ◌≤◌, Bool, true, false, cond, not, ◌&&◌, ◌||◌, eqb, ltb, leb, List, [], ◌∷◌, length, take, replicate, refl, arith, length-take, ltb-false, ne_eqb}
 use Rattle.laws.specs.Tests.{first_of}
 use Rattle.laws.proofs.Over.{copied-full}
 use Rattle.wire.specs.declared.Header.{Header}
