@@ -32,8 +32,7 @@ extern "C" {
 #define LUNOZHAR_PAIRS 32
 #define LUNOZHAR_ANSWERS 22
 
-/* The shortest output area of a message, an own query or a hit that is written: a header of 23 bytes and a payload of
- * 4,096. */
+/* The shortest output area of a message or an own query: a header of 23 bytes and a payload of 4,096. */
 #define LUNOZHAR_OUTPUT 4119
 
 /* The shortest held area of lunozhar_feed: the longest message. */
@@ -51,19 +50,17 @@ enum lunozhar_answer {
     LUNOZHAR_DONE = 0,
     LUNOZHAR_NOT_IN_ORDER = 1,        /* the station's state or a list of names is not in order; the held bytes start
                                        * no message */
-    LUNOZHAR_BAD_AREA = 2,            /* an area is too short, or the route area gives another room than the state's;
-                                       * fewer sizes than names */
+    LUNOZHAR_BAD_AREA = 2,            /* an area is too short, or the route area gives another room than the state's */
     LUNOZHAR_BAD_LINE = 3,            /* the line is over 7, or not open; for opening: already open */
     LUNOZHAR_NOT_WHOLE = 4,           /* the message or handshake group does not end in the bytes that are there */
     LUNOZHAR_TOO_LONG = 5,            /* the payload is over 4,096 bytes, or an own query's text over 4,093 */
     LUNOZHAR_BAD_PAYLOAD = 6,         /* the payload is wrong for its type; an own query's text, a host or a file name
-                                       * is wrong; a result of a hit does not end before the mark */
-    LUNOZHAR_UNKNOWN_TYPE = 7,        /* the message is no ping, pong, query, query hit or route update; a message that
-                                       * hits are to be written for is no query */
+                                       * is wrong */
+    LUNOZHAR_UNKNOWN_TYPE = 7,        /* the message is no ping, pong, query, query hit or route update */
     LUNOZHAR_BAD_TTL_OR_HOPS = 8,     /* TTL or Hops is not allowed */
     LUNOZHAR_REPEATED = 9,            /* the query's number is remembered; the file name is in the list */
     LUNOZHAR_NOT_FOUND = 10,          /* a hit or a look-up for no remembered query; the handshake field or the file
-                                       * name is absent; no name in the list matches the query */
+                                       * name is absent */
     LUNOZHAR_ASKER_CLOSED = 11,       /* a hit for a query whose line has closed since */
     LUNOZHAR_HOPS_FULL = 12,          /* a hit whose Hops is 255 and would have to rise */
     LUNOZHAR_PING_TOO_SOON = 13,      /* less than 1,000 ms since the line's last accepted ping */
@@ -251,56 +248,6 @@ typedef struct lunozhar_name_found {
     size_t place;   /* the name's place in the list, from 0; 0 where the answer is not 0 */
 } lunozhar_name_found;
 
-/* Where a reader of a hit is. The first cursor is lunozhar_hit_begin's, each further one lunozhar_hit_next's. */
-typedef struct lunozhar_hit_cursor {
-    size_t at;    /* the place of the next result in the payload */
-    uint8_t left; /* how many of the stated number of results are left */
-} lunozhar_hit_cursor;
-
-/* A result of a hit: a file that somebody has. Its name and its extension are bytes of the payload. */
-typedef struct lunozhar_hit_record {
-    uint32_t index; /* the number that its station has for the file */
-    uint32_t size;  /* the file's size, in bytes */
-    size_t nameat;  /* the name: namelen bytes from nameat on, none of them zero */
-    size_t namelen;
-    size_t extat;   /* the extension, what is told of the file besides: extlen bytes from extat on, none of them zero */
-    size_t extlen;
-} lunozhar_hit_record;
-
-/* What a call of the reader came to. */
-typedef struct lunozhar_hit_read {
-    uint8_t answer;             /* 0 or 6 */
-    bool found;                 /* there is a result; where not, and the answer is 0, all stated ones were handed out */
-    lunozhar_hit_record result; /* all zero where there is none */
-    lunozhar_hit_cursor cursor; /* behind the result; where there is none, the one that was handed over */
-} lunozhar_hit_read;
-
-/* What stands at the front of a hit's payload, and where its mark stands. When refused, all but the answer is 0. */
-typedef struct lunozhar_hit_head {
-    uint8_t answer;             /* 0 or 6 */
-    uint8_t results;            /* how many results are stated */
-    uint16_t port;              /* where the station that answers takes calls */
-    uint8_t address[4];         /* IPv4, in network order */
-    uint32_t speed;             /* what it says of its speed, in kilobits a second */
-    size_t markat;              /* its mark: the last 16 bytes of the payload, from here on */
-    lunozhar_hit_cursor cursor; /* for the first result */
-} lunozhar_hit_head;
-
-/* The station that answers, as its hits tell of it. */
-typedef struct lunozhar_responder {
-    uint16_t port;
-    uint8_t address[4]; /* IPv4, in network order */
-    uint32_t speed;     /* in kilobits a second */
-    uint8_t mark[16];   /* 16 bytes that it goes by */
-} lunozhar_responder;
-
-/* What the writing of a hit came to. */
-typedef struct lunozhar_hits_written {
-    uint8_t answer;  /* 0, 1, 2, 4, 5, 6, 7, 8 or 10 */
-    uint8_t results; /* how many results it has, 1 to 255; 0 where the answer is not 0 */
-    size_t written;  /* bytes written; 0 where the answer is not 0 */
-} lunozhar_hits_written;
-
 /* What the making of a table for a neighbour came to. */
 typedef struct lunozhar_made {
     uint8_t answer;   /* 0, 1, 2, 3 or 14 */
@@ -470,8 +417,7 @@ static inline lunozhar_told lunozhar_message(lunozhar_station *station, uint32_t
  *
  * A message that was taken begins at held where `within` is set, else at bytes, and what told says of it counts from
  * there: a query's text is told.textlen bytes from told.textat on; of a hit that is delivered, the payload begins at
- * byte 23, and bytes 19 to 22 have its length, little-endian (lunozhar_hit_begin reads it). It stays there until the
- * next call for that line. */
+ * byte 23, and bytes 19 to 22 have its length, little-endian. It stays there until the next call for that line. */
 static inline lunozhar_fed lunozhar_feed(lunozhar_station *station, uint32_t line, uint32_t clock, lunozhar_own own,
                                          const uint8_t *bytes, size_t len, uint8_t *held, size_t held_len,
                                          uint8_t *out, size_t out_len, uint8_t *route, size_t route_len) {
@@ -585,73 +531,6 @@ lunozhar_name_found lunozhar_name_find(const uint8_t *area, size_t area_len, con
  * from 4 to 65,536 or an Infinity outside 2 to 127, or 2 for an output shorter than the length. */
 uint8_t lunozhar_name_table(const uint8_t *area, size_t area_len, uint32_t length, uint8_t infinity, uint8_t *out,
                             size_t out_len);
-
-/* Reads the front of a hit's payload, as it is delivered (told.delivered): the part of the message behind its header of
- * 23 bytes, as long as the header says. It has
- *
- *   byte 0                the number of results, 0 to 255
- *   bytes 1 and 2         the port, little-endian
- *   bytes 3 to 6          the IPv4 address, in network order
- *   bytes 7 to 10         the speed, little-endian
- *   from byte 11 on       the results: index and size of a file, 4 bytes each, little-endian, then its name and its
- *                         extension, each ended by a zero byte
- *   then                  whatever bytes, which are skipped
- *   the last 16           the mark of the station that answers
- *
- * Answers 0, or 6 for fewer than 27 bytes. A hit may state no results. Of the results themselves nothing is looked at
- * here: lunozhar_hit_next hands them out, one a call.
- *
- *     lunozhar_hit_head head = lunozhar_hit_begin(payload, payload_len);
- *     lunozhar_hit_read read = lunozhar_hit_next(head.cursor, payload, payload_len);
- *     while (read.found) {
- *         const char *name = (const char *)payload + read.result.nameat;
- *         printf("%.*s, %u bytes\n", (int)read.result.namelen, name, read.result.size);
- *         read = lunozhar_hit_next(read.cursor, payload, payload_len);
- *     }
- *
- * Behind this loop read.answer is 0 if all stated results were handed out, and 6 if what comes next is none, or if the
- * payload is no hit's. A name has any bytes but zero: a program looks at them before it shows them. */
-lunozhar_hit_head lunozhar_hit_begin(const uint8_t *payload, size_t payload_len);
-
-/* Reads the next result of a hit, with the payload as lunozhar_hit_begin had it. Any cursor and any payload get an
- * answer, and a result's name and extension lie in the payload, before the mark. It is the first of these that holds:
- *   6   the payload has fewer than 27 bytes
- *   0   none of the stated number is left: `found` is not set, whatever bytes stand before the mark
- *   6   the next result does not end before the mark: the second of its zero bytes is to stand before the last 16
- *   0   else: `found` is set, and the cursor that comes back is behind the result, with one less left
- * Where no result is found the cursor comes back as it was, so that a further call tells the same. The results before
- * one that is refused were handed out, and count. */
-lunozhar_hit_read lunozhar_hit_next(lunozhar_hit_cursor cursor, const uint8_t *payload, size_t payload_len);
-
-/* Writes the hit that the station's own names give for a query, to be sent by the line that the query came by. `query`
- * is the message as it came, header and payload (with lunozhar_feed, at held where `within` is set); bytes behind it
- * are not read. `names` is the area of the list (see lunozhar_name_add). `sizes` has the size of each file, sizes[i]
- * that of the name at place i, and may have more; sizes_len counts them, not their bytes.
- *
- * A name matches if it has every keyword of the query's text among its own, as a whole and whatever the case of letters
- * (lunozhar_name_table says what a keyword is); a text without keywords matches no name. The names that match are
- * taken in the order of the list, 255 at most, and up to the first that would make the payload longer than 4,096 bytes:
- * a shorter one behind it is not taken. A result has the name's place in the list as its index, its size, the name as
- * it is listed, and an empty extension. The hit has the query's number, one more than its Hops for TTL, and Hops 0;
- * nothing stands between the last result and the mark. lunozhar_hit_next reads the same results back.
- *
- * Query, names and sizes are only read. No station takes part: whether the query is remembered is not asked, and the
- * hit counts for nothing here. Writes to the front of the output; nothing is written where the answer is not 0. It is
- * the first of these that holds:
- *   2   names_len is below LUNOZHAR_NAMES
- *   1   the list of names is not in order
- *   2   sizes_len is below the number of names, matching or not, or out_len below LUNOZHAR_OUTPUT
- *   4   the query has fewer than 23 bytes
- *   5   its header says more than 4,096 bytes of payload
- *   4   the payload does not end in the bytes that are there
- *   7   the message is no query, but of any other type
- *   6   no zero byte ends the query's text
- *   8   its TTL is 0 or over 15, or its Hops over 6
- *   10  no name in the list matches
- *   0   else */
-lunozhar_hits_written lunozhar_write_hits(const uint8_t *query, size_t query_len, const uint8_t *names,
-                                          size_t names_len, const uint32_t *sizes, size_t sizes_len,
-                                          lunozhar_responder from, uint8_t *out, size_t out_len);
 
 /* Reads the handshake group at the front of the bytes. Answers 0, 4, 17 or 18. */
 lunozhar_group lunozhar_read_group(const uint8_t *bytes, size_t len);
@@ -789,44 +668,6 @@ LUNOZHAR_AT(lunozhar_written, written, 8);
 LUNOZHAR_SIZE(lunozhar_name_found, 16);
 LUNOZHAR_AT(lunozhar_name_found, answer, 0);
 LUNOZHAR_AT(lunozhar_name_found, place, 8);
-
-LUNOZHAR_SIZE(lunozhar_hit_cursor, 16);
-LUNOZHAR_AT(lunozhar_hit_cursor, at, 0);
-LUNOZHAR_AT(lunozhar_hit_cursor, left, 8);
-
-LUNOZHAR_SIZE(lunozhar_hit_record, 40);
-LUNOZHAR_AT(lunozhar_hit_record, index, 0);
-LUNOZHAR_AT(lunozhar_hit_record, size, 4);
-LUNOZHAR_AT(lunozhar_hit_record, nameat, 8);
-LUNOZHAR_AT(lunozhar_hit_record, namelen, 16);
-LUNOZHAR_AT(lunozhar_hit_record, extat, 24);
-LUNOZHAR_AT(lunozhar_hit_record, extlen, 32);
-
-LUNOZHAR_SIZE(lunozhar_hit_read, 64);
-LUNOZHAR_AT(lunozhar_hit_read, answer, 0);
-LUNOZHAR_AT(lunozhar_hit_read, found, 1);
-LUNOZHAR_AT(lunozhar_hit_read, result, 8);
-LUNOZHAR_AT(lunozhar_hit_read, cursor, 48);
-
-LUNOZHAR_SIZE(lunozhar_hit_head, 40);
-LUNOZHAR_AT(lunozhar_hit_head, answer, 0);
-LUNOZHAR_AT(lunozhar_hit_head, results, 1);
-LUNOZHAR_AT(lunozhar_hit_head, port, 2);
-LUNOZHAR_AT(lunozhar_hit_head, address, 4);
-LUNOZHAR_AT(lunozhar_hit_head, speed, 8);
-LUNOZHAR_AT(lunozhar_hit_head, markat, 16);
-LUNOZHAR_AT(lunozhar_hit_head, cursor, 24);
-
-LUNOZHAR_SIZE(lunozhar_responder, 28);
-LUNOZHAR_AT(lunozhar_responder, port, 0);
-LUNOZHAR_AT(lunozhar_responder, address, 2);
-LUNOZHAR_AT(lunozhar_responder, speed, 8);
-LUNOZHAR_AT(lunozhar_responder, mark, 12);
-
-LUNOZHAR_SIZE(lunozhar_hits_written, 16);
-LUNOZHAR_AT(lunozhar_hits_written, answer, 0);
-LUNOZHAR_AT(lunozhar_hits_written, results, 1);
-LUNOZHAR_AT(lunozhar_hits_written, written, 8);
 
 LUNOZHAR_SIZE(lunozhar_made, 2);
 LUNOZHAR_AT(lunozhar_made, answer, 0);

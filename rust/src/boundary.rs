@@ -6,8 +6,7 @@
 #![allow(unsafe_code)]
 
 use crate::raw::{
-    self, Asked, Fed, Finding, Group, HitCursor, HitHead, HitRead, HitsWritten, Hosts, Lines, Made, NameFound, Number, Own, Pairs,
-    Responder, Station, Tally, Told, Written, LINES,
+    self, Asked, Fed, Finding, Group, Hosts, Lines, Made, NameFound, Number, Own, Pairs, Station, Tally, Told, Written, LINES,
 };
 
 /// Makes a station over a route area of so many bytes.
@@ -372,34 +371,6 @@ pub(crate) fn name_table(area: &[u8], length: u32, infinity: u8, out: &mut [u8])
     let out_len = out.len();
     // SAFETY: each pointer goes with the length of its slice; the output is borrowed apart from the area.
     unsafe { raw::lunozhar_name_table(area.as_ptr(), area.len(), length, infinity, out.as_mut_ptr(), out_len) }
-}
-
-pub(crate) fn hit_begin(payload: &[u8]) -> HitHead {
-    // SAFETY: the pointer goes with the length of its slice, which is only read.
-    unsafe { raw::lunozhar_hit_begin(payload.as_ptr(), payload.len()) }
-}
-
-pub(crate) fn hit_next(cursor: HitCursor, payload: &[u8]) -> HitRead {
-    // SAFETY: the pointer goes with the length of its slice, which is only read. Any cursor is taken.
-    unsafe { raw::lunozhar_hit_next(cursor, payload.as_ptr(), payload.len()) }
-}
-
-pub(crate) fn write_hits(query: &[u8], names: &[u8], sizes: &[u32], from: Responder, out: &mut [u8]) -> HitsWritten {
-    let out_len = out.len();
-    // SAFETY: each pointer goes with the length of its slice; the output is borrowed apart from all that is read.
-    unsafe {
-        raw::lunozhar_write_hits(
-            query.as_ptr(),
-            query.len(),
-            names.as_ptr(),
-            names.len(),
-            sizes.as_ptr(),
-            sizes.len(),
-            from,
-            out.as_mut_ptr(),
-            out_len,
-        )
-    }
 }
 
 pub(crate) fn read_group(bytes: &[u8]) -> Group {

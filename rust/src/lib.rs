@@ -34,8 +34,7 @@
 //! [`Station::look_up`] tells who asked a query, and how many were remembered after it.
 //! [`Names`] are the station's own file names; [`Station::table_for`] makes the table that tells a neighbour what can be
 //! reached through the station, the own names and what its other neighbours tell of, and [`table`] writes its updates;
-//! [`keyword`] has a keyword's hash and place. [`hit`] reads the results of a hit, and [`Names::answer`] writes the hit for
-//! a query. [`handshake`] reads and writes the groups of lines that open a connection.
+//! [`keyword`] has a keyword's hash and place. [`handshake`] reads and writes the groups of lines that open a connection.
 //! A refusal is a [`Refusal`], with its number. [`raw`] is what C sees.
 //!
 //! The core is linked from `target/staticlib/liblunozhar.a` of the repository, which `./library` proves and writes for x86-64; the
@@ -44,7 +43,6 @@
 
 mod boundary;
 pub mod handshake;
-pub mod hit;
 pub mod keyword;
 mod names;
 pub mod raw;

@@ -1,6 +1,5 @@
 //! The station's own file names: a list of them, and the table that it makes.
 
-use crate::hit::Responder;
 use crate::refusal::checked;
 use crate::table::LONGEST;
 use crate::{boundary, raw, Refusal, RefusedBytes};
@@ -186,86 +185,6 @@ impl Names {
         let mut entries = vec![0; LONGEST.min(length as usize)];
         checked(boundary::name_table(&self.area, length, infinity, &mut entries))?;
         Ok(entries)
-    }
-
-    /// The hit for a query, to be sent by the line that the query came by: the names that match it, with their places
-    /// and sizes, and the station that has them. The query is the message as it came, [`Outcome::message`]; the sizes
-    /// are those of the files, one for each name in the order of the list, and may be more.
-    ///
-    /// A name matches if it has every keyword of the query's text among its own, as a whole and whatever the case of
-    /// letters (see [`keyword`](crate::keyword)); a text without keywords matches no name. The names that match are taken
-    /// in the order of the list, 255 at most, and up to the first that would make the payload longer than 4,096 bytes: a
-    /// shorter one behind it is not taken. A result has the name's place as its index, and an empty extension. The hit
-    /// has the query's number, one more than its Hops for TTL, and Hops 0. [`Hit::parse`](crate::hit::Hit::parse) reads
-    /// the same results back.
-    ///
-    /// [`Outcome::message`]: crate::Outcome::message
-    ///
-    /// # Errors
-    ///
-    /// [`Refusal::BadArea`] for fewer sizes than names; [`Refusal::NotWhole`] or [`Refusal::TooLong`] for bytes that are
-    /// no whole message; [`Refusal::UnknownType`] for one that is no query; [`Refusal::BadPayload`] for a text that no
-    /// zero byte ends; [`Refusal::BadTtlOrHops`] for a TTL of 0 or over 15, or Hops over 6; [`Refusal::NotFound`] where no
-    /// name matches. A query that a station has taken meets none of these but the first and the last.
-    ///
-    /// ```
-    /// use lunozhar::hit::{Hit, Record, Responder};
-    /// use lunozhar::{Names, Refusal, Station};
-    ///
-    /// let mut names = Names::new(100);
-    /// names.add(b"mountain lake.jpg")?;
-    /// names.add(b"river boat.jpg")?;
-    /// let sizes = [48_000, 1_250_000];
-    /// let from = Responder { host: "192.0.2.2:6346".parse().unwrap(), speed: 1_500, mark: [9; 16] };
-    ///
-    /// let mut asker = Station::new(1024)?;
-    /// asker.open(0)?;
-    /// let query = asker.ask([7; 16], b"BOAT jpg")?.bytes.to_vec();
-    /// let hit = names.answer(&query, &sizes, &from)?;
-    /// let records: Result<Vec<Record>, Refusal> = Hit::parse(&hit[23..])?.records().collect();
-    /// assert_eq!(records?, [Record { index: 1, size: 1_250_000, name: b"river boat.jpg", extension: b"" }]);
-    ///
-    /// let query = asker.ask([8; 16], b"boa")?.bytes.to_vec();
-    /// assert_eq!(names.answer(&query, &sizes, &from), Err(Refusal::NotFound));
-    /// assert_eq!(names.answer(&query, &sizes[..1], &from), Err(Refusal::BadArea));
-    /// # Ok::<(), Refusal>(())
-    /// ```
-    pub fn answer(&self, query: &[u8], sizes: &[u32], from: &Responder) -> Result<Vec<u8>, Refusal> {
-        let mut out = vec![0; raw::OUTPUT];
-        let written = self.answer_into(query, sizes, from, &mut out)?.len();
-        out.truncate(written);
-        Ok(out)
-    }
-
-    /// The same, written to the front of an area that is lent, of [`raw::OUTPUT`] bytes or more; it hands back the part
-    /// that has the hit. Nothing is written where it is refused.
-    ///
-    /// # Errors
-    ///
-    /// As for [`answer`](Names::answer), and [`Refusal::BadArea`] for an area that is too short.
-    ///
-    /// ```
-    /// use lunozhar::hit::Responder;
-    /// use lunozhar::{raw, Names, Refusal, Station};
-    ///
-    /// let mut names = Names::new(100);
-    /// names.add(b"mountain lake.jpg")?;
-    /// let from = Responder { host: "192.0.2.2:6346".parse().unwrap(), speed: 1_500, mark: [9; 16] };
-    /// let mut asker = Station::new(1024)?;
-    /// asker.open(0)?;
-    /// let query = asker.ask([7; 16], b"lake")?.bytes;
-    ///
-    /// let mut area = [0; raw::OUTPUT];
-    /// let hit = names.answer_into(query, &[48_000], &from, &mut area)?;
-    /// assert_eq!(hit.len(), 23 + 11 + 10 + 17 + 16);
-    /// let short = &mut area[1..];
-    /// assert_eq!(names.answer_into(query, &[48_000], &from, short), Err(Refusal::BadArea));
-    /// # Ok::<(), Refusal>(())
-    /// ```
-    pub fn answer_into<'o>(&self, query: &[u8], sizes: &[u32], from: &Responder, out: &'o mut [u8]) -> Result<&'o [u8], Refusal> {
-        let told = boundary::write_hits(query, &self.area, sizes, from.raw(), out);
-        checked(told.answer)?;
-        Ok(&out[..told.written])
     }
 
     /// The names, in the order of their places.

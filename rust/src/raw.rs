@@ -35,7 +35,7 @@ pub const PONGS: usize = 10;
 pub const PAIRS: usize = 32;
 /// Answer numbers: 0 for done, and 21 refusals.
 pub const ANSWERS: usize = 22;
-/// The shortest output area of a message, an own query or a hit that is written.
+/// The shortest output area of a message or an own query.
 pub const OUTPUT: usize = 4_119;
 /// The shortest held area of a line.
 pub const HELD: usize = 4_119;
@@ -326,94 +326,6 @@ pub struct NameFound {
     pub place: usize,
 }
 
-/// Where a reader of a hit is.
-#[repr(C)]
-#[derive(Clone, Copy, Debug, Default, PartialEq, Eq)]
-pub struct HitCursor {
-    /// The place of the next result in the payload.
-    pub at: usize,
-    /// How many of the stated number of results are left.
-    pub left: u8,
-}
-
-/// A result of a hit.
-#[repr(C)]
-#[derive(Clone, Copy, Debug, Default, PartialEq, Eq)]
-pub struct HitRecord {
-    /// The number that its station has for the file.
-    pub index: u32,
-    /// The file's size.
-    pub size: u32,
-    /// Where the name stands in the payload.
-    pub nameat: usize,
-    /// How long the name is.
-    pub namelen: usize,
-    /// Where the extension stands in the payload.
-    pub extat: usize,
-    /// How long the extension is.
-    pub extlen: usize,
-}
-
-/// What a call of the reader of a hit came to.
-#[repr(C)]
-#[derive(Clone, Copy, Debug, Default, PartialEq, Eq)]
-pub struct HitRead {
-    /// 0, or the number of a [`crate::Refusal`]: 6.
-    pub answer: u8,
-    /// Whether there is a result. Where not, and the answer is 0, all stated ones were handed out.
-    pub found: bool,
-    /// The result; all zero where there is none.
-    pub result: HitRecord,
-    /// The cursor behind the result; where there is none, the one that was handed over.
-    pub cursor: HitCursor,
-}
-
-/// What stands at the front of a hit's payload. When refused, all but the answer is 0.
-#[repr(C)]
-#[derive(Clone, Copy, Debug, Default, PartialEq, Eq)]
-pub struct HitHead {
-    /// 0, or the number of a [`crate::Refusal`]: 6.
-    pub answer: u8,
-    /// How many results are stated.
-    pub results: u8,
-    /// The port of the station that answers.
-    pub port: u16,
-    /// Its IPv4 address, in network order.
-    pub address: [u8; 4],
-    /// What it says of its speed, in kilobits a second.
-    pub speed: u32,
-    /// Where its mark stands in the payload: the last 16 bytes.
-    pub markat: usize,
-    /// The cursor for the first result.
-    pub cursor: HitCursor,
-}
-
-/// The station that answers, as its hits tell of it.
-#[repr(C)]
-#[derive(Clone, Copy, Debug, PartialEq, Eq)]
-pub struct Responder {
-    /// Its port.
-    pub port: u16,
-    /// Its IPv4 address, in network order.
-    pub address: [u8; 4],
-    /// Its speed, in kilobits a second.
-    pub speed: u32,
-    /// Its mark.
-    pub mark: [u8; 16],
-}
-
-/// What the writing of a hit came to.
-#[repr(C)]
-#[derive(Clone, Copy, Debug, Default, PartialEq, Eq)]
-pub struct HitsWritten {
-    /// 0, or the number of a [`crate::Refusal`]: 1, 2, 4 to 8 or 10.
-    pub answer: u8,
-    /// How many results the hit has; 0 where the answer is not 0.
-    pub results: u8,
-    /// Bytes written; 0 where the answer is not 0.
-    pub written: usize,
-}
-
 /// What the making of a table for a neighbour came to.
 #[repr(C)]
 #[derive(Clone, Copy, Debug, PartialEq, Eq)]
@@ -647,22 +559,6 @@ extern "C" {
     pub fn lunozhar_name_find(area: *const u8, area_len: usize, name: *const u8, name_len: usize) -> NameFound;
     /// Makes the table of a list of names.
     pub fn lunozhar_name_table(area: *const u8, area_len: usize, length: u32, infinity: u8, out: *mut u8, out_len: usize) -> u8;
-    /// Reads the front of a hit's payload.
-    pub fn lunozhar_hit_begin(payload: *const u8, payload_len: usize) -> HitHead;
-    /// Reads the next result of a hit.
-    pub fn lunozhar_hit_next(cursor: HitCursor, payload: *const u8, payload_len: usize) -> HitRead;
-    /// Writes the hit that a list of names gives for a query.
-    pub fn lunozhar_write_hits(
-        query: *const u8,
-        query_len: usize,
-        names: *const u8,
-        names_len: usize,
-        sizes: *const u32,
-        sizes_len: usize,
-        from: Responder,
-        out: *mut u8,
-        out_len: usize,
-    ) -> HitsWritten;
     /// Reads a handshake group.
     pub fn lunozhar_read_group(bytes: *const u8, len: usize) -> Group;
     /// Writes the value of a handshake group's field to an area.
@@ -715,12 +611,6 @@ layout! {
     Tally 88 { counts 0 }
     Written 16 { answer 0, written 8 }
     NameFound 16 { answer 0, place 8 }
-    HitCursor 16 { at 0, left 8 }
-    HitRecord 40 { index 0, size 4, nameat 8, namelen 16, extat 24, extlen 32 }
-    HitRead 64 { answer 0, found 1, result 8, cursor 48 }
-    HitHead 40 { answer 0, results 1, port 2, address 4, speed 8, markat 16, cursor 24 }
-    Responder 28 { port 0, address 2, speed 8, mark 12 }
-    HitsWritten 16 { answer 0, results 1, written 8 }
     Made 2 { answer 0, infinity 1 }
     Group 32 { answer 0, used 8, kind 16, major 20, minor 24, code 28 }
     Asked 24 { answer 0, used 8, written 16 }

@@ -17,7 +17,7 @@ pub enum Refusal {
     /// 1: the station's state or a list of names is not in order; of bytes that a line brings: what is held of the line
     /// starts no message.
     NotInOrder = 1,
-    /// 2: an area is too short, or the route area gives another room than the state's; there are fewer sizes than names.
+    /// 2: an area is too short, or the route area gives another room than the state's.
     BadArea = 2,
     /// 3: the line is over 7, or not open; for opening: already open.
     BadLine = 3,
@@ -25,17 +25,15 @@ pub enum Refusal {
     NotWhole = 4,
     /// 5: the payload is over 4,096 bytes, or an own query's text over 4,093.
     TooLong = 5,
-    /// 6: the payload is wrong for its type; an own query's text, a host or a file name is wrong; a result of a hit does
-    /// not end before the mark.
+    /// 6: the payload is wrong for its type; an own query's text, a host or a file name is wrong.
     BadPayload = 6,
-    /// 7: the message is no ping, pong, query, query hit or route update; one that hits are to be written for is no query.
+    /// 7: the message is no ping, pong, query, query hit or route update.
     UnknownType = 7,
     /// 8: TTL or Hops is not allowed.
     BadTtlOrHops = 8,
     /// 9: the query's number is remembered; the file name is in the list.
     Repeated = 9,
-    /// 10: a hit or a look-up for no remembered query; the handshake field or the file name is absent; no name in the
-    /// list matches the query.
+    /// 10: a hit or a look-up for no remembered query; the handshake field or the file name is absent.
     NotFound = 10,
     /// 11: a hit for a query whose line has closed since, even if it is open again.
     AskerClosed = 11,
@@ -137,15 +135,15 @@ impl Refusal {
     pub fn meaning(self) -> &'static str {
         match self {
             Refusal::NotInOrder => "the station's state, a line's held area or a list of names is not in order",
-            Refusal::BadArea => "an area is too short, the route area gives another room, or a size is missing",
+            Refusal::BadArea => "an area is too short, or the route area gives another room",
             Refusal::BadLine => "no such line, or it is not open, or open already",
             Refusal::NotWhole => "the message or handshake group is not whole",
             Refusal::TooLong => "the payload or the query's text is too long",
-            Refusal::BadPayload => "the payload, the query's text, a host, a file name or a hit's result is wrong",
-            Refusal::UnknownType => "unknown type of message, or no query where one is needed",
+            Refusal::BadPayload => "the payload, the query's text, a host or a file name is wrong",
+            Refusal::UnknownType => "unknown type of message",
             Refusal::BadTtlOrHops => "TTL or Hops is not allowed",
             Refusal::Repeated => "the query's number is remembered, or the file name is listed",
-            Refusal::NotFound => "no such remembered query, handshake field or file name, or no name that matches",
+            Refusal::NotFound => "no remembered query has the number, or no such handshake field or file name",
             Refusal::AskerClosed => "the asker's line has closed",
             Refusal::HopsFull => "a hit whose Hops is 255 and would have to rise",
             Refusal::PingTooSoon => "ping too soon after the last one",
@@ -176,8 +174,7 @@ impl Error for Refusal {}
 /// use lunozhar::handshake;
 ///
 /// let refused = handshake::field(b"GNUTELLA/0.6 200 OK\r\n\r\n", "X-Try").unwrap_err();
-/// let meaning = "no such remembered query, handshake field or file name, or no name that matches";
-/// assert_eq!(refused.to_string(), format!("refused with 10: {meaning} (23 bytes used)"));
+/// assert_eq!(refused.to_string(), "refused with 10: no remembered query has the number, or no such handshake field or file name (23 bytes used)");
 /// ```
 #[derive(Clone, Copy, Debug, PartialEq, Eq, Hash)]
 pub struct Refused {

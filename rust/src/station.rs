@@ -86,10 +86,9 @@ impl<'s> Sent<'s> {
 pub enum Local<'m> {
     /// Nothing.
     Nothing,
-    /// A query for the local search: its text, without the zero byte at its end. [`Names::answer`](crate::Names::answer)
-    /// searches a list of names for it, and writes the hit.
+    /// A query for the local search: its text, without the zero byte at its end.
     Query(&'m [u8]),
-    /// A hit for a query of this station's own: its payload, which [`Hit::parse`](crate::hit::Hit::parse) reads.
+    /// A hit for a query of this station's own: its payload.
     Hit(&'m [u8]),
 }
 
@@ -100,11 +99,9 @@ pub struct Outcome<'s, 'm> {
     pub used: usize,
     /// What to send, and by which lines. It borrows the station, whose next message writes over it.
     pub sent: Sent<'s>,
-    /// What is for this station itself, as a part of the message.
+    /// What is for this station itself, as a part of the bytes that came, or, of a message that [`feed`](Station::feed)
+    /// put together, of the station.
     pub local: Local<'m>,
-    /// The message as it came, header and payload: a query is answered with it by [`Names::answer`](crate::Names::answer).
-    /// It is a part of the bytes that came, or, if [`feed`](Station::feed) put it together, of the station.
-    pub message: &'m [u8],
     /// Of a hit: how many queries were remembered after the one that it answers, 0 for the newest. Of other messages
     /// there is none.
     pub after: Option<usize>,
@@ -113,7 +110,7 @@ pub struct Outcome<'s, 'm> {
 impl<'s, 'm> Outcome<'s, 'm> {
     /// What a message came to that was done.
     fn new(output: &'s [u8], told: &Told, message: &'m [u8]) -> Outcome<'s, 'm> {
-        Outcome { used: told.used, sent: Sent::new(output, told), local: local(told, message), message, after: after(told.age) }
+        Outcome { used: told.used, sent: Sent::new(output, told), local: local(told, message), after: after(told.age) }
     }
 }
 

@@ -127,7 +127,7 @@ fn the_structs_are_the_same() {
 #[test]
 fn the_functions_are_the_same() {
     assert_eq!(functions_of_c(), functions_of_rust());
-    assert_eq!(functions_of_rust().len(), 26);
+    assert_eq!(functions_of_rust().len(), 23);
     assert_eq!(wrappers_of_c(), wrappers_of_rust());
     assert_eq!(wrappers_of_rust().len(), 9);
 }

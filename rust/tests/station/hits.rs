@@ -51,7 +51,7 @@ fn the_201st_hit_is_not_passed_back() {
     let mut station = asked_three();
     for count in 1..=raw::HITS {
         let hit = hit(A);
-        let Outcome { used, sent, local, after, .. } = station.message(1, 0, &own(), &hit).unwrap();
+        let Outcome { used, sent, local, after } = station.message(1, 0, &own(), &hit).unwrap();
         assert_eq!((used, sent.bytes, local, after), (50, &message(A, HIT, 3, 1, &[0; 27])[..], Local::Nothing, Some(2)));
         assert!(sent.lines().eq([0]));
         assert_eq!(counts(&station), [count, 0, 0]);

@@ -1,7 +1,6 @@
 //! The crate as a program uses it.
 
 mod ages;
-mod answers;
 mod any_bytes;
 mod feeding;
 mod handshakes;

@@ -7,8 +7,8 @@ use lunozhar::{Local, Outcome, Refusal, Station};
 fn a_query_is_searched_and_goes_to_every_other_line() {
     let mut station = station(&[0, 2, 7]);
     let bytes = [query(7, "mountain lake"), vec![1, 2, 3]].concat();
-    let Outcome { used, sent, local, message: taken, after } = station.message(2, 0, &own(), &bytes).unwrap();
-    assert_eq!((used, taken, after), (bytes.len() - 3, &bytes[..used], None));
+    let Outcome { used, sent, local, after } = station.message(2, 0, &own(), &bytes).unwrap();
+    assert_eq!((used, after), (bytes.len() - 3, None));
     assert!(sent.lines().eq([0, 7]));
     assert_eq!(sent.to, [true, false, false, false, false, false, false, true]);
     assert_eq!(sent.bytes, message(7, QUERY, 2, 2, &bytes[23..used]));
