@@ -75,6 +75,14 @@ def as_record(val, clauses):
                 break
     parts = split_tuple(val[start:])
     if not parts or len(parts) != len(clauses):
+        # a lemma's pair, of which the record takes the parts
+        tail = val[start:].strip()
+        word = re.match(r"[^\s(){}]+", tail)
+        tactics = {"rw", "simp", "search", "omega", "grind", "cc", "elim", "record", "let", "λ", "?", "absurd"}
+        if len(clauses) > 1 and word and word.group(0) not in tactics and " " in tail:
+            proj = ["both" + ".1" * k + (".0" if k < len(clauses) - 1 else "") for k in range(len(clauses))]
+            fields = "; ".join(f"{c} = {p}" for c, p in zip(clauses, proj))
+            return val[:start].rstrip() + f"\n    let both = {tail} in\n    record {{ {fields} }}"
         return val
     lead = re.match(r"\s*", val[start:]).group(0)
     return val[:start] + (lead or " ") + "record {\n      " + ";\n      ".join(f"{c} = {p}" for c, p in zip(clauses, parts)) + ";\n    }"
