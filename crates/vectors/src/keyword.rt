@@ -4,7 +4,7 @@ use keywords::cut::Cut;
 use rows::words;
 use std::io;
 
-fn place(rt: &impl Print, keyword: &[u8], bits: u32) -> io::Result<()> {
+pub(crate) fn place(rt: &impl Print, keyword: &[u8], bits: u32) -> io::Result<()> {
     let n = keywords::hash::place(keyword, bits);
     print::number(rt, u64::from(n))
 }

@@ -6,10 +6,10 @@ use rows::words;
 use std::io;
 
 // Room for the input, and for the bytes of a row.
-pub(crate) fn room() -> [u8; 131072]
-    ensures { 131072 ≡ length result }
+pub(crate) fn room() -> [u8; 98304]
+    ensures { 98304 ≡ length result }
 {
-    [0; 131072]
+    [0; 98304]
 }
 
 // Room for what is written, which is a session's text at the longest.

@@ -29,7 +29,7 @@ pub(crate) fn start(rt: &impl Print, size: usize) -> io::Result<()> {
 }
 
 // A byte of a list: two digits with nothing between, or a number behind a separator.
-fn item(rt: &impl Print, i: usize, b: u8, separator: u8) -> io::Result<()> {
+pub(crate) fn item(rt: &impl Print, i: usize, b: u8, separator: u8) -> io::Result<()> {
     if separator == 0 {
         return print!(rt; "{b:02x}");
     }
