@@ -74,6 +74,10 @@ def as_record(val, clauses):
                     return val[:i] + "(record {\n      " + ";\n      ".join(f"{c} = {p}" for c, p in zip(clauses, parts)) + ";\n    })"
                 break
     parts = split_tuple(val[start:])
+    if not parts and re.match(r"\s*(?!(?:record|elim|rw|simp|omega|search|grind|cc|absurd|subst)\b)[\w.'-]+\s+\S", val[start:]):
+        # a law that gives them all
+        d = "all" if re.search(r"(?<![\w.'-])d(?![\w'-])", val) else "d"
+        return val[:start] + f"\n    let {d} =" + val[start:].rstrip() + " in record {\n      " + ";\n      ".join(f"{c} = {d}.{i}" for i, c in enumerate(clauses)) + ";\n    }"
     if not parts or len(parts) != len(clauses):
         # a lemma's pair, of which the record takes the parts
         tail = val[start:].strip()
@@ -275,6 +279,8 @@ class Env:
             else:
                 if pm and pm.group(1) in self.vars and pm.group(2):
                     callee = self.callee(pm.group(1), [x for x in pm.group(2).split(".") if x])
+                    if (self.path(pm.group(1), [x for x in pm.group(2).split(".") if x])[0] or "").split(".")[-1].startswith("loop"):
+                        text = text[: m.end()] + re.sub(r"(?<![\w.'-])%s\.inv(?![\w'-])" % re.escape(name), name + ".invariant", text[m.end() :])
                     if callee:
                         text = text[: m.end()] + self.by_name(name, callee, text[m.end() :])
                 if name in self.vars:
