@@ -1,7 +1,7 @@
 // A row for each line of the input: its first word says which kind.
 ghost use Rattle.std.specs.Prelude.{◌≡◌, length};
 
-use crate::{answers, calls, keyword, lists, pairs, print, sessions, updates};
+use crate::{calls, keyword, lists, pairs, print, sessions, updates};
 use rows::words;
 use std::io;
 
@@ -71,7 +71,6 @@ fn values(
         16 => calls::look(rt, row, out),
         17 => lists::values(rt, row),
         18 => calls::relay(rt, row, out),
-        19 | 20 | 21 => answers::values(rt, kind, row, out),
         _ => calls::values(rt, kind, row, out),
     }
 }
@@ -108,7 +107,7 @@ fn unread(rt: &impl Print, line: &[u8]) -> io::Result<()> {
 
 fn kind_of(name: &[u8]) -> usize {
     words::index(
-        b"place keywords update withheld table run group field try written case casehash session file calls order look names relay hit next answer",
+        b"place keywords update withheld table run group field try written case casehash session file calls order look names relay",
         name,
     )
 }
@@ -116,7 +115,7 @@ fn kind_of(name: &[u8]) -> usize {
 fn one(rt: &impl Print, line: &[u8]) -> io::Result<()> {
     let end = words::find(line, 0, b' ');
     let kind = kind_of(words::part(line, 0, end));
-    if kind < 22 {
+    if kind < 19 {
         row(rt, kind, line, end)
     } else {
         unread(rt, line)

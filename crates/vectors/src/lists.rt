@@ -146,17 +146,6 @@ fn event(rt: &impl Print, kind: usize, area: &mut [u8], row: &[u8], k: usize) ->
     }
 }
 
-// An event of which nothing is told.
-fn done(kind: usize, area: &mut [u8], row: &[u8], k: usize) {
-    match kind {
-        0 | 1 => {
-            change(kind, area, rows::word(row, k, 1));
-        }
-        2 | 3 => {}
-        _ => by_hand(kind, area, row, k),
-    }
-}
-
 // Which event a word names.
 fn kind_of(row: &[u8], k: usize) -> usize {
     words::index(
@@ -185,16 +174,6 @@ fn run(rt: &impl Print, area: &mut [u8], row: &[u8]) -> io::Result<()> {
         k += width(kind);
     }
     Ok(())
-}
-
-// The events from the fifth word on, of which nothing is told.
-pub(crate) fn run_quietly(area: &mut [u8], row: &[u8]) {
-    let mut k: usize = 4;
-    while k < rows::count(row) {
-        let kind = kind_of(row, k);
-        done(kind, &mut *area, row, k);
-        k += width(kind);
-    }
 }
 
 // The first `count` names.

@@ -1,7 +1,6 @@
 // The vectors over the proved crates: a row is printed for each line of standard input, as docs/VECTORS.md says.
 #![tactic(auto)]
 
-mod answers;
 mod calls;
 mod keyword;
 mod lines;
