@@ -3,20 +3,18 @@
 use Prim.Native.Nat.{ℕ, zero, suc, ◌+◌, ◌-◌, ◌≤◌}
 use native.Mathlib.Nat.{zero-add, suc-add}
 use native.Mathlib.Omega.{arith}
-use mathlib.Core.Path.{◌≡◌, refl, sym, ap, ap₂, subst, ◌∙◌}
+use mathlib.Core.Path.{◌≡◌, sym, ap, ap₂, subst, ◌∙◌}
 use mathlib.Core.Bool.{true}
 use mathlib.Core.List.{List, [], ◌∷◌, ◌++◌}
 use lib.ListN.{length, take, drop}
 use lib.Seq.{take-nil, take-take}
 use Rattle.laws.specs.Bytes.{little}
-use Rattle.wire.specs.Header.{kind_of, ttl_of, hops_of, size_of, number_of, payload_of, message}
+use Rattle.wire.specs.Header.{ttl_of, hops_of, number_of, payload_of, message}
 use Rattle.protocol.specs.Memory.{Query, Number, capacity, number_in, number_from}
-use Rattle.protocol.specs.State.{Station, line_at, remembered}
-use Rattle.protocol.specs.Order.{in_order}
+use Rattle.protocol.specs.State.{line_at, remembered}
 use Rattle.protocol.specs.Outcomes.{Terms, Outcome}
 use Rattle.protocol.specs.Arrived.{Areas, Arrived}
 use Rattle.protocol.specs.Runs.{Area, Call, Message, World, lent, outcome_of, step, run, start}
-use Rattle.protocol.specs.Kept.{Sized}
 use Rattle.protocol.specs.Queries.{text_in}
 use Rattle.protocol.specs.Demand2.{Origin, Here, From, origin, hits_since, HitRouted, HitBy, AllRouted, Routed}
 use Rattle.protocol.proofs.Demand2.{demand2}

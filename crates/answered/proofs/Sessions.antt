@@ -3,9 +3,9 @@
 -- that has closed since it does not go.
 use Prim.Native.Nat.{ℕ}
 use mathlib.Core.Path.{◌≡◌, refl}
-use mathlib.Core.Bool.{true, false}
+use mathlib.Core.Bool.{true}
 use mathlib.Core.List.{List, [], ◌∷◌, ◌++◌}
-use lib.ListN.{length, take, drop, replicate}
+use lib.ListN.{take, drop, replicate}
 use Rattle.laws.specs.Text.{codes}
 use Rattle.laws.specs.Ring.{kept_places}
 use Rattle.wire.specs.Header.{number_of, ttl_of, hops_of, payload_of, message}
