@@ -1,7 +1,17 @@
-use Rattle.std.proofs.Common.{rules, ◌≤◌, ◌<◌, IfOk, length, take, ◌≡◌, ℕ, ◌+◌, ◌-◌, ◌*◌, ◌/◌, ◌%◌, Bool, true, false, nat_eq, nat_lt, List, [], ◌∷◌, ◌++◌, slice_index_or, slice_set, bit_and, bit_or, Fits, w8, w32, w64, Bor, MutBor}
-use Rattle.std.specs.Io.KnownBytes.{Consumes, IsAtEnd}
+-- What is read stands behind what was read before.
+use Rattle.std.proofs.Common.{rules, length, ◌-◌, subst}
+use Rattle.std.specs.Io.KnownBytes.{Consumes}
+use Rattle.std.proofs.KnownBytes.{Consumes-trans}
+use Rattle.input.proofs.Joining.{joined}
 use Rattle.input.proofs.fill.Goals as goal
 
--- src/lib.rt:17:5
 pub loop-size-preserved : goal.loop-size-preserved
-loop-size-preserved g c = ?
+loop-size-preserved g c =
+    let from = c.loop-size.size in
+    let area = c.loop-size.area in (
+      search rules,
+      search rules,
+      subst (Consumes _ _)
+          (joined from (length area - from) c.in_ok-n.n area c.read.new.buf c.loop-size.invariant.0 c.in_ok-n.ensures.bound.0)
+          (Consumes-trans _ _ _ _ _ c.loop-size.invariant.2 c.in_ok-n.ensures.bytes.0),
+    )

@@ -1,0 +1,2 @@
+-- Lemmas of what is read.
+mod Joining
