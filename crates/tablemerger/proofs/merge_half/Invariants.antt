@@ -1,0 +1,15 @@
+-- The first 2 j entries are merged, the others as they were.
+use Prim.Native.Nat.{◌+◌, ◌-◌, ◌*◌, min}
+use mathlib.Core.Path.{◌≡◌, ap, ◌∙◌}
+use native.Mathlib.Omega.{arith}
+use lib.ListN.{length, get_or, set, length-set}
+use borrow.Author.Rules.{rules}
+use Rattle.tablemerger.proofs.MergeSteps.{nearest-one, covered-half, Merging, merging_first, merging_next}
+use Rattle.tablemerger.proofs.MergeSteps.{merging_end}
+use Rattle.tablemerger.proofs.merge_half.Given as goal
+
+abbrev pub invariant-loop-j : goal.invariant-loop-j
+invariant-loop-j l = Merging l.infinity l.table l.initial.entries l.entries (2 * l.j)
+
+abbrev pub decreases-loop-j : goal.decreases-loop-j
+decreases-loop-j l = length l.table - l.j
