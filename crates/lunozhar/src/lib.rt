@@ -12,14 +12,14 @@ use protocol::Line;
 
 // The eight lines of a station: an array that a struct holds may be taken by value.
 #[repr(C)]
-#[derive(Drop)]
+#[derive(Clone, Copy)]
 pub struct Lines {
     pub at: [Line; 8],
 }
 
 // A message's number.
 #[repr(C)]
-#[derive(Drop)]
+#[derive(Clone, Copy)]
 pub struct Number {
     pub bytes: [u8; 16],
 }

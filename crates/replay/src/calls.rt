@@ -12,7 +12,7 @@ use refusals::ages::no_age;
 use relaying::Made;
 
 // The ring of remembered queries.
-#[derive(Drop)]
+#[derive(Clone, Copy)]
 pub(crate) struct Ring {
     pub(crate) lo: [u64; 512],
     pub(crate) hi: [u64; 512],
@@ -24,7 +24,7 @@ pub(crate) struct Ring {
 
 // Of the last call whether it brought bytes, by which line, and whether the message that was taken stands in the held
 // area.
-#[derive(Drop)]
+#[derive(Clone, Copy)]
 pub(crate) struct Bringing {
     pub(crate) brings: bool,
     pub(crate) line: u32,
@@ -32,7 +32,7 @@ pub(crate) struct Bringing {
 }
 
 // The station, what it says of itself, how much of a held area is lent, and what the last call told.
-#[derive(Drop)]
+#[derive(Clone, Copy)]
 pub(crate) struct Held {
     pub(crate) ring: Ring,
     pub(crate) room: usize,

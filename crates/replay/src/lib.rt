@@ -17,7 +17,7 @@ use rows::words;
 
 // Whether the last call brought bytes; then how many are held of its line after all, whether that is shut, and whether
 // the message that was taken stands in the held area.
-#[derive(Drop)]
+#[derive(Clone, Copy)]
 pub struct Brought {
     pub brings: bool,
     pub held: u16,
@@ -27,7 +27,7 @@ pub struct Brought {
 
 // What a row's calls told: the answers of the first 256, and how many these are; the whole report of the last call;
 // the mark of line 1's table after all; and what there is to tell of a line that brought bytes.
-#[derive(Drop)]
+#[derive(Clone, Copy)]
 pub struct Told {
     pub answers: [u8; 256],
     pub count: usize,
@@ -37,7 +37,7 @@ pub struct Told {
 }
 
 // What a row's events came to: the answers as above, and the station after all of them.
-#[derive(Drop)]
+#[derive(Clone, Copy)]
 struct Done {
     answers: [u8; 256],
     count: usize,

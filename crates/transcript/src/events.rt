@@ -12,7 +12,7 @@ use refusals::ages::no_age;
 
 // What a row and the next event need of a call: the lines after it, its answer, the lines sent to and the age handed
 // up. The ring is lent.
-#[derive(Drop)]
+#[derive(Clone, Copy)]
 pub struct Answered {
     pub lines: [Line; 8],
     pub answer: u8,

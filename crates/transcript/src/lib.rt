@@ -8,7 +8,7 @@ mod rows;
 pub mod text;
 
 // What writing a session's text gives: whether there was room for it, and its length (none where there was not).
-#[derive(Drop)]
+#[derive(Clone, Copy)]
 pub struct Written {
     pub fits: bool,
     pub written: usize,
