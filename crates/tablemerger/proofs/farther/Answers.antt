@@ -1,5 +1,4 @@
 -- By the test: 255 where the entry is its table's Infinity, else one more.
-use borrow.Author.Rules.{rules}
 use borrow.Author.Tests.{eq-eqb, ne_eqb}
 use Rattle.tablemerger.proofs.farther.Goals as goal
 

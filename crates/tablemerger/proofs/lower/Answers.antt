@@ -1,9 +1,9 @@
 -- The first i entries are lowered, the others as they were.
-use Prim.Native.Nat.{◌-◌, ◌≤◌, min}
-use mathlib.Core.Path.{◌≡◌, refl, ap, ◌∙◌}
-use lib.ListN.{length, get_or, length-set}
+use Prim.Native.Nat.{min}
+use mathlib.Core.Path.{refl, ap, ◌∙◌}
+use lib.ListN.{get_or, length-set}
 use borrow.Author.Rules.{rules}
-use Rattle.laws.proofs.InPlace.{mapped, mapped_at, mapped-more, mapped_end}
+use Rattle.laws.proofs.InPlace.{mapped_at, mapped-more, mapped_end}
 use Rattle.tablemerger.proofs.lower.Goals as goal
 
 pub loop-i-init : goal.loop-i-init

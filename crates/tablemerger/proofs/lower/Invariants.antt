@@ -1,9 +1,8 @@
 -- The first i entries are lowered, the others as they were.
 use Prim.Native.Nat.{◌-◌, ◌≤◌, min}
-use mathlib.Core.Path.{◌≡◌, refl, ap, ◌∙◌}
-use lib.ListN.{length, get_or, length-set}
-use borrow.Author.Rules.{rules}
-use Rattle.laws.proofs.InPlace.{mapped, mapped_at, mapped-more, mapped_end}
+use mathlib.Core.Path.{◌≡◌}
+use lib.ListN.{length}
+use Rattle.laws.proofs.InPlace.{mapped}
 use Rattle.tablemerger.proofs.lower.Given as goal
 
 abbrev pub invariant-loop-i : goal.invariant-loop-i

@@ -1,10 +1,7 @@
 -- The first i entries are lowered, the others as they were.
-use Prim.Native.Nat.{◌-◌}
 use native.Mathlib.Omega.{arith}
-use lib.ListN.{length}
 use borrow.Author.Rules.{rules}
-use Rattle.tablemerger.specs.Lowering.{lowered}
-use Rattle.tablemerger.proofs.MergeSteps.{Going, going-first, going_next, going_end}
+use Rattle.tablemerger.proofs.MergeSteps.{going-first, going_next, going_end}
 use Rattle.tablemerger.proofs.IdleLaws.{lowered-length, lowered-at}
 use Rattle.tablemerger.proofs.lower_by.Goals as goal
 
@@ -21,7 +18,7 @@ loop-i-preserved c =
       lowered-at x.table.now x.entries.now l.i (search rules),
       c.lesser.ensures,
       c.one_more.ensures,
-      (omega arith),
+      (c.slice_known-in-loop-i-1.given l.i).fits,
     ))
 
 pub returns : goal.returns

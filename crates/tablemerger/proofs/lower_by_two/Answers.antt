@@ -1,11 +1,9 @@
 -- The first i entries are lowered by both tables, the others as they were.
-use Prim.Native.Nat.{◌-◌}
 use mathlib.Core.Path.{◌∙◌}
 use native.Mathlib.Omega.{arith}
-use lib.ListN.{length}
 use borrow.Author.Rules.{rules}
 use Rattle.tablemerger.specs.Lowering.{lowered}
-use Rattle.tablemerger.proofs.MergeSteps.{Going, going-first, going_next, going_end}
+use Rattle.tablemerger.proofs.MergeSteps.{going-first, going_next, going_end}
 use Rattle.tablemerger.proofs.IdleLaws.{lowered-length, lowered-at}
 use Rattle.tablemerger.proofs.lower_by_two.Goals as goal
 
@@ -27,7 +25,7 @@ loop-i-preserved c =
       c.lesser-in-loop-i.ensures,
       c.one_more.ensures,
       c.lesser.ensures,
-      (omega arith),
+      (c.slice_known-in-loop-i-1.given l.i).fits,
     ))
 
 pub returns : goal.returns

@@ -1,10 +1,10 @@
 -- The first 2 j entries are merged, the others as they were.
-use Prim.Native.Nat.{◌+◌, ◌-◌, ◌*◌, min}
+use Prim.Native.Nat.{◌+◌, ◌*◌, min}
 use mathlib.Core.Path.{◌≡◌, ap, ◌∙◌}
 use native.Mathlib.Omega.{arith}
-use lib.ListN.{length, get_or, set, length-set}
+use lib.ListN.{get_or, set, length-set}
 use borrow.Author.Rules.{rules}
-use Rattle.tablemerger.proofs.MergeSteps.{nearest-one, covered-half, Merging, merging_first, merging_next}
+use Rattle.tablemerger.proofs.MergeSteps.{nearest-one, covered-half, merging_first, merging_next}
 use Rattle.tablemerger.proofs.MergeSteps.{merging_end}
 use Rattle.tablemerger.proofs.merge_half.Goals as goal
 

@@ -1,5 +1,5 @@
 -- The first i entries are merged, the others as they were; what is left of the table starts at block i.
-use Prim.Native.Nat.{◌+◌, ◌-◌, ◌*◌, ◌/◌, ◌≤◌}
+use Prim.Native.Nat.{◌+◌, ◌*◌, ◌/◌, ◌≤◌}
 use mathlib.Core.Path.{◌≡◌, sym, ap, ◌∙◌}
 use native.Mathlib.Nat.{zero-mul, mul-div-le}
 use native.Mathlib.Omega.{arith}
@@ -7,7 +7,7 @@ use lib.ListN.{length, take, drop, length-drop}
 use lib.Seq.{drop-drop, length-take-le}
 use borrow.Author.Rules.{rules}
 use Rattle.laws.proofs.Parts.{part_tail}
-use Rattle.tablemerger.proofs.MergeSteps.{block_within, covered-block, Merging, merging_first, merging_next}
+use Rattle.tablemerger.proofs.MergeSteps.{block_within, covered-block, merging_first, merging_next}
 use Rattle.tablemerger.proofs.MergeSteps.{merging_end}
 use Rattle.tablemerger.proofs.merge_longer.Goals.{In-loop-i}
 use Rattle.tablemerger.proofs.merge_longer.Goals as goal

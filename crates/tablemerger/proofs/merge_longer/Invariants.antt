@@ -1,14 +1,8 @@
 -- The first i entries are merged, the others as they were; what is left of the table starts at block i.
-use Prim.Native.Nat.{◌+◌, ◌-◌, ◌*◌, ◌/◌, ◌≤◌}
-use mathlib.Core.Path.{◌≡◌, sym, ap, ◌∙◌}
-use native.Mathlib.Nat.{zero-mul, mul-div-le}
-use native.Mathlib.Omega.{arith}
-use lib.ListN.{length, take, drop, length-drop}
-use lib.Seq.{drop-drop, length-take-le}
-use borrow.Author.Rules.{rules}
-use Rattle.laws.proofs.Parts.{part_tail}
-use Rattle.tablemerger.proofs.MergeSteps.{block_within, covered-block, Merging, merging_first, merging_next}
-use Rattle.tablemerger.proofs.MergeSteps.{merging_end}
+use Prim.Native.Nat.{◌-◌, ◌*◌}
+use mathlib.Core.Path.{◌≡◌}
+use lib.ListN.{length, drop}
+use Rattle.tablemerger.proofs.MergeSteps.{Merging}
 use Rattle.tablemerger.proofs.merge_longer.Given as goal
 
 abbrev pub invariant-loop-i : goal.invariant-loop-i

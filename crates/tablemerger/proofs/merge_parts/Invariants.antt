@@ -1,20 +1,12 @@
 -- What is left to merge of the tables comes to the same as all of them; what is left of the area starts at the next
 -- pair of parts; and no entry is above the most.
-use Prim.Native.Nat.{◌+◌, ◌-◌, ◌*◌, ◌≤◌}
-use mathlib.Core.Path.{◌≡◌, refl, sym, ap, ap₂, ◌∙◌}
-use native.Mathlib.Nat.{zero-mul}
-use native.Mathlib.Omega.{arith}
-use lib.ListN.{length, get_or, take, drop}
-use lib.Seq.{length-take-le}
-use Rattle.laws.proofs.Passing.{part-next}
-use Rattle.tables.specs.Tables.{no_table}
-use Rattle.tablemerging.specs.Merging.{picked_tables, merged, merged_all}
-use Rattle.tablemerging.proofs.MergeLaws.{all-length}
+use Prim.Native.Nat.{◌-◌, ◌*◌, ◌≤◌}
+use mathlib.Core.Path.{◌≡◌}
+use lib.ListN.{drop}
+use Rattle.tablemerging.specs.Merging.{merged_all}
 use Rattle.tablemerger.specs.Lowering.{Within}
 use Rattle.tablemerger.specs.Parts.{part_tables}
-use Rattle.tablemerger.proofs.PartLaws.{from_part, merged-next}
-use Rattle.tablemerger.proofs.IdleLaws.{merged-within}
-use borrow.Author.Rules.{rules}
+use Rattle.tablemerger.proofs.PartLaws.{from_part}
 use Rattle.tablemerger.proofs.merge_parts.Given as goal
 
 abbrev pub invariant-loop-pair : goal.invariant-loop-pair

@@ -1,11 +1,7 @@
 -- The first i entries are merged, the others as they were.
-use Prim.Native.Nat.{◌-◌, min}
-use mathlib.Core.Path.{ap, ◌∙◌}
-use native.Mathlib.Omega.{arith}
-use lib.ListN.{length, get_or}
-use borrow.Author.Rules.{rules}
-use Rattle.tablemerger.proofs.MergeSteps.{nearest-one, covered_same, Merging, merging_first, merging_next}
-use Rattle.tablemerger.proofs.MergeSteps.{merging_end}
+use Prim.Native.Nat.{◌-◌}
+use lib.ListN.{length}
+use Rattle.tablemerger.proofs.MergeSteps.{Merging}
 use Rattle.tablemerger.proofs.merge_same.Given as goal
 
 abbrev pub invariant-loop-i : goal.invariant-loop-i

@@ -7,7 +7,7 @@ use native.Mathlib.Omega.{arith}
 use lib.ListN.{length, get_or, take, drop}
 use borrow.Author.Rules.{rules}
 use Rattle.tablemerger.proofs.MergeSteps.{block_within, blocks-behind, covered_one, covered_none}
-use Rattle.tablemerger.proofs.MergeSteps.{Merging, merging_first, merging_block, merging_end}
+use Rattle.tablemerger.proofs.MergeSteps.{merging_first, merging_block, merging_end}
 use Rattle.tablemerger.proofs.merge_shorter.Goals.{In-loop-j}
 use Rattle.tablemerger.proofs.merge_shorter.Goals as goal
 

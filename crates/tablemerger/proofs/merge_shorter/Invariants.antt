@@ -1,13 +1,8 @@
 -- The first j blocks of the entries are merged, the others as they were.
-use Prim.Native.Nat.{◌+◌, ◌-◌, ◌*◌, ◌/◌, ◌≤◌, min}
-use mathlib.Core.Path.{◌≡◌, sym, ap, ◌∙◌}
-use mathlib.Core.List.{map}
-use native.Mathlib.Nat.{zero-mul, mul-div-le}
-use native.Mathlib.Omega.{arith}
-use lib.ListN.{length, get_or, take, drop}
-use borrow.Author.Rules.{rules}
-use Rattle.tablemerger.proofs.MergeSteps.{block_within, blocks-behind, covered_one, covered_none}
-use Rattle.tablemerger.proofs.MergeSteps.{Merging, merging_first, merging_block, merging_end}
+use Prim.Native.Nat.{◌-◌, ◌*◌, ◌≤◌}
+use mathlib.Core.Path.{◌≡◌}
+use lib.ListN.{length}
+use Rattle.tablemerger.proofs.MergeSteps.{Merging}
 use Rattle.tablemerger.proofs.merge_shorter.Given as goal
 
 abbrev pub invariant-loop-j : goal.invariant-loop-j

@@ -5,7 +5,6 @@ use Rattle.tablemerging.specs.Merging.{merged_all}
 use Rattle.tablemerging.proofs.MergeLaws.{all-merged}
 use Rattle.tablemerger.specs.Parts.{part_tables}
 use Rattle.tablemerger.proofs.IdleLaws.{filled_within}
-use borrow.Author.Rules.{rules}
 use Rattle.tablemerger.proofs.merge_tables.Goals as goal
 
 pub merge_parts-requires : goal.merge_parts-requires

@@ -1,7 +1,7 @@
 -- The least at hand, with the entries that are left, gives what x gives with all of them.
-use Prim.Native.Nat.{◌+◌, ◌-◌, ◌≤◌, ◌<◌, min}
-use mathlib.Core.Path.{◌≡◌, refl, sym, ap, ◌∙◌}
-use lib.ListN.{length, drop, drop_of_length-le}
+use Prim.Native.Nat.{◌+◌, min}
+use mathlib.Core.Path.{refl, sym, ap, ◌∙◌}
+use lib.ListN.{drop, drop_of_length-le}
 use borrow.Author.Rules.{rules}
 use Rattle.tablemerging.specs.Merging.{reaching, nearest}
 use Rattle.tablemerger.proofs.MergeSteps.{nearest-next}

@@ -1,10 +1,8 @@
 -- The least at hand, with the entries that are left, gives what x gives with all of them.
-use Prim.Native.Nat.{◌+◌, ◌-◌, ◌≤◌, ◌<◌, min}
-use mathlib.Core.Path.{◌≡◌, refl, sym, ap, ◌∙◌}
-use lib.ListN.{length, drop, drop_of_length-le}
-use borrow.Author.Rules.{rules}
+use Prim.Native.Nat.{◌-◌, ◌≤◌, ◌<◌}
+use mathlib.Core.Path.{◌≡◌}
+use lib.ListN.{length, drop}
 use Rattle.tablemerging.specs.Merging.{reaching, nearest}
-use Rattle.tablemerger.proofs.MergeSteps.{nearest-next}
 use Rattle.tablemerger.proofs.nearest_in.Given as goal
 
 abbrev pub invariant-loop-i : goal.invariant-loop-i

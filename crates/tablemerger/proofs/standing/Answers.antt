@@ -1,6 +1,5 @@
 -- None of a table that is not picked; else all that the part holds.
 use borrow.Author.Rules.{rules}
-use borrow.Author.Tests.{not-true, not-false}
 use Rattle.tablemerger.proofs.standing.Goals as goal
 
 pub returns-then-not-picked : goal.returns-then-not-picked
