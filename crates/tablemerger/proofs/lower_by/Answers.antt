@@ -18,7 +18,6 @@ loop-i-preserved c =
       lowered-at x.table.now x.entries.now l.i (search rules),
       c.lesser.ensures,
       c.one_more.ensures,
-      (c.slice_known-in-loop-i-1.given l.i).fits,
     ))
 
 pub returns : goal.returns

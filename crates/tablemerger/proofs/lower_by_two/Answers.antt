@@ -25,7 +25,6 @@ loop-i-preserved c =
       c.lesser-in-loop-i.ensures,
       c.one_more.ensures,
       c.lesser.ensures,
-      (c.slice_known-in-loop-i-1.given l.i).fits,
     ))
 
 pub returns : goal.returns
