@@ -92,6 +92,15 @@ module _ {a : List ℕ} {from : ℕ} where
           which = inr (h, refl, p);
         }
 
+  -- pair k is taken where its offset is not below `from` and below the least so far, and is passed elsewhere
+  pub lowest_step : {k best least b l : ℕ} → (span_at a k).offset < 4294967296 → Lowest a from k best least
+      → k < count_in a
+      → ((from ≤ (span_at a k).offset) × ((span_at a k).offset < least) × (b ≡ k) × (l ≡ (span_at a k).offset))
+      ⊎ ((from ≤ (span_at a k).offset → least ≤ (span_at a k).offset) × (b ≡ best) × (l ≡ least))
+      → Lowest a from (k + 1) b l
+  lowest_step s low h =
+      ⊎_elim (λ w. rw (w.2, w.3) (lowest_take s low h w.0 w.1)) (λ w. rw (w.1, w.2) (lowest_pass s low w.0))
+
   pub lowest_end : {best least : ℕ} → Lowest a from (count_in a) best least → Least a from best
   lowest_end {best} {least} l =
       record {
