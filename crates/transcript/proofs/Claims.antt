@@ -3,9 +3,9 @@ use Prim.Native.Nat.{ℕ, zero, suc, ◌+◌, ◌-◌, ◌*◌, ◌≤◌, ◌<�
 use native.Mathlib.Decide.{dec_le}
 use native.Mathlib.Omega.{arith}
 use mathlib.Core.Path.{◌≡◌, refl, sym, ap, ◌∙◌}
-use mathlib.Core.Bool.{Bool, true, false, ◌&&◌}
-use mathlib.Core.List.{List, [], ◌∷◌}
-use lib.Dec.{leb, eqb}
+use mathlib.Core.Bool.{Bool, true, ◌&&◌}
+use mathlib.Core.List.{List}
+use lib.Dec.{leb}
 use lib.ListN.{length, get_or, take, drop}
 use lib.Seq.{get_or-take}
 use borrow.Author.Tests.{leb-true, le-leb, eq-eqb}
@@ -14,7 +14,6 @@ use Rattle.laws.proofs.Refusals.{and_fst, and_snd}
 use Rattle.laws.proofs.Text.{head-drop}
 use Rattle.digits.specs.Decimal.{decimal}
 use Rattle.transcript.specs.Files.{count_of, offset_of, event_at, kind_of, count_from, longest, good_offsets, good_event}
-use Rattle.transcript.specs.Files.{good_file}
 use Rattle.transcript.specs.Rows.{age_text}
 use Rattle.transcript.specs.Claims.{InForm, GoodExactly, Station, AgeColumn}
 use Rattle.transcript.proofs.Reading.{offsets-fit, offsets-room, offsets-first, offsets-last}

@@ -1,9 +1,8 @@
 -- The six events of RULES 17.7, a session with hits, and files that are not good, by computation.
 use Prim.Native.Nat.{ℕ, ◌+◌, ◌*◌}
 use mathlib.Core.Path.{◌≡◌, refl}
-use mathlib.Core.Bool.{true, false}
 use mathlib.Core.List.{List, [], ◌∷◌, ◌++◌}
-use lib.ListN.{length, replicate, set}
+use lib.ListN.{length, replicate}
 use Rattle.laws.specs.Text.{codes}
 use Rattle.laws.specs.Bytes.{little_bytes}
 use Rattle.laws.specs.Ring.{kept_places}
