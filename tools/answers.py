@@ -185,6 +185,8 @@ class Env:
         rest = parts[i:]
         if not rest:
             return None, place
+        if rest[0] == "pre":
+            rest[0] = "requires"
         step = rest[0]
         if step == "args" and len(rest) > 1 and re.fullmatch(r"t\d+", rest[1]):
             k = int(rest[1][1:]) - 1
@@ -301,7 +303,8 @@ class Env:
 
         def one(m):
             root, tail = m.group(1), m.group(2) or ""
-            if root not in self.vars or (root == "at" and not tail):
+            # `rw e at h` is no variable
+            if root not in self.vars or (root == "at" and not tail and re.match(r"\s+(?!in\b)[\w(]", text[m.end() :])):
                 return m.group(0)
             parts = [x for x in tail.split(".") if x]
             t, place = self.path(root, parts)
@@ -336,8 +339,8 @@ def plain_tests(val, fn):
         return m.group(1) if norm(re.sub(r"(?:-then-|-else-|-in-|-\d+$).*", "", m.group(2))) in called else m.group(0)
 
     fact = r"(\S*\.if-not[_-]([^\s).]*)\.(?:true|false))"
-    val = re.sub(r"\(not-(?:true|false) \S+ " + fact + r"\)", plain, val)
-    return re.sub(r"not-(?:true|false) \S+ " + fact, plain, val)
+    val = re.sub(r"\(not-(?:true|false) \S+\s+" + fact + r"\)", plain, val)
+    return re.sub(r"not-(?:true|false) \S+\s+" + fact, plain, val)
 
 
 def parameters(crate, rel):
@@ -372,7 +375,7 @@ def convert(path, fn, said):
     # use lines can run over several chunks' heads
     uses = []
     joined = "\n".join(head)
-    uses = re.findall(r"^(?:pub )?use [^\n]*(?:\n    [^\n]*)*", joined, re.M)
+    uses = re.findall(r"^(?:pub )?use (?:[^\n{]*\{[^}]*\}|[^\n]*)(?:\n    [^\n]*)*", joined, re.M)
     module = None
     kept_uses = []
     for u in uses:

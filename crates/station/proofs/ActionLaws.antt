@@ -6,18 +6,18 @@ use native.Mathlib.Omega.{arith}
 use native.Mathlib.Nat.{mul-le-mul_right}
 use mathlib.Core.Path.{◌≡◌, refl, sym, ap, ap₂, subst, ◌∙◌}
 use mathlib.Core.Bool.{Bool, true, false, cond, ◌||◌}
-use mathlib.Core.List.{List, [], ◌∷◌}
+use mathlib.Core.List.{List, []}
 use lib.Dec.{eqb, leb, ltb}
 use lib.ListN.{length, get_or, take, drop, length-take, length-drop, length-set}
 use lib.Seq.{length-take-le}
-use borrow.Author.Tests.{eq-eqb, ne_eqb, le-leb, eqb-false, ltb-true, leb-false, not-false}
+use borrow.Author.Tests.{eq-eqb, ne_eqb, le-leb, eqb-false, leb-false, not-false}
 use borrow.Rule.Slice.PartMut.{put_mid}
 use Rattle.laws.specs.Parts.{over}
 use Rattle.laws.specs.Tests.{first_of, any}
 use Rattle.laws.proofs.Refusals.{no-refusal, or_fst, or_snd}
 use Rattle.laws.proofs.Writing.{lent-part}
 use Rattle.wire.specs.declared.Header.{Header}
-use Rattle.wire.specs.Header.{header_in, kind_of, ttl_of, hops_of, size_of, payload_of, message, hit_type, query_type}
+use Rattle.wire.specs.Header.{header_in, kind_of, ttl_of, hops_of, size_of, payload_of, hit_type, query_type}
 use Rattle.wire.proofs.HeaderLaws.{payload-part}
 use Rattle.tables.specs.declared.Updated.{Updated}
 use Rattle.tables.specs.Tables.{Held, held_in}
@@ -32,7 +32,7 @@ use Rattle.protocol.specs.State.{line_only}
 use Rattle.protocol.specs.Outcomes.{Step, only_to, written_for, hands_up, refused_or}
 use Rattle.protocol.specs.Queries.{text_in, has_text, query_on, query_before, query_rules, life_of, query_to}
 use Rattle.protocol.specs.Queries.{query_lines, query_taken, query_step}
-use Rattle.protocol.specs.Hits.{hit_on, hit_before, hit_rules, hit_taken, hit_step}
+use Rattle.protocol.specs.Hits.{hit_before, hit_rules, hit_taken, hit_step}
 use Rattle.protocol.specs.Calls.{update_step}
 use Rattle.protocol.proofs.Updates.{updated-within}
 use Rattle.forwarding.specs.Messages.{passable, passed_on, count_if, written_if, passed_into}

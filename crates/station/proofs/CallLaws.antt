@@ -7,11 +7,11 @@ use native.Mathlib.Omega.{arith}
 use native.Mathlib.Numerals.{add-one}
 use mathlib.Core.Path.{◌≡◌, refl, sym, ap, ap₂, subst, ◌∙◌}
 use mathlib.Core.Bool.{Bool, true, false, cond, not, ◌&&◌, ◌||◌}
-use mathlib.Core.List.{List, [], ◌∷◌, ◌++◌, map}
+use mathlib.Core.List.{List, [], ◌∷◌, map}
 use lib.Dec.{eqb, leb, ltb}
 use lib.ListN.{length, get_or, set, drop, replicate, length-append}
 use lib.Seq.{set-get_or, drop-cons}
-use borrow.Author.Tests.{le-leb, eq-eqb, ne_eqb, eqb-true, eqb-false, ltb-true, ltb-false, not-false}
+use borrow.Author.Tests.{le-leb, eq-eqb, ne_eqb, eqb-true, ltb-true, ltb-false, not-false}
 use Rattle.laws.specs.Parts.{over}
 use Rattle.laws.specs.Tests.{first_of, any, all, every}
 use Rattle.laws.proofs.Refusals.{or_fst, or_snd, no-refusal, NoRefusal}
@@ -33,36 +33,9 @@ use Rattle.protocol.specs.declared.Line.{Line}
 use Rattle.protocol.specs.declared.Lookup.{Lookup}
 use Rattle.protocol.specs.declared.Age.{Age}
 use Rattle.protocol.specs.declared.Report.{Report}
-use Rattle.protocol.specs.Memory.{
-  Memory,
-  no_age,
-  age_after,
-  pick_age,
-  age_behind,
-  memory_of,
-  capacity,
-  here,
-  gone,
-  Number,
-  number_in,
-  number_from,
-  Query,
-  queries_in,
-  find,
-  lookup_of,
-  no_twice,
-  asker_fits,
-  memory_in_order,
-  hits_fit,
-  remember_if,
-  raised,
-  raise,
-  raise_if,
-  left,
-  left_all,
-}
+use Rattle.protocol.specs.Memory.{Memory, no_age, age_after, pick_age, age_behind, memory_of, capacity, here, gone, Number, number_in, number_from, queries_in, find, lookup_of, no_twice, asker_fits, memory_in_order, hits_fit, remember_if, raised, raise, raise_if, left, left_all}
 use Rattle.protocol.specs.Lines.{line_in, lives_in, nowhere, empty_line, with_pong}
-use Rattle.protocol.specs.State.{Station, Change, line_only, station_of, looked_up, line_at, with_line, with_memory}
+use Rattle.protocol.specs.State.{Station, Change, line_only, station_of, looked_up, with_line, with_memory}
 use Rattle.protocol.specs.State.{state_after}
 use Rattle.protocol.specs.Order.{lines_in_order, in_order}
 use Rattle.protocol.specs.Outcomes.{Terms, Result, Outcome, Step, quiet, sends, written_for, pick_result, refused_or}
@@ -70,36 +43,7 @@ use Rattle.protocol.specs.Outcomes.{hands_up, stored, unused, used_of}
 use Rattle.protocol.specs.Queries.{usual_limit, has_text, query_rules, query_taken, query_step, own_to, own_lines, own_bytes}
 use Rattle.protocol.specs.Hits.{hit_step, hit_rules, hit_taken}
 use Rattle.protocol.specs.Pings.{ping_step, ping_rules, ping_taken, pong_step, pong_rules, arrived_pong}
-use Rattle.protocol.specs.Calls.{
-  fresh_room,
-  fresh_answer,
-  fresh_memory,
-  fresh,
-  opening_rules,
-  opening,
-  closing_rules,
-  closing,
-  closed_state,
-  not_open,
-  short_route,
-  other_room,
-  unfit_areas,
-  extent_rules,
-  early_rules,
-  early,
-  update_step,
-  by_type,
-  arrived,
-  arriving,
-  message_outcome,
-  own_before,
-  own_rules,
-  own_age,
-  own_answer,
-  asking,
-  own_taken,
-  own_outcome,
-}
+use Rattle.protocol.specs.Calls.{fresh_room, fresh_answer, fresh_memory, fresh, opening_rules, opening, closing_rules, closing, closed_state, short_route, other_room, unfit_areas, extent_rules, early_rules, early, update_step, by_type, arrived, arriving, own_before, own_rules, own_age, own_answer, asking, own_taken}
 use Rattle.protocol.proofs.Outcomes.{each_line-at}
 use Rattle.station.specs.declared.actions.Action.{Action}
 use Rattle.forwarding.specs.Messages.{sendable, count_if, written_if, own_into}

@@ -1,11 +1,10 @@
 -- Pings and pongs as the code hands them on, from what the crate pinging ensures.
 -- Assumes nothing.
-use Prim.Native.Nat.{ℕ, ◌+◌, ◌-◌, ◌≤◌, ◌<◌}
+use Prim.Native.Nat.{ℕ, ◌+◌, ◌-◌, ◌≤◌}
 use native.Mathlib.Omega.{arith}
 use mathlib.Core.Path.{◌≡◌, refl, sym, ap, ap₂, ◌∙◌}
-use mathlib.Core.Bool.{Bool, true, false, cond}
+use mathlib.Core.Bool.{Bool, false, cond}
 use mathlib.Core.List.{List, []}
-use lib.Dec.{eqb, leb}
 use lib.ListN.{length, take, drop, length-drop}
 use lib.Seq.{length-take-le}
 use borrow.Author.Tests.{le-leb, ltb-false}
@@ -13,7 +12,7 @@ use Rattle.laws.specs.Parts.{over}
 use Rattle.laws.specs.Tests.{first_of}
 use Rattle.laws.proofs.Refusals.{no-refusal}
 use Rattle.wire.specs.declared.Header.{Header}
-use Rattle.wire.specs.Header.{header_in, size_of, hops_of, payload_of, number_of}
+use Rattle.wire.specs.Header.{header_in, size_of, payload_of, number_of}
 use Rattle.wire.proofs.HeaderLaws.{payload-part}
 use Rattle.protocol.specs.declared.Line.{Line}
 use Rattle.protocol.specs.declared.Own.{Own}

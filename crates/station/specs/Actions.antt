@@ -1,5 +1,5 @@
 -- What a step of an arriving message hands on, and what it is given. The rules are those of crate protocol.
-use Rattle.std.specs.Prelude.{ℕ, ◌+◌, ◌/◌, ◌≤◌, ◌<◌, ◌≡◌, Bool, false, List, [], length}
+use Rattle.std.specs.Prelude.{ℕ, ◌+◌, ◌/◌, ◌≤◌, ◌<◌, ◌≡◌, false, List, length}
 use Rattle.laws.specs.Parts.{over}
 use Rattle.wire.specs.declared.Header.{Header}
 use Rattle.wire.specs.Header.{header_size, largest_payload, largest_message, header_in, size_of}
@@ -9,7 +9,7 @@ use Rattle.protocol.specs.declared.Age.{Age}
 use Rattle.protocol.specs.declared.Report.{Report}
 use Rattle.protocol.specs.Memory.{no_age}
 use Rattle.protocol.specs.Lines.{line_in, lives_in, tables_in}
-use Rattle.protocol.specs.State.{Change, line_only}
+use Rattle.protocol.specs.State.{line_only}
 use Rattle.protocol.specs.Order.{lines_in_order}
 use Rattle.protocol.specs.Outcomes.{Terms, Step, nobody, refused_or, report_of}
 use Rattle.protocol.specs.Queries.{usual_limit}
