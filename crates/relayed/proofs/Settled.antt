@@ -20,7 +20,7 @@ use Rattle.roundtrip.proofs.RoundTrip.{station-round_trip}
 use Rattle.relaying.specs.Calls.{other_tables}
 use Rattle.relaying.specs.Words.{MayCarry, Standing}
 use Rattle.relaying.proofs.Answers.{make-exactly, make-leaves, front}
-use Rattle.relayed.specs.Settled.{Making, Done, entries_of, infinity_of, TakenByWriter, WriterTakesMade}
+use Rattle.relayed.specs.Settled.{Making, Done, entries_of, infinity_of, WriterTakesMade}
 use Rattle.relayed.specs.Settled.{SettlesAsMade}
 
 -- what a call that was answered 0 made

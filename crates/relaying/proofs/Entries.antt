@@ -1,10 +1,10 @@
 -- The entries that the call writes, in words: which lines have a say, and what their tables tell of a place.
 use Prim.Native.Nat.{ℕ, zero, suc, ◌+◌, ◌*◌, ◌/◌, ◌^◌, ◌≤◌, ◌<◌}
-use mathlib.Core.Path.{◌≡◌, refl, sym, ap, ap₂, ◌∙◌}
+use mathlib.Core.Path.{◌≡◌, refl, sym, ap, ◌∙◌}
 use mathlib.Core.Bool.{Bool, true, false, cond}
 use mathlib.Core.Logic.Iff
 use mathlib.Core.Logic.{◌↔◌, inl, inr, ⊎_elim}
-use mathlib.Core.List.{List, [], ◌∷◌, ◌++◌}
+use mathlib.Core.List.{List, [], ◌∷◌}
 use mathlib.Core.List.Memᴰ
 use mathlib.Core.List.{Memᴰ}
 use native.Mathlib.Nat.{pow-le-pow_right, two-pow-succ}
@@ -24,7 +24,6 @@ use Rattle.tables.specs.Tables.{Held, settled, table_in_order}
 use Rattle.namearea.specs.Area.{names_in}
 use Rattle.nametable.specs.Words.{FallsOn, Sound}
 use Rattle.tablemerging.specs.Merging.{picked_tables, made_entries}
-use Rattle.tablemerging.specs.Lengths.{Common}
 use Rattle.tablemerging.specs.Words.{Counts, MadeEntry, Powers}
 use Rattle.tablemerging.proofs.Lengths.{common-below}
 use Rattle.tablemerging.proofs.MergeLaws.{picked_same}

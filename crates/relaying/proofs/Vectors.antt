@@ -1,13 +1,11 @@
 -- The call on a station with two tables of unlike lengths, by computation: entries, refusals in their order, and what
 -- stays.
 -- Assumes nothing.
-use Prim.Native.Nat.{ℕ, ◌*◌}
+use Prim.Native.Nat.{ℕ}
 use mathlib.Core.Path.{◌≡◌, refl}
-use mathlib.Core.List.{List, [], ◌∷◌, ◌++◌, map}
-use mathlib.Core.Bool.{true}
-use lib.ListN.{length, replicate}
+use mathlib.Core.List.{List, [], ◌∷◌, ◌++◌}
+use lib.ListN.{replicate}
 use Rattle.laws.specs.Ring.{kept_places}
-use Rattle.laws.specs.Parts.{over}
 use Rattle.laws.specs.Text.{codes}
 use Rattle.ascii.specs.Text.{lower}
 use Rattle.keywords.specs.Keywords.{keywords_of, pieces, filled, is_separator}
@@ -25,7 +23,6 @@ use Rattle.protocol.specs.State.{Station, line_at, with_line}
 use Rattle.protocol.specs.Order.{line_in_order, in_order}
 use Rattle.protocol.specs.Queries.{usual_limit}
 use Rattle.protocol.specs.Calls.{fresh, opening}
-use Rattle.relaying.specs.declared.Made.{Made}
 use Rattle.relaying.specs.Calls.{make_answer, making, making_out, table_for, table_out_for}
 
 -- a station with room for eight entries a line, lines 0, 1 and 2 open, of which 1 and 2 have these tables
