@@ -110,7 +110,9 @@ pub extern "C" fn lunozhar_message_lent(
         MessageMet before line message.now terms route.old result.report after
         out.old out.new route.new }
 {
-    lunozhar::calls::lunozhar_message_lent(lo, hi, asker, hits, count, next, room, lines, line, clock, own, message, out, route)
+    lunozhar::calls::lunozhar_message_lent(
+        lo, hi, asker, hits, count, next, room, lines, line, clock, own, message, out, route,
+    )
 }
 
 // Bytes as a line brings them, with the held area of that line.
@@ -142,7 +144,9 @@ pub extern "C" fn lunozhar_feed_lent(
         let fed = feed_outcome before line bytes.now held.old terms route.old in
         FeedMet fed result.report result.within result.waits after out.old out.new held.new route.new }
 {
-    lunozhar::calls::lunozhar_feed_lent(lo, hi, asker, hits, count, next, room, lines, line, clock, own, bytes, held, out, route)
+    lunozhar::calls::lunozhar_feed_lent(
+        lo, hi, asker, hits, count, next, room, lines, line, clock, own, bytes, held, out, route,
+    )
 }
 
 // A query of this station's own.
@@ -169,7 +173,9 @@ pub extern "C" fn lunozhar_ask_lent(
         next.new) in
         OwnMet before number.bytes text.now route.now result after out.old out.new }
 {
-    lunozhar::calls::lunozhar_ask_lent(lo, hi, asker, hits, count, next, room, lines, number, text, out, route)
+    lunozhar::calls::lunozhar_ask_lent(
+        lo, hi, asker, hits, count, next, room, lines, number, text, out, route,
+    )
 }
 
 // A number is looked up: who asked, and how many queries were remembered after it.
@@ -216,7 +222,9 @@ pub extern "C" fn lunozhar_table_for_lent<'a>(
         (memory_of lo.now hi.now asker.now hits.now count next) in
         out.new ≡ table_out_for usual_limit s line names.now size out.old route.now }
 {
-    lunozhar::calls::lunozhar_table_for_lent(lo, hi, asker, hits, count, next, room, lines, line, names, size, out, route)
+    lunozhar::calls::lunozhar_table_for_lent(
+        lo, hi, asker, hits, count, next, room, lines, line, names, size, out, route,
+    )
 }
 
 // Whether a station is in order.

@@ -22,7 +22,16 @@ pub extern "C" fn lunozhar_write_table<'a>(
     ensures bytes { out.new
         ≡ writer_out number.bytes had old.now old_infinity new.now infinity size out.old }
 {
-    lunozhar::routing::lunozhar_write_table(number, had, old, old_infinity, new, infinity, size, out)
+    lunozhar::routing::lunozhar_write_table(
+        number,
+        had,
+        old,
+        old_infinity,
+        new,
+        infinity,
+        size,
+        out,
+    )
 }
 
 // The hash of a keyword.
