@@ -3,14 +3,12 @@ use Prim.Native.Nat.{ℕ}
 use mathlib.Core.Path.{◌≡◌, refl}
 use mathlib.Core.Bool.{Bool, true, false}
 use mathlib.Core.Logic.{◌⊎◌, inl, inr}
-use borrow.Author.Rules.{rules}
 use Rattle.protocol.specs.declared.Finding.{Finding}
 use Rattle.protocol.specs.Memory.{Number}
 use Rattle.protocol.specs.State.{Station, looked_up}
 use Rattle.protocol.specs.Order.{in_order}
 use Rattle.protocol.specs.Calls.{unfound, finding_by, looking_up}
-use Rattle.replay.proofs.calls.looked_up.Statement.{statement}
-use Rattle.replay.proofs.calls.looked_up.Tie as tie
+use Rattle.replay.proofs.calls.looked_up.Goals as goal
 
 -- done, or no more than its answer
 abbrev Told : Finding → Type 0
@@ -27,6 +25,5 @@ told : (s : Station) (x : Number) → Told (looking_up s x)
 unfolding looking_up
 told s x = told-by (in_order s) (looked_up s x).found (looked_up s x).after (looked_up s x).asker (looked_up s x).hits
 
-pub looked-up-spec : {M : Type 1} → statement M
-looked-up-spec = tie.close (tie.spec (λ c κs. search rules)
-    (λ c. rw c.lunozhar-look-up-lent.ensures (told _ _)))
+pub returns : goal.returns
+returns c = rw c.lunozhar_look_up_lent.ensures (told _ _)
