@@ -115,3 +115,6 @@ module _ (l life : ℕ) (live : List Bool) (tables : ℕ → Held) (text : List 
       (λ k h. ap (λ b. passes b (tables k) text (life - 1)) (flag_of (λ j. is_other l j && get_or live j false) k h)
       ∙ and_assoc (is_other l k) (get_or live k false) _
       ∙ sym (rw (le-leb 2 life long))))
+
+-- what is tried where a life is short
+pub ruleset going_laws = going-nobody

@@ -116,6 +116,7 @@ fn open_others(live: [bool; 8], line: u32) -> [bool; 8]
 }
 
 // The lines that a query with this life and text goes on to that came by line l (RULES 7.5).
+#[tactic(auto, using(crate::proofs::LineLaws::going_laws))]
 pub fn going(
     live: [bool; 8],
     tables: [Table; 8],

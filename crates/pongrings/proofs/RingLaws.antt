@@ -74,6 +74,11 @@ module _ (hops : List ℕ) (p n i : ℕ) (b : Bool) (left : low_at hops p (n - i
   pub low_end : n ≤ i → true ≡ b
   low_end h = let e : n - i ≡ 0 = omega arith in sym (ap (low_at hops p) e) ∙ left
 
+-- where a pong that is looked at has come too far, the whole answer is no
+pub low_fails : (hops : List ℕ) (p n i q : ℕ) (b : Bool) → low_at hops p (n - i) ≡ b → q ≡ back 10 p → i < n
+    → 7 < get_or hops q 0 → false ≡ b
+low_fails hops p n i q b left at h k = low-out hops p n i b left q at h k
+
 -- ---- the pong of a rank
 
 ranked-none : (r : ℕ) (ps : List Pong) → length ps ≤ r → ranked r ps ≡ []

@@ -49,6 +49,7 @@ fn place_before(place: usize) -> usize
 }
 
 // The Hops of each kept pong are at most `PONG_HOPS`: those at the `count` places before `next`.
+#[tactic(auto, using(crate::proofs::RingLaws::low_fails))]
 fn low_hops(hops: [u8; 10], next: usize, count: usize) -> bool
     requires { next < 10 }
     ensures { result ≡ low_at hops next count }

@@ -1,17 +1,11 @@
 -- What is left to look at is the Hops before the place, as many as are still to come.
 use native.Mathlib.Nat.{sub-zero}
 use native.Mathlib.Omega.{arith}
-use Rattle.pongrings.proofs.RingLaws.{low-on, low-out, low_end}
+use Rattle.pongrings.proofs.RingLaws.{low-on, low_end}
 use Rattle.pongrings.proofs.order.low_hops.Goals as goal
 
 pub loop-i-init : goal.loop-i-init
 loop-i-init c = (omega arith, c.requires, rw sub-zero)
-
-pub returns-then-hops-place-gt-PONG_HOPS : goal.returns-then-hops-place-gt-PONG_HOPS
-returns-then-hops-place-gt-PONG_HOPS c =
-    let x = c.args in
-    low-out x.hops c.loop-i.place x.count c.loop-i.i _ c.loop-i.invariant.2 _
-    c.place_before-place.ensures (omega arith) c.if-hops-place-gt-PONG_HOPS.true
 
 pub loop-i-preserved : goal.loop-i-preserved
 loop-i-preserved c =
@@ -19,7 +13,7 @@ loop-i-preserved c =
       omega arith,
       omega arith,
       low-on x.hops c.loop-i.place x.count c.loop-i.i _ c.loop-i.invariant.2 _
-          c.place_before-place.ensures (omega arith) c.if-hops-place-gt-PONG_HOPS.false,
+          c.place_before-place.ensures (omega arith) (omega arith),
     )
 
 pub returns : goal.returns
