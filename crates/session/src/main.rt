@@ -39,7 +39,11 @@ fn main(rt: HostRuntime) -> io::Result<()> {
     match rt.arg(1, &mut path) {
         Ok(size) => match std::str::from_utf8(&path[..size]) {
             Ok(name) => read_file(&rt, name),
-            Err(_) => unread(&rt, "event file", "Invalid or incomplete multibyte or wide character"),
+            Err(_) => unread(
+                &rt,
+                "event file",
+                "Invalid or incomplete multibyte or wide character",
+            ),
         },
         Err(FillError::TooLong) => unread(&rt, "event file", "File name too long"),
         Err(FillError::NotPresent) => write_text(&rt, &mut rt.reader()),
