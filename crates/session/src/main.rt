@@ -17,11 +17,19 @@ fn unread(rt: &impl Eprint, name: &str, why: &str) -> io::Result<usize>
     Ok(0)
 }
 
-// What can't be read to its end has no bytes.
+// Reads until the area is full, the input ends or a read fails; how many bytes were read.
 fn bytes_of(reader: &mut impl Read, area: &mut [u8]) -> usize
     ensures { result ≤ length area.new }
 {
-    input::fill(reader, area).unwrap_or(0)
+    let mut size = 0;
+    while size < area.len() {
+        let n = reader.read(&mut area[size..]).unwrap_or(0);
+        if n == 0 {
+            break;
+        }
+        size += n;
+    }
+    size
 }
 
 // The file of this name.
