@@ -10,7 +10,7 @@ use namearea::{count_in, name_of, pair_at};
 const MOST_RESULTS: u8 = 255;
 
 // How many results were written, and how many bytes they have.
-#[derive(Drop)]
+#[derive(Clone, Copy)]
 pub(crate) struct Filled {
     pub results: u8,
     pub size: usize,

@@ -4,7 +4,7 @@
 
 // What the caller is told: the answer, and how many results and bytes were written, 0 where it is refused.
 #[repr(C)]
-#[derive(Drop)]
+#[derive(Clone, Copy)]
 pub struct HitsWritten {
     pub answer: u8,
     pub results: u8,

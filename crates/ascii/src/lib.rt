@@ -192,7 +192,7 @@ fn value_of(s: &[u8]) -> u32
 }
 
 // The digits at the front of a text, of which more than six are not looked at, and their number.
-#[derive(Drop)]
+#[derive(Clone, Copy)]
 pub struct Decimal {
     pub count: usize,
     pub value: u32,

@@ -5,7 +5,7 @@ ghost use Rattle.std.specs.Prelude.{◌≡◌, ◌+◌, ◌%◌, ◌≤◌, leng
 ghost use Rattle.digits.specs.Decimal.{decimal, digits_for};
 
 // A number in ASCII digits: how many there are, and the digits at the front of five bytes, zero behind them.
-#[derive(Drop)]
+#[derive(Clone, Copy)]
 pub struct Digits {
     pub size: usize,
     pub bytes: [u8; 5],

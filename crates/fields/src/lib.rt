@@ -47,7 +47,7 @@ fn field_ok(before: bool, line: &[u8], n: usize) -> bool
 
 // What a line adds to the value of a name: a separator, unless that is 0, and the line from a place on. `mine`: the
 // last field has the name; `found`: a field of the name was met.
-#[derive(Drop)]
+#[derive(Clone, Copy)]
 pub struct Step {
     pub mine: bool,
     pub found: bool,
@@ -128,7 +128,7 @@ pub struct Found {
 }
 
 // What was found, and a place from which on the lines have the whole value: the first of the name, where there is one.
-#[derive(Drop)]
+#[derive(Clone, Copy)]
 struct Searched {
     found: Found,
     first: usize,

@@ -6,7 +6,7 @@ ghost use Rattle.forwarding.specs.Texts.{text_of};
 
 // Whether a payload has a text, which a zero byte ends, and the text's length.
 #[repr(C)]
-#[derive(Drop)]
+#[derive(Clone, Copy)]
 pub struct Text {
     pub ended: bool,
     pub length: usize,

@@ -6,7 +6,7 @@ ghost use Rattle.groups.specs.Start.{reply_from, greeting_of, reply_of, start_of
 use ascii::{after, byte_at, leading_number, starts_with};
 
 // A version at the front of a text: how long it is, 0 where there is none, and its two numbers.
-#[derive(Drop)]
+#[derive(Clone, Copy)]
 pub struct Version {
     pub length: usize,
     pub major: u32,
@@ -15,7 +15,7 @@ pub struct Version {
 
 // What a first line says: its kind is 0 where it is not understood, 1 for a greeting, 2 for a reply.
 #[repr(C)]
-#[derive(Drop)]
+#[derive(Clone, Copy)]
 pub struct Start {
     pub kind: u8,
     pub major: u32,

@@ -26,7 +26,7 @@ pub const REPLY: u8 = 2;
 // else 0 then.
 // `used` is the group's length; `code` is 0 for a greeting.
 #[repr(C)]
-#[derive(Drop)]
+#[derive(Clone, Copy)]
 pub struct Group {
     pub answer: u8,
     pub used: usize,
@@ -40,7 +40,7 @@ pub struct Group {
 // group's length for
 // 0 and 10; `written` is the value's length for 0.
 #[repr(C)]
-#[derive(Drop)]
+#[derive(Clone, Copy)]
 pub struct Asked {
     pub answer: u8,
     pub used: usize,
@@ -49,7 +49,7 @@ pub struct Asked {
 
 // What asking a group for its hosts gives: `used` is the group's length where the group was understood.
 #[repr(C)]
-#[derive(Drop)]
+#[derive(Clone, Copy)]
 pub struct TriedGroup {
     pub answer: u8,
     pub used: usize,
@@ -58,7 +58,7 @@ pub struct TriedGroup {
 
 // What writing a group gives: the answer (RULES 2.1), and how many bytes were written (none where it is not 0).
 #[repr(C)]
-#[derive(Drop)]
+#[derive(Clone, Copy)]
 pub struct Wrote {
     pub answer: u8,
     pub written: usize,

@@ -20,7 +20,7 @@ const LEAST_RESULT: usize = 10;
 
 // Where a reader is: the place of the next result in the payload, and how many of the stated number are left.
 #[repr(C)]
-#[derive(Drop)]
+#[derive(Clone, Copy)]
 pub struct HitCursor {
     pub at: usize,
     pub left: u8,
@@ -28,7 +28,7 @@ pub struct HitCursor {
 
 // A result: index and size of a file, and where its name and its extension stand in the payload.
 #[repr(C)]
-#[derive(Drop)]
+#[derive(Clone, Copy)]
 pub struct HitRecord {
     pub index: u32,
     pub size: u32,
@@ -41,7 +41,7 @@ pub struct HitRecord {
 // What a call of the reader gives: its answer, whether there is a result, the result, which is zeros where there is
 // none, and the cursor for the next call.
 #[repr(C)]
-#[derive(Drop)]
+#[derive(Clone, Copy)]
 pub struct HitNext {
     pub answer: u8,
     pub found: bool,
@@ -52,7 +52,7 @@ pub struct HitNext {
 // What stands at the front of a payload, where the mark stands, and the cursor for the first result; zeros where the
 // payload is refused.
 #[repr(C)]
-#[derive(Drop)]
+#[derive(Clone, Copy)]
 pub struct HitHead {
     pub answer: u8,
     pub results: u8,
@@ -64,7 +64,7 @@ pub struct HitHead {
 }
 
 // Whether bytes begin with a whole result, and how long its name and its extension are.
-#[derive(Drop)]
+#[derive(Clone, Copy)]
 pub struct Lengths {
     pub whole: bool,
     pub namelen: usize,

@@ -9,7 +9,7 @@ use wire::{copy_onto, little_bytes4};
 
 // The station that answers: where it takes calls, how fast its line is, and its mark.
 #[repr(C)]
-#[derive(Drop)]
+#[derive(Clone, Copy)]
 pub struct Responder {
     pub port: u16,
     pub address: [u8; 4],

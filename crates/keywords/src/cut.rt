@@ -13,7 +13,7 @@ const BLOCK: usize = 16;
 
 // Where a keyword starts, and where it ends, in the text that it was cut from.
 #[repr(C)]
-#[derive(Drop)]
+#[derive(Clone, Copy)]
 pub struct Cut {
     pub start: usize,
     pub end: usize,

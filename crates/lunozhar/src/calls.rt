@@ -176,9 +176,9 @@ pub fn lunozhar_message_lent(
     let at = lines.at;
     let h = read_header(message);
     let s = survey_ring(lo, hi, asker, hits, *count, *next, at, h.lo, h.hi);
-    let known = s.known;
     let a = arrive(s, room, at, line, clock, own, message, out, route);
     let by = (line % 8) as u8;
+    let known = s.known;
     raise(hits, *next, known.after, a.answered);
     remember(lo, hi, asker, hits, count, next, a.remember, h.lo, h.hi, by);
     let after = a.line;
@@ -220,10 +220,10 @@ pub fn lunozhar_feed_lent(
     let at = lines.at;
     let h = header_of(at, line, held, bytes);
     let s = survey_ring(lo, hi, asker, hits, *count, *next, at, h.lo, h.hi);
-    let known = s.known;
     let f = feed(s, room, at, line, clock, own, bytes, held, out, route);
     let a = f.action;
     let from = (line % 8) as u8;
+    let known = s.known;
     raise(hits, *next, known.after, a.answered);
     remember(
         lo, hi, asker, hits, count, next, a.remember, h.lo, h.hi, from,

@@ -1,5 +1,6 @@
-// The library: include/lunozhar.h declares these functions for C and Rust, and crate lunozhar_c exports them. A caller
-// holds the station in place and lends the parts of it that a call writes; what is lent to one call must not overlap.
+// The library: include/lunozhar.h declares these functions, but not yet those of `answers`, for C and Rust, and crate
+// lunozhar_c exports them. A caller holds the station in place and lends the parts of it that a call writes; what is
+// lent to one call must not overlap.
 #![tactic(auto)]
 
 pub mod answers;

@@ -16,7 +16,7 @@ use protocol::Lookup;
 
 // Whether the remembered queries are in order, and what is known of a number.
 #[repr(C)]
-#[derive(Drop)]
+#[derive(Clone, Copy)]
 pub struct Survey {
     pub order: bool,
     pub known: Lookup,

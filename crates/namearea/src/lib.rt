@@ -28,7 +28,7 @@ pub struct Span {
 
 // What a find tells: its answer, and the name's place in the list, from 0; 0 where it is refused.
 #[repr(C)]
-#[derive(Drop)]
+#[derive(Clone, Copy)]
 pub struct Found {
     pub answer: u8,
     pub place: usize,

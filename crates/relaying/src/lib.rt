@@ -25,7 +25,7 @@ use tables::{SETTLED, Table};
 
 // What the caller is told: the answer, and the Infinity to write the table with, which is 0 where it is refused.
 #[repr(C)]
-#[derive(Drop)]
+#[derive(Clone, Copy)]
 pub struct Made {
     pub answer: u8,
     pub infinity: u8,

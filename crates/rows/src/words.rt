@@ -1,5 +1,5 @@
 // Words of a text, and parts of it.
-ghost use Rattle.std.specs.Prelude.{◌≡◌, cond, ◌+◌, ◌≤◌, ltb, length, take, drop, set};
+ghost use Rattle.std.specs.Prelude.{◌≡◌, cond, ◌+◌, ◌≤◌, ltb, length, max, take, drop, set};
 ghost use Rattle.rows.specs.Rows.{part, until};
 
 // The bytes from one place up to another, as far as the text has them.
@@ -11,10 +11,9 @@ pub fn part(text: &[u8], from: usize, to: usize) -> &[u8]
 
 // Where a byte first stands from a place on, or the text's end.
 pub fn find(text: &[u8], from: usize, b: u8) -> usize
-    requires { from ≤ length text.now }
     ensures first { result ≡ from + length (until b (drop from text.now)) }
     ensures behind { from ≤ result }
-    ensures within { result ≤ length text.now }
+    ensures within { result ≤ max from (length text.now) }
 {
     let mut at = from;
     while at < text.len() {

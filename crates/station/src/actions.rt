@@ -9,7 +9,7 @@ use refusals::ages::no_age;
 // What the caller is told, the record of the message's line after it, whether its number is to be remembered, and
 // whether the query with its number has had one hit more.
 #[repr(C)]
-#[derive(Drop)]
+#[derive(Clone, Copy)]
 pub struct Action {
     pub report: Report,
     pub line: Line,

@@ -11,7 +11,7 @@ use tables::no_table;
 
 // The answer to an opening or closing, and the record of its line after it.
 #[repr(C)]
-#[derive(Drop)]
+#[derive(Clone, Copy)]
 pub struct LineChange {
     pub answer: u8,
     pub line: Line,
@@ -19,7 +19,7 @@ pub struct LineChange {
 
 // The answer to a fresh state, and its room and lines.
 #[repr(C)]
-#[derive(Drop)]
+#[derive(Clone, Copy)]
 pub struct Beginning {
     pub answer: u8,
     pub room: usize,

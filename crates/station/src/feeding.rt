@@ -22,7 +22,7 @@ pub const WAITING: u8 = 255;
 
 // What the message does that was taken, whether it stands in the held area, and whether the call only waits.
 #[repr(C)]
-#[derive(Drop)]
+#[derive(Clone, Copy)]
 pub struct Feeding {
     pub action: Action,
     pub within: bool,

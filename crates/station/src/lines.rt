@@ -10,7 +10,7 @@ use tables::Table;
 
 // Whether all lines are in order, the record of one, and for each whether it is open, and its table.
 #[repr(C)]
-#[derive(Drop)]
+#[derive(Clone, Copy)]
 pub struct View {
     pub order: bool,
     pub line: Line,

@@ -4,7 +4,7 @@
 
 // What the writer answers, and how many bytes it wrote.
 #[repr(C)]
-#[derive(Drop)]
+#[derive(Clone, Copy)]
 pub struct Written {
     pub answer: u8,
     pub written: usize,

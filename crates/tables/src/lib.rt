@@ -49,7 +49,7 @@ pub fn no_table() -> Table
 
 // The answer to an update, and the table after it.
 #[repr(C)]
-#[derive(Drop)]
+#[derive(Clone, Copy)]
 pub struct Updated {
     pub answer: u8,
     pub table: Table,

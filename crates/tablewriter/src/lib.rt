@@ -25,7 +25,7 @@ const MOST_DATA: usize = LARGEST_PAYLOAD - 5;
 
 // What is wanted beside the tables' entries: whether there was an old table and with which Infinity, the new one's
 // Infinity, and how many bytes of data each PATCH of the run has but the last.
-#[derive(Drop)]
+#[derive(Clone, Copy)]
 pub struct Wanted {
     pub had: bool,
     pub was: u8,

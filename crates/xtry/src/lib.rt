@@ -23,7 +23,7 @@ pub struct Pairs {
 
 // What reading a value gives: the answer (RULES 2.1), and the pairs (none where it is not 0).
 #[repr(C)]
-#[derive(Drop)]
+#[derive(Clone, Copy)]
 pub struct Tried {
     pub answer: u8,
     pub pairs: Pairs,

@@ -10,21 +10,21 @@ use ascii::leading_number;
 const NO_NUMBER: u32 = 100000;
 
 // The number of an octet's text, and where the text goes on behind its separator.
-#[derive(Drop)]
+#[derive(Clone, Copy)]
 struct Octet {
     number: u32,
     next: usize,
 }
 
 // An item read as a pair; a bad one has no pair.
-#[derive(Drop)]
+#[derive(Clone, Copy)]
 struct Parsed {
     good: bool,
     pair: Pair,
 }
 
 // The pairs after an item; `good` says that it was not a bad one.
-#[derive(Drop)]
+#[derive(Clone, Copy)]
 struct Taken {
     good: bool,
     pairs: Pairs,
