@@ -2,7 +2,6 @@
 
 mod calls;
 mod handshake;
-mod hits;
 mod names;
 mod words;
 
@@ -51,9 +50,6 @@ fn row(text: &str) -> String {
         "order" => calls::order(line),
         "relay" => calls::relay(line),
         "names" => names::names(line),
-        "hit" => hits::hit(line),
-        "next" => hits::next(line),
-        "answer" => hits::answer(line),
         _ => format!("unread {text}\n"),
     }
 }
