@@ -1,0 +1,2 @@
+-- The numbers of the refusals tell them apart.
+pub mod Apart
