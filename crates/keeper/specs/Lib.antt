@@ -1,0 +1,2 @@
+-- A station that one value keeps.
+pub mod Kept
