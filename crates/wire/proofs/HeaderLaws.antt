@@ -1,14 +1,16 @@
 -- What the stores of a header leave, and what is read off a message that was written: it is whole.
 use Prim.Native.Nat.{ℕ, ◌+◌, ◌-◌, ◌≤◌, ◌<◌}
-use mathlib.Core.Path.{◌≡◌, sym, ap, ap₂, ◌∙◌}
+use mathlib.Core.Path.{◌≡◌, refl, sym, ap, ap₂, ◌∙◌}
 use mathlib.Core.List.{List, [], ◌∷◌, ◌++◌, append_assoc}
+use native.Mathlib.Nat.{zero-add}
 use native.Mathlib.Omega.{arith}
 use lib.ListN.{length, get_or, take, drop, length-append}
-use lib.Seq.{sets, take_at, take-length, drop-append-add, get_or-append-add}
+use lib.Seq.{sets, take_at, take-length, drop-drop, drop-append-add, get_or-append-add}
 use borrow.Author.Tests.{le-leb}
 use Rattle.laws.specs.Bytes.{little, little_bytes}
 use Rattle.laws.specs.Parts.{over}
-use Rattle.laws.proofs.Writing.{stored_next, little_of_bytes}
+use borrow.Rule.Slice.PartMut.{put_mid}
+use Rattle.laws.proofs.Writing.{stored_next, written_next, little_of_bytes}
 use Rattle.wire.specs.Header.{with_header, header, message, number_of, kind_of, ttl_of, hops_of, size_of, payload_of}
 
 -- with room for it, the header stands at the front
@@ -17,14 +19,25 @@ pub header-room : (number : List ℕ) (kind ttl hops n : ℕ) (out : List ℕ) �
 unfolding with_header
 header-room number kind ttl hops n out h = rw (le-leb 23 (length out) h)
 
--- type, TTL, Hops and the four bytes of the size, stored behind the number
-pub header-stored : (number out mid bytes : List ℕ) (kind ttl hops n : ℕ) → length number ≡ 16 → 23 ≤ length out
-    → mid ≡ over 0 number out → bytes ≡ little_bytes 4 n
-    → sets mid 16 (kind ∷ ttl ∷ hops ∷ get_or bytes 0 0 ∷ get_or bytes 1 0 ∷ get_or bytes 2 0 ∷ get_or bytes 3 0 ∷ [])
+-- a part of just so many bytes, lent and written whole
+part-whole : (from n : ℕ) (bs area : List ℕ) → length bs ≡ n → put_mid from n area bs ≡ over from bs area
+part-whole from n bs area e =
+    ap (λ x. take from area ++ (bs ++ x)) (ap (λ k. drop k (drop from area)) (sym e) ∙ drop-drop (length bs) from area)
+
+-- the number at the front, type, TTL and Hops behind it, and the four bytes of the size behind them
+pub header-stored : (number out bytes : List ℕ) (kind ttl hops n : ℕ) → length number ≡ 16 → 23 ≤ length out
+    → bytes ≡ little_bytes 4 n
+    → put_mid 19 4 (put_mid 16 3 (number ++ drop 16 out) (kind ∷ ttl ∷ hops ∷ [])) bytes
     ≡ with_header number kind ttl hops n out
-header-stored number out mid bytes kind ttl hops n e h m b =
-    ap (λ bs. sets mid 16 (kind ∷ ttl ∷ hops ∷ get_or bs 0 0 ∷ get_or bs 1 0 ∷ get_or bs 2 0 ∷ get_or bs 3 0 ∷ [])) b
-    ∙ stored_next 16 number (kind ∷ ttl ∷ hops ∷ little_bytes 4 n) out mid e h m
+header-stored number out bytes kind ttl hops n e h b =
+    let three = kind ∷ ttl ∷ hops ∷ [] in
+    let l : length (number ++ three) ≡ 19 = omega (arith, length-append number three) in
+    ap (λ k. put_mid 19 4 (put_mid 16 3 (number ++ drop k out) three) bytes) (sym (zero-add (length number) ∙ e))
+    ∙ ap (λ x. put_mid 19 4 x bytes) (part-whole 16 3 three (over 0 number out) refl ∙ written_next 16 number three out e)
+    ∙ ap (put_mid 19 4 (over 0 (number ++ three) out)) b
+    ∙ part-whole 19 4 (little_bytes 4 n) (over 0 (number ++ three) out) refl
+    ∙ written_next 19 (number ++ three) (little_bytes 4 n) out l
+    ∙ ap (λ x. over 0 x out) (append_assoc number three (little_bytes 4 n))
     ∙ sym (header-room number kind ttl hops n out h)
 
 -- a message that was written: its length and its fields

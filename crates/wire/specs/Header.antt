@@ -1,9 +1,12 @@
 -- The header of a message (RULES 6.1): number 16 bytes, type, TTL, Hops, payload length 4 bytes, little-endian; the
 -- payload from byte 23.
-use Rattle.std.specs.Prelude.{ℕ, ◌+◌, cond, List, ◌∷◌, ◌++◌, leb, length, get_or, take, drop}
+use Rattle.std.specs.Prelude.{ℕ, ◌+◌, cond, List, ◌∷◌, ◌++◌, leb, eqb, length, get_or, take, drop, Result, Ok, Err}
 use Rattle.laws.specs.Bytes.{little, little_bytes}
 use Rattle.laws.specs.Parts.{over}
 use Rattle.wire.specs.declared.Header.{Header}
+use Rattle.wire.specs.declared.Kind.{Kind}
+use Rattle.wire.specs.declared.Kind.TheVariants.{Ping, Pong, RouteUpdate, Query, Hit}
+use Rattle.wire.specs.declared.UnknownKind.{UnknownKind}
 
 -- the types of messages
 abbrev pub ping_type : ℕ
@@ -20,6 +23,22 @@ query_type = 0x80
 
 abbrev pub hit_type : ℕ
 hit_type = 0x81
+
+-- the byte of a type, and the type that a byte is, if it is one
+abbrev pub byte_of : Kind → ℕ
+byte_of Ping = ping_type
+byte_of Pong = pong_type
+byte_of RouteUpdate = route_update
+byte_of Query = query_type
+byte_of Hit = hit_type
+
+abbrev pub kind_named : ℕ → Result Kind UnknownKind
+kind_named b =
+    cond (eqb b ping_type) (Ok Ping)
+    (cond (eqb b pong_type) (Ok Pong)
+    (cond (eqb b route_update) (Ok RouteUpdate)
+    (cond (eqb b query_type) (Ok Query)
+    (cond (eqb b hit_type) (Ok Hit) (Err (record { 0 = b }))))))
 
 -- how many bytes a header, the largest payload and the largest message have
 abbrev pub header_size : ℕ

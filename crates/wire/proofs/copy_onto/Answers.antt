@@ -1,19 +1,21 @@
--- Bytes that fit are copied whole, of others as many as there is room for: both by the library's copy.
-use mathlib.Core.Path.{sym, ap, ◌∙◌}
-use mathlib.Core.List.{◌++◌}
+-- As many of the bytes as there is room for, and the rest of the part behind them.
+use Prim.Native.Nat.{ℕ, ◌+◌, min}
+use mathlib.Core.Path.{◌≡◌, ap, ap₂, ◌∙◌}
+use mathlib.Core.List.{List, ◌++◌}
 use native.Mathlib.Omega.{arith}
-use lib.ListN.{length, drop}
-use lib.Seq.{take-length}
-use Rattle.laws.proofs.Over.{over-copy, copied-whole, copied-full}
+use lib.ListN.{length, take, drop, length-take}
+use Rattle.std.proofs.Math.Nat.{min_comm}
+use Rattle.laws.specs.Parts.{copied}
+use Rattle.laws.proofs.Writing.{take_min}
 use Rattle.wire.proofs.copy_onto.Goals as goal
 
-pub returns-then-src-part : goal.returns-then-src-part
-returns-then-src-part c =
-    let x = c.args in
-    ap (λ b. b ++ drop (length x.src.now) x.part.now) (c.copy_from_slice.ensures.after ∙ sym (take-length x.src.now))
-    ∙ over-copy x.src.now x.part.now ∙ sym (copied-whole x.src.now x.part.now (omega arith))
+copied-front : (src part : List ℕ) (n : ℕ) → n ≡ min (length src) (length part) → take n src ++ drop n part ≡ copied src part
+unfolding copied
+copied-front src part n e =
+    let k : n ≡ 0 + length (take (length part) src) = simp length-take (omega arith) in
+    ap₂ (λ x m. x ++ drop m part) (take_min (length part) n src (e ∙ min_comm _ _)) k
 
 pub returns : goal.returns
 returns c =
-    let x = c.args in
-    c.copy_from_slice-2.ensures.after ∙ sym (copied-full x.src.now x.part.now (omega arith))
+    ap (λ x. x ++ drop c.min-n.result c.args.part.now) c.copy_from_slice.ensures.after
+    ∙ copied-front c.args.src.now c.args.part.now c.min-n.result c.min-n.ensures
