@@ -8,7 +8,7 @@ ghost use Rattle.answering.specs.Writing.{asked_rules, asked_text};
 
 use forwarding::texts::text_length;
 use protocol::Lookup;
-use wire::{HEADER_SIZE, LARGEST_PAYLOAD, QUERY, copy_onto, read_header};
+use wire::{HEADER_SIZE, Kind, LARGEST_PAYLOAD, copy_onto, read_header};
 
 // 4 and 5 for a message of which `len` bytes are there, and whose header says `size` for its payload.
 fn extent_answer(len: usize, size: u32) -> u8
@@ -36,7 +36,7 @@ pub(crate) fn query_answer(limit: u8, query: &[u8]) -> u8
     if early != 0 {
         return early;
     }
-    if h.kind != QUERY {
+    if h.kind != Kind::Query.into() {
         return 7;
     }
     let end = HEADER_SIZE + (h.size as usize);

@@ -23,7 +23,7 @@ use matching::matching_places;
 use namearea::count_in;
 use names::search::list_answer;
 use protocol::LIMIT;
-use wire::{HEADER_SIZE, HIT, LARGEST_MESSAGE, copy_onto, put_header, read_header};
+use wire::{HEADER_SIZE, Kind, LARGEST_MESSAGE, copy_onto, put_header, read_header};
 
 // Where the results begin in the output, and where they end at most.
 const RESULTS_FROM: usize = HEADER_SIZE + HEAD_SIZE;
@@ -79,7 +79,7 @@ fn finish(
     copy_onto(&mark, &mut out[behind..]);
     put_head(results, from, &mut out[HEADER_SIZE..]);
     let payload = HEAD_SIZE + size + MARK_SIZE;
-    put_header(number, HIT, ttl, 0, payload as u32, &mut *out);
+    put_header(number, Kind::Hit.into(), ttl, 0, payload as u32, &mut *out);
     HitsWritten {
         answer: 0,
         results,

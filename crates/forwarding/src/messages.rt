@@ -3,7 +3,7 @@ ghost use Rattle.std.specs.Prelude.{◌≡◌, cond, ◌+◌, length};
 ghost use Rattle.forwarding.specs.Messages.{passable, passed_into, sendable, own_into, count_if};
 
 use protocol::LARGEST_TEXT;
-use wire::{HEADER_SIZE, QUERY, copy_onto, put_header};
+use wire::{HEADER_SIZE, Kind, copy_onto, put_header};
 
 // The first n bytes of a message as it is sent on: only TTL and Hops are new. Answers how many bytes it wrote: none
 // where n is less than a header, more than the message has, or more than there is room for.
@@ -50,7 +50,7 @@ pub fn own_query(number: [u8; 16], limit: u8, text: &[u8], out: &mut [u8]) -> us
     if out.len() < 26 + n {
         return 0;
     }
-    put_header(number, QUERY, limit, 0, (n + 3) as u32, &mut *out);
+    put_header(number, Kind::Query.into(), limit, 0, (n + 3) as u32, &mut *out);
     out[23] = 0;
     out[24] = 0;
     copy_onto(text, &mut out[25..]);

@@ -5,7 +5,7 @@ ghost use Rattle.laws.specs.Bytes.{little};
 ghost use Rattle.hits.specs.Reading.{lengths_of, handed, stays, beginning, next_of};
 
 use ascii::until_zero;
-use wire::{little4, wide};
+use wire::little4;
 
 // The least payload of a hit, and how many bytes its last part has, the mark of the station that answers.
 pub const SMALLEST: usize = 27;
@@ -75,7 +75,7 @@ pub struct Lengths {
 fn two(a: u8, b: u8) -> u16
     ensures { result ≡ little (a ∷ b ∷ []) }
 {
-    (wide(a) + 256 * wide(b)) as u16
+    u16::from_le_bytes([a, b])
 }
 
 // How long the result is that some bytes begin with.

@@ -5,7 +5,7 @@ ghost use Rattle.hits.specs.Results.{HitResult, without_extension};
 ghost use Rattle.hits.specs.Writing.{head_into, result_into};
 
 use crate::reading::HEAD_SIZE;
-use wire::{copy_onto, little_bytes4};
+use wire::copy_onto;
 
 // The station that answers: where it takes calls, how fast its line is, and its mark.
 #[repr(C)]
@@ -21,8 +21,8 @@ pub struct Responder {
 fn numbers(index: u32, size: u32) -> [u8; 8]
     ensures { result ≡ little_bytes 4 index ++ little_bytes 4 size }
 {
-    let i = little_bytes4(index);
-    let s = little_bytes4(size);
+    let i = index.to_le_bytes();
+    let s = size.to_le_bytes();
     [i[0], i[1], i[2], i[3], s[0], s[1], s[2], s[3]]
 }
 
@@ -33,7 +33,7 @@ fn head_bytes(results: u8, port: u16, address: [u8; 4], speed: u32) -> [u8; 11]
     let low = (port % 256) as u8;
     let high = (port / 256) as u8;
     let a = address;
-    let s = little_bytes4(speed);
+    let s = speed.to_le_bytes();
     [
         results, low, high, a[0], a[1], a[2], a[3], s[0], s[1], s[2], s[3],
     ]

@@ -4,14 +4,14 @@ ghost use Rattle.namearea.specs.Area.{most_names, text_from};
 ghost use Rattle.namelist.specs.Moves.{CountPut, PairPut, TextPut, Moved};
 
 use namearea::Span;
-use wire::{copy_onto, little_bytes4};
+use wire::copy_onto;
 
 // The count.
 pub(crate) fn put_count(area: &mut [u8], n: u32)
     requires { text_from ≤ length area.old }
     ensures { CountPut area.old n area.new }
 {
-    let bytes = little_bytes4(n);
+    let bytes = n.to_le_bytes();
     copy_onto(&bytes, &mut *area);
 }
 
@@ -23,8 +23,8 @@ pub(crate) fn put_pair(area: &mut [u8], i: usize, s: Span)
     let at = 4 + 8 * i;
     let behind = at + 4;
     let end = behind + 4;
-    let offset = little_bytes4(s.offset);
-    let size = little_bytes4(s.size);
+    let offset = s.offset.to_le_bytes();
+    let size = s.size.to_le_bytes();
     copy_onto(&offset, &mut area[at..behind]);
     copy_onto(&size, &mut area[behind..end]);
 }

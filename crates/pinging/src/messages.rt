@@ -3,8 +3,6 @@ ghost use Rattle.std.specs.Prelude.{◌≡◌, max, ◌++◌};
 ghost use Rattle.laws.specs.Bytes.{little_bytes};
 ghost use Rattle.protocol.specs.Pings.{one_hop_more};
 
-use wire::little_bytes4;
-
 // The TTL that pongs bear: the ping's Hops, or 1 where those are 0.
 pub fn pong_ttl(hops: u8) -> u8
     ensures { result ≡ max 1 hops }
@@ -23,8 +21,8 @@ pub fn one_hop_more(hops: u8) -> u8
 pub fn own_payload(port: u16, address: [u8; 4], files: u32, kilobytes: u32) -> [u8; 14]
     ensures { result ≡ little_bytes 2 port ++ (address ++ (little_bytes 4 files ++ little_bytes 4 kilobytes)) }
 {
-    let files = little_bytes4(files);
-    let kilobytes = little_bytes4(kilobytes);
+    let files = files.to_le_bytes();
+    let kilobytes = kilobytes.to_le_bytes();
     [
         (port % 256) as u8,
         (port / 256 % 256) as u8,

@@ -9,14 +9,14 @@ use crate::clock::elapsed_ms;
 use crate::messages::{one_hop_more, own_payload, pong_ttl};
 use pongrings::walk::{counts_in, most_of, nexts_in, place_for, rings_in};
 use protocol::{Line, Own, Pong};
-use wire::{HEADER_SIZE, PONG, copy_onto, put_header};
+use wire::{HEADER_SIZE, Kind, copy_onto, put_header};
 
 // A pong with these Hops and bytes as a message at the front of the part.
 fn put_pong(number: [u8; 16], pinghops: u8, hops: u8, bytes: [u8; 14], part: &mut [u8])
     requires { 37 ≤ length part.old }
     ensures { PongsPut 1 (pong_bytes number pinghops hops bytes) part.old part.new 37 }
 {
-    put_header(number, PONG, pong_ttl(pinghops), hops, 14, &mut *part);
+    put_header(number, Kind::Pong.into(), pong_ttl(pinghops), hops, 14, &mut *part);
     copy_onto(&bytes, &mut part[HEADER_SIZE..]);
 }
 

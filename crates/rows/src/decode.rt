@@ -17,7 +17,7 @@ fn fill(area: &mut [u8], at: usize, b: u8, times: u32) -> usize {
 
 // A number as four bytes, the lowest first, as far as the area has places for them.
 pub(crate) fn put_number(area: &mut [u8], at: usize, n: usize) {
-    let four = wire::little_bytes4((n % 4294967296) as u32);
+    let four = ((n % 4294967296) as u32).to_le_bytes();
     if at < area.len() {
         wire::copy_onto(&four, &mut area[at..]);
     }

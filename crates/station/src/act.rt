@@ -10,7 +10,17 @@ use crate::pings::{ping_step, pong_step};
 use crate::queries::query_step;
 use crate::updates::update_step;
 use protocol::{LIMIT, Line, Lookup, Own};
-use wire::{HIT, Header, PING, PONG, QUERY, ROUTE_UPDATE};
+use wire::{Header, Kind};
+
+const PING: u8 = Kind::Ping as u8;
+
+const PONG: u8 = Kind::Pong as u8;
+
+const ROUTE_UPDATE: u8 = Kind::RouteUpdate as u8;
+
+const QUERY: u8 = Kind::Query as u8;
+
+const HIT: u8 = Kind::Hit as u8;
 
 // `early` is the first refusal, 0 for none; then the message is whole and its areas fit. `known` is what the look-up of
 // its number found. `v` is what is read off the lines, which only a ping looks at again.

@@ -5,8 +5,6 @@ ghost use Rattle.std.specs.Prelude.{◌≡◌, true, ◌+◌, ◌*◌, ◌%◌, 
 ghost use Rattle.tables.specs.Patch.{good_bits, numbers, number_count, fits, all_fit, added};
 ghost use Rattle.tablereader.specs.Unpacking.{widened, unpacked};
 
-use wire::wide;
-
 // How many bytes of 4-bit data are unpacked at a time.
 const BLOCK: usize = 128;
 
@@ -25,7 +23,7 @@ pub(crate) fn number_count(bits: u8, n: usize) -> usize
 fn sum_of(number: u8, entry: u8) -> u8
     ensures { result ≡ (entry + number) % 256 }
 {
-    ((wide(entry) + wide(number)) % 256) as u8
+    entry.wrapping_add(number)
 }
 
 // The entry with an 8-bit number added is in 1..infinity. A number below 128 adds: the sum must not come out below the

@@ -6,7 +6,6 @@ ghost use Rattle.tablemessages.specs.Steps.{Sound, raw_in, pair_of, pair_in, bas
 
 use crate::good::base_at;
 use tablemessages::Plan;
-use wire::wide;
 
 // How many bytes of data n entries take.
 pub(crate) fn data_length(small: bool, n: usize) -> usize
@@ -22,7 +21,7 @@ pub(crate) fn data_length(small: bool, n: usize) -> usize
 fn difference(e: u8, b: u8) -> u8
     ensures { result ≡ raw_in 256 e b }
 {
-    ((wide(e) + 256 - wide(b)) % 256) as u8
+    e.wrapping_sub(b)
 }
 
 // Entries i and i + 1 as one number, the first in its low byte: they are read at once.
@@ -30,7 +29,7 @@ fn pair_at(entries: &[u8], i: usize) -> u32
     requires { i + 1 < length entries.now }
     ensures { result ≡ pair_of entries.now i }
 {
-    wide(entries[i]) + 256 * wide(entries[i + 1])
+    u32::from(entries[i]) + 256 * u32::from(entries[i + 1])
 }
 
 // What the differences of entries i and i + 1 are taken from, as one number.
@@ -42,7 +41,7 @@ fn base_pair<'a>(plan: Plan, old: &'a [u8], new: &'a [u8], i: usize) -> u32
     if plan.had {
         return pair_at(old, i);
     }
-    wide(plan.infinity) + 256 * wide(plan.infinity)
+    u32::from(plan.infinity) + 256 * u32::from(plan.infinity)
 }
 
 // The last four bits of e - b.

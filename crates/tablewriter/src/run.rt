@@ -7,15 +7,15 @@ ghost use Rattle.tablemessages.specs.Steps.{Sound, Runs, Fits, all_by, bits_by, 
 use crate::data::{data_length, put_data};
 use crate::{PATCH_HEAD, RESET_SIZE};
 use tablemessages::Plan;
-use wire::ROUTE_UPDATE;
+use wire::Kind;
 
 // A RESET stands at the front of the part.
 fn put_reset(number: [u8; 16], entries: u32, infinity: u8, part: &mut [u8])
     requires { 29 ≤ length part.old }
     ensures { part.new ≡ over 0 (update number (reset_payload entries infinity)) part.old }
 {
-    let bytes = wire::little_bytes4(entries);
-    wire::put_header(number, ROUTE_UPDATE, 1, 0, 6, &mut *part);
+    let bytes = entries.to_le_bytes();
+    wire::put_header(number, Kind::RouteUpdate.into(), 1, 0, 6, &mut *part);
     part[23] = 0;
     part[24] = bytes[0];
     part[25] = bytes[1];
@@ -52,7 +52,7 @@ fn put_patch<'a>(
 {
     let size = (5 + n) as u32;
     let bits = bits_of(plan);
-    wire::put_header(number, ROUTE_UPDATE, 1, 0, size, &mut *part);
+    wire::put_header(number, Kind::RouteUpdate.into(), 1, 0, size, &mut *part);
     part[23] = 1;
     part[24] = place;
     part[25] = plan.count;

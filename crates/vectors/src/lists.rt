@@ -15,7 +15,7 @@ fn put_bytes(area: &mut [u8], at: usize, bytes: &[u8]) {
 }
 
 fn put_number(area: &mut [u8], at: usize, n: u32) {
-    let four = wire::little_bytes4(n);
+    let four = n.to_le_bytes();
     put_bytes(area, at, &four);
 }
 

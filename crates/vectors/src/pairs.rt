@@ -65,7 +65,7 @@ fn pair_at(bytes: &[u8], at: usize) -> Pair {
     let here = words::part(bytes, at, bytes.len());
     let port = wire::little4(words::part(here, 4, here.len())) % 65536;
     Pair {
-        address: wire::little_bytes4(wire::little4(here)),
+        address: wire::little4(here).to_le_bytes(),
         port: port as u16,
     }
 }

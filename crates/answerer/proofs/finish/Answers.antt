@@ -13,5 +13,5 @@ returns c =
           (fields.1.1.1.0.1.0.1)
           c.requires.0 c.requires.1
           _ _ _ _ _
-          c.copy_onto.ensures refl c.put_head.ensures refl c.put_header.ensures;
+          c.copy_onto.ensures refl c.put_head.ensures refl (rw c.into.ensures at c.put_header.ensures);
     }

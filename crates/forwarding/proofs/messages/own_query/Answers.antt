@@ -36,6 +36,6 @@ returns c =
       count = rw fits;
       bytes = rw fits
           (own-stored x.number x.text.now x.out.now x.limit (omega arith) (search rules) _ _
-          c.put_header.ensures
+          (rw c.into.ensures at c.put_header.ensures)
           c.copy_onto.ensures);
     }

@@ -7,4 +7,4 @@ pub returns : goal.returns
 returns c =
     let x = c.args in
     pong-put x.number x.bytes x.part.now _ _ c.pong_ttl.result x.pinghops x.hops (omega arith)
-    (omega arith) (omega arith) c.pong_ttl.ensures c.put_header.ensures c.copy_onto.ensures
+    (omega arith) (omega arith) c.pong_ttl.ensures (rw c.into.ensures at c.put_header.ensures) c.copy_onto.ensures

@@ -37,7 +37,7 @@ returns c =
     (simp (length-take, length-drop) (omega arith))
     b.ensures
     p.3
-    h.ensures
+    (rw c.into.ensures at h.ensures)
     _
     refl
     c.put_data.ensures
