@@ -77,8 +77,10 @@ fn read(rt: &HostRuntime, area: &mut [u8]) -> usize
 
 fn write_text(rt: &impl Print, file: &[u8]) -> io::Result<()> {
     let mut out = [0u8; 118784];
-    let done = transcript::text::session_text(file, &mut out);
-    rt.write_all(&out[..done.written])
+    match transcript::text::session_text(file, &mut out) {
+        Some(size) => rt.write_all(&out[..size]),
+        None => Ok(()),
+    }
 }
 
 // One byte more than the longest file is read, so that a longer one is known.

@@ -1,16 +1,12 @@
 -- Laws that join an event's call to the station's calls.
-use Prim.Native.Nat.{ℕ, ◌%◌, ◌<◌}
-use mathlib.Core.Path.{◌≡◌, refl, sym, ap, ap₂, ◌∙◌}
+use Prim.Native.Nat.{ℕ, ◌<◌}
+use mathlib.Core.Path.{◌≡◌, refl, sym, ap, ◌∙◌}
 use mathlib.Core.List.{List}
-use lib.ListN.{length, set}
-use borrow.Author.Tests.{eq-eqb, ne_eqb}
+use lib.ListN.{length}
 use Rattle.laws.specs.Tests.{first_of}
-use Rattle.protocol.specs.declared.Age.{Age}
-use Rattle.protocol.specs.declared.Line.{Line}
-use Rattle.protocol.specs.declared.Own.{Own}
 use Rattle.protocol.specs.declared.Report.{Report}
-use Rattle.protocol.specs.Memory.{Memory, capacity, no_age}
-use Rattle.protocol.specs.State.{Station, station_of}
+use Rattle.protocol.specs.Memory.{capacity, no_age}
+use Rattle.protocol.specs.State.{Station}
 use Rattle.protocol.specs.Outcomes.{Outcome, terms_of, nobody, quiet, refused_or}
 use Rattle.protocol.specs.Calls.{opening, closing, message_outcome}
 use Rattle.protocol.specs.Runs.{start}
@@ -19,7 +15,7 @@ use Rattle.ages.proofs.HandedUp.{up-below}
 use Rattle.station.specs.Calls.{Changed, MessageMet}
 use Rattle.transcript.specs.declared.events.Answered.{Answered}
 use Rattle.transcript.specs.Files.{kind_of, line_of, clock_of, message_of}
-use Rattle.transcript.specs.Text.{own_pong, output_size, call_of, handed_on, Answers, outcome_by, route_by}
+use Rattle.transcript.specs.Text.{own_pong, output_size, call_of, Answers, outcome_by, route_by}
 
 -- ---- opening and closing send nothing and hand nothing up
 
@@ -39,27 +35,24 @@ pub closing-quiet : (s : Station) (l : ℕ) → Quiet (closing s l)
 unfolding closing
 closing-quiet s l = refused-quiet (first_of (closing_in s l)) _ _ _ _ _
 
--- the record of a call's line, put in its place
-module _ {room : ℕ} (lines : List Line) {q : Memory} (line : ℕ) (x : Line) {n : ℕ} {age : Age} {r : Answered} where
-  pub handed : (o : Outcome) → Changed o n (station_of room (set lines (line % 8) x) q) → Quiet o → age ≡ no_age
-      → r ≡ handed_on lines line x n nobody age → Answers o r (station_of room r.lines q)
-  handed o c f g e =
-      rw e (record { answer = c.answered; to = sym f.to; age = g ∙ sym f.age; state = c.state })
+-- what is handed on of a call that sends nothing and hands nothing up
+pub unsent : (o : Outcome) {n : ℕ} {after : Station} {r : Answered} → Changed o n after → Quiet o
+    → r ≡ record { answer = n; to = nobody; age = no_age } → Answers o r after
+unsent o c f e = rw e (record { answer = c.answered; to = sym f.to; age = sym f.age; state = c.state })
 
 -- ---- a message
 
-module _ (s : Station) {room : ℕ} (lines : List Line) {q : Memory} (line clock : ℕ) {own : Own} (m out route : List ℕ)
-    (e : own ≡ own_pong) (f : length out ≡ output_size) (x : Line) {report : Report} {out' route' : List ℕ}
-    (met : MessageMet s line m (terms_of clock own (length out)) route report
-    (station_of room (set lines (line % 8) x) q) out out' route') where
-  same_outcome : message_outcome s line m (terms_of clock own (length out)) route
+module _ (s : Station) (line clock : ℕ) (m out route : List ℕ) (f : length out ≡ output_size) {report : Report}
+    {after : Station} {out' route' : List ℕ}
+    (met : MessageMet s line m (terms_of clock own_pong (length out)) route report after out out' route') where
+  same_outcome : message_outcome s line m (terms_of clock own_pong (length out)) route
       ≡ message_outcome s line m (terms_of clock own_pong output_size) route
-  same_outcome = ap₂ (λ o k. message_outcome s line m (terms_of clock o k) route) e f
+  same_outcome = ap (λ k. message_outcome s line m (terms_of clock own_pong k) route) f
 
-  pub message-answered : {r : Answered} → r ≡ handed_on lines line x report.answer report.to report.age
-      → Answers (message_outcome s line m (terms_of clock own_pong output_size) route) r (station_of room r.lines q)
-  message-answered g =
-      rw (g, ← same_outcome)
+  pub message-answered : Answers (message_outcome s line m (terms_of clock own_pong output_size) route)
+      (record { answer = report.answer; to = report.to; age = report.age }) after
+  message-answered =
+      rw (← same_outcome)
       (record {
         answer = ap (λ (y : Report). y.answer) met.report;
         to = ap (λ (y : Report). y.to) met.report;
@@ -76,26 +69,19 @@ module _ (s : Station) (route e : List ℕ) (l : ℕ) (f : l ≡ line_of e) {r :
   pub act_open : kind_of e ≡ 0 → Answers (opening s l) r after
       → Answers (outcome_by s route e) r after × (route ≡ route_by s route e)
   unfolding call_of
-  act_open k g = (rw (eq-eqb (kind_of e) 0 k) (rw f at g), rw (eq-eqb (kind_of e) 0 k))
+  act_open k g = (rw k (rw f at g), rw k)
 
-  module _ (h : kind_of e ≡ 0 → ⊥) where
-    pub act-close : kind_of e ≡ 1 → Answers (closing s l) r after
-        → Answers (outcome_by s route e) r after × (route ≡ route_by s route e)
-    unfolding call_of
-    act-close k g = (
-      rw (ne_eqb (kind_of e) 0 h, eq-eqb (kind_of e) 1 k) (rw f at g),
-      rw (ne_eqb (kind_of e) 0 h, eq-eqb (kind_of e) 1 k),
-    )
+  pub act-close : kind_of e ≡ 1 → Answers (closing s l) r after
+      → Answers (outcome_by s route e) r after × (route ≡ route_by s route e)
+  unfolding call_of
+  act-close k g = (rw k (rw f at g), rw k)
 
-    pub act-message : (kind_of e ≡ 1 → ⊥) → {clock : ℕ} {m route' : List ℕ} → clock ≡ clock_of e → m ≡ message_of e
-        → Answers (message_outcome s l m (terms_of clock own_pong output_size) route) r after
-        → route' ≡ (message_outcome s l m (terms_of clock own_pong output_size) route).route
-        → Answers (outcome_by s route e) r after × (route' ≡ route_by s route e)
-    unfolding call_of
-    act-message k g i p q = (
-      rw (ne_eqb (kind_of e) 0 h, ne_eqb (kind_of e) 1 k) (rw (f, g, i) at p),
-      rw (ne_eqb (kind_of e) 0 h, ne_eqb (kind_of e) 1 k) (rw (f, g, i) at q),
-    )
+  pub act-message : kind_of e ≡ 2 → {clock : ℕ} {m route' : List ℕ} → clock ≡ clock_of e → m ≡ message_of e
+      → Answers (message_outcome s l m (terms_of clock own_pong output_size) route) r after
+      → route' ≡ (message_outcome s l m (terms_of clock own_pong output_size) route).route
+      → Answers (outcome_by s route e) r after × (route' ≡ route_by s route e)
+  unfolding call_of
+  act-message k g i p q = (rw k (rw (f, g, i) at p), rw k (rw (f, g, i) at q))
 
 -- ---- the age handed on is the outcome's, so it is below the ring's capacity
 

@@ -5,15 +5,15 @@ use mathlib.Core.Bool.{Bool, true, false, cond, ◌||◌}
 use mathlib.Core.List.{List, [], ◌∷◌, ◌++◌, append_assoc}
 use native.Mathlib.Numerals.{add-one}
 use native.Mathlib.Omega.{arith}
-use lib.ListN.{length, get_or, drop, drop_of_length-le}
+use lib.ListN.{length, get_or, drop}
 use lib.Seq.{drop-cons}
 use Rattle.laws.specs.Parts.{Put}
 use Rattle.laws.proofs.Text.{put_then}
-use Rattle.digits.specs.Decimal.{digit, decimal}
+use Rattle.digits.specs.Decimal.{decimal}
 use Rattle.protocol.specs.declared.Age.{Age}
-use Rattle.transcript.specs.Rows.{space, comma, dash, newline, flagged, further_lines, line_list, flag_text}
+use Rattle.transcript.specs.Rows.{space, dash, newline, flagged, further_lines, line_list, flag_text}
 use Rattle.transcript.specs.Rows.{sent_text, column_text, age_text, row_text}
-use Rattle.transcript.proofs.Putting.{put-none, Left, left-start, left-on, left_end}
+use Rattle.transcript.proofs.Putting.{Left, left-start, left-on}
 
 -- what is still to be listed, of the flags from line k on
 abbrev pub left_text : Bool → ℕ → List Bool → List ℕ
@@ -63,36 +63,6 @@ module _ {to : List Bool} {before : List ℕ} {at : ℕ} {area : List ℕ} {next
         near = omega arith;
         rest = left-on (flag_text started f k) (left_text (started || f) (k + 1) (drop (k + 1) to)) z p (omega arith);
       }
-
-  none_left : 8 ≤ k → left_text started k (drop k to) ≡ cond started [] (dash ∷ [])
-  none_left h = ap (left_text started k) (drop_of_length-le to {i = k} (omega arith))
-
-  pub listing_some : 8 ≤ k → started ≡ true → Put at (sent_text to) before area next
-  listing_some h e = left_end (rw (none_left h, e) at l.rest)
-
-  pub listing_none : 8 ≤ k → started ≡ false → {after : List ℕ} {j : ℕ} → Put next (dash ∷ []) area after j
-      → Put at (sent_text to) before after j
-  listing_none h e p =
-      let z : Left at (sent_text to) before next (dash ∷ []) area = rw (none_left h, e) at l.rest in
-      let s = l.rest.size in
-      let n = l.near in
-      let w = l.within in
-      left_end (left-on (dash ∷ []) [] z p (omega arith))
-
--- ---- what a flag adds
-
-module _ (started flag : Bool) (k : ℕ) {at : ℕ} {area : List ℕ} where
-  pub flag-none : flag ≡ false → Put at (flag_text started flag k) area area at
-  flag-none e = rw e (put-none at area)
-
-  pub flag-first : {after : List ℕ} {j : ℕ} → flag ≡ true → started ≡ false → Put at (digit k ∷ []) area after j
-      → Put at (flag_text started flag k) area after j
-  flag-first e f p = rw (e, f) p
-
-  pub flag_further : {mid after : List ℕ} {i j : ℕ} → flag ≡ true → started ≡ true → Put at (comma ∷ []) area mid i
-      → Put i (digit k ∷ []) mid after j
-      → at + 2 ≤ length area → Put at (flag_text started flag k) area after j
-  flag_further e f p q h = let m = p.moved in rw (e, f) (put_then p q (omega arith))
 
 -- ---- a row, each part put where the one before it ends
 

@@ -1,21 +1,16 @@
--- Texts put over an area: byte by byte, and one behind another.
+-- Texts put over an area, one behind another.
 use Prim.Native.Nat.{ℕ, ◌+◌, ◌≤◌, ◌<◌}
 use mathlib.Core.Path.{◌≡◌, refl, sym, ap, ◌∙◌}
 use mathlib.Core.List.{List, [], ◌∷◌, ◌++◌}
-use native.Mathlib.Nat.{add-zero}
 use native.Mathlib.Omega.{arith}
-use lib.ListN.{length, get_or, drop, set, length-set, length-append}
+use lib.ListN.{length, set, length-append}
 use Rattle.laws.specs.Parts.{over, Put}
 use Rattle.laws.proofs.Over.{over-length}
-use Rattle.laws.proofs.Text.{over_none, over_append, copy-on, copy-end}
+use Rattle.laws.proofs.Text.{over_none, over_append}
 use Rattle.laws.proofs.Decimal.{over-byte}
 
 pub put_one : (at b : ℕ) (area : List ℕ) → at < length area → Put at (b ∷ []) area (set area at b) (at + 1)
 put_one at b area h = record { written = over-byte at b area h; moved = refl }
-
--- nothing
-pub put-none : (at : ℕ) (area : List ℕ) → Put at [] area area at
-put-none at area = record { written = sym (over_none at area); moved = sym (add-zero at) }
 
 -- `rest` is still to be put from `next` on, and then `text` stands from `at` on
 pub record Left (at : ℕ) (text before : List ℕ) (next : ℕ) (rest area : List ℕ) : Type 0 where
@@ -46,26 +41,3 @@ pub left_end : {at : ℕ} {text before : List ℕ} {next : ℕ} {area : List ℕ
     → Put at text before area next
 left_end {at} {text} {before} {next} {area} l =
     record { written = sym (over_none next area) ∙ l.left; moved = omega (arith, l.place) }
-
--- ---- a text, byte by byte
-
-pub record Copying (text before : List ℕ) (at : ℕ) (area : List ℕ) (i : ℕ) : Type 0 where
-  pub within : i ≤ length text
-  pub size : length area ≡ length before
-  pub left : over (at + i) (drop i text) area ≡ over at text before
-
-pub copying_start : (text area : List ℕ) (at : ℕ) → Copying text area at area 0
-copying_start text area at = record { within = omega arith; size = refl; left = rw (add-zero at) }
-
-module _ (text before : List ℕ) (at : ℕ) (area : List ℕ) (i : ℕ) (p : Copying text before at area i) where
-  pub copying_on : at + length text ≤ length before → i < length text
-      → Copying text before at (set area (at + i) (get_or text i 0)) (i + 1)
-  copying_on room h =
-      record {
-        within = omega arith;
-        size = simp length-set p.size;
-        left = copy-on at i text area h (omega (arith, p.size)) ∙ p.left;
-      }
-
-  pub copying_end : length text ≤ i → Put at text before area (at + length text)
-  copying_end h = record { written = sym (copy-end at i text area h) ∙ p.left; moved = refl }

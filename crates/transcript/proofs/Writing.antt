@@ -1,26 +1,26 @@
 -- Laws of the loop over the events, and of the whole text.
 use Prim.Native.Nat.{ℕ, zero, suc, ◌+◌, ◌-◌, ◌*◌, ◌≤◌, ◌<◌}
-use mathlib.Core.Path.{◌≡◌, refl, sym, ap, ap₂, ◌∙◌}
-use mathlib.Core.Bool.{Bool, true, false, ◌&&◌}
+use mathlib.Core.Path.{◌≡◌, refl, sym, ap, ◌∙◌}
+use mathlib.Core.Bool.{true, false, ◌&&◌}
 use mathlib.Core.List.{List, [], ◌∷◌, ◌++◌}
 use native.Mathlib.Nat.{add-zero, zero-add}
 use native.Mathlib.Omega.{arith}
-use borrow.Author.Tests.{leb-true, le-leb, lt-leb}
+use borrow.Author.Tests.{leb-true, le-leb}
 use lib.Dec.{leb}
-use lib.ListN.{length, take, drop, replicate, length-append, length-take, length-drop}
+use lib.ListN.{length, replicate, length-take, length-drop}
+use Rattle.std.specs.Prelude.{Some}
 use Rattle.laws.specs.Tests.{every, all}
 use Rattle.laws.specs.Parts.{over, Put}
 use Rattle.laws.proofs.Refusals.{and_fst, and_snd}
 use Rattle.laws.proofs.Text.{put_then}
 use Rattle.protocol.specs.State.{Station}
 use Rattle.protocol.specs.Calls.{fresh}
-use Rattle.transcript.specs.declared.Written.{Written}
 use Rattle.transcript.specs.declared.events.Answered.{Answered}
 use Rattle.transcript.specs.Files.{count_of, offset_of, event_at, kind_of, count_from, longest, good_offsets, good_event}
 use Rattle.transcript.specs.Files.{good_file}
 use Rattle.transcript.specs.Rows.{row_text}
 use Rattle.transcript.specs.Text.{RowsFit, route_size, output_size, Answers, outcome_by, route_by, rows_from, all_rows}
-use Rattle.transcript.specs.Text.{heading, bad_file, text_room, session_text, written_of, area_of}
+use Rattle.transcript.specs.Text.{heading, bad_file, text_room, session_text, handed_back, written_of, area_of}
 use Rattle.transcript.proofs.Putting.{Left, left-on, left_end}
 use Rattle.transcript.proofs.Reading.{count_next, count-end, offsets-fit, offsets-room, offsets-first}
 use Rattle.transcript.proofs.Reading.{offsets-last}
@@ -42,11 +42,15 @@ module _ (file : List ℕ) (i : ℕ) (e : good_event file i ≡ true) where
       (and_fst (leb (offset_of file (i + 1)) (length file)) _
       (and_snd (leb (offset_of file i + 6) (offset_of file (i + 1))) _ tests))
 
--- event i is one of n, and stands from one place of the file to another
-pub record Part (file : List ℕ) (n i from to : ℕ) : Type 0 where
-  pub more : i < n
-  pub starts : from ≡ offset_of file i
-  pub ends : to ≡ offset_of file (i + 1)
+  pub event-size : 6 ≤ length (event_at file i)
+  event-size = simp (length-take, length-drop) (omega (arith, event-rises, event-within))
+
+  pub event-kind : kind_of (event_at file i) ≤ 2
+  event-kind =
+      leb-true (kind_of (event_at file i)) 2
+      (and_fst (leb (kind_of (event_at file i)) 2) _
+      (and_snd (leb (offset_of file (i + 1)) (length file)) _
+      (and_snd (leb (offset_of file i + 6) (offset_of file (i + 1))) _ tests)))
 
 -- the rows from event i on are still to be written
 pub record Rows (file : List ℕ) (n at : ℕ) (s₀ : Station) (route₀ before : List ℕ) (area route out : List ℕ)
@@ -117,20 +121,6 @@ module _ {file : List ℕ} {n at : ℕ} {s₀ : Station} {route₀ before : List
   unfolding rows_from
   rows_end h = left_end (rw (count-end i n h) at r.rest)
 
-  -- event i's part of the file
-  module _ {from to : ℕ} (q : Part file n i from to) where
-    pub part-rises : from + 6 ≤ to
-    part-rises = rw (q.starts, q.ends) (event-rises file i (here-good q.more))
-
-    pub part-within : to ≤ length file
-    part-within = rw q.ends (event-within file i (here-good q.more))
-
-    pub part-size : 6 ≤ length (take (to - from) (drop from file))
-    part-size = simp (length-take, length-drop) (omega (arith, part-rises, part-within))
-
-    pub part-event : take (to - from) (drop from file) ≡ event_at file i
-    part-event = ap₂ (λ a b. take (b - a) (drop a file)) q.starts q.ends
-
 -- ---- the whole text
 
 -- n events take 6 bytes each at least
@@ -158,56 +148,43 @@ module _ (file : List ℕ) (e : good_file file ≡ true) where
       rw s at (events-rise file (count_of file) 0 events-good) in
       omega (arith, offsets-first file offsets-good, offsets-last file offsets-good, offsets-fit file offsets-good)
 
-  pub rows_fit : (n lent size at : ℕ) → n ≡ count_of file → lent ≡ output_size → text_room ≤ size → at ≤ 22
-      → RowsFit file n lent size at
-  rows_fit n lent size at f g h k =
+  pub rows_fit : (size at : ℕ) → text_room ≤ size → at ≤ 22 → RowsFit file (count_of file) output_size size at
+  rows_fit size at h k =
       record {
-        good = ap (λ m. all (good_event file) (count_from 0 m)) f ∙ events-good;
-        offsets = rw f (offsets-room file offsets-good);
+        good = events-good;
+        offsets = offsets-room file offsets-good;
         short = offsets-fit file offsets-good;
-        output = g;
+        output = refl;
         room = omega (arith, few-events);
       }
 
 -- the heading and the rows
-pub session_put : (file : List ℕ) {n : ℕ} {s : Station} {route out mid after : List ℕ} {at next : ℕ} → n ≡ count_of file
-    → s ≡ (fresh route_size).state → route ≡ replicate route_size 0 → text_room ≤ length out → Put 0 heading out mid at
-    → Put at (rows_from file s route (count_from 0 n)) mid after next
+pub session_put : (file : List ℕ) {s : Station} {out mid after : List ℕ} {at next : ℕ} → s ≡ (fresh route_size).state
+    → text_room ≤ length out → Put 0 heading out mid at
+    → Put at (rows_from file s (replicate route_size 0) (count_from 0 (count_of file))) mid after next
     → Put 0 (heading ++ all_rows file) out after next
 unfolding all_rows
-session_put file {at = at} e f g room p q =
+session_put file {at = at} f room p q =
     let m : at ≡ 22 = p.moved in
-    put_then p (rw (e, f, g) at q) (omega arith)
+    put_then p (rw f at q) (omega arith)
 
--- what is handed back by the file and the area: whether the text fits and how long it is, the area after it, and that
--- it is inside
-abbrev pub Handed : (file out : List ℕ) → Bool → ℕ → List ℕ → Type 0
-Handed file out fits n after =
-    (◌≡◌ {A = Written} (record { fits = fits; written = n }) (written_of (length out) (session_text file)))
-    × ((after ≡ area_of (session_text file) out) × (n ≤ length out))
+-- what is handed back by the file and an area with room: how long the text is, and the area after it
+abbrev pub Handed : (file out : List ℕ) → ℕ → List ℕ → Type 0
+Handed file out n after =
+    (handed_back (Some n) ≡ written_of (length out) (session_text file)) × (after ≡ area_of (session_text file) out)
 
-module _ (file : List ℕ) {out : List ℕ} where
-  pub no-space : length out < text_room → Handed file out false 0 out
-  no-space h = (rw (lt-leb text_room (length out) h), (rw (lt-leb text_room (length out) h), omega arith))
+module _ (file : List ℕ) {out : List ℕ} (h : text_room ≤ length out) {after : List ℕ} {n : ℕ} where
+  given : (text : List ℕ) → text ≡ session_text file → Put 0 text out after n → Handed file out n after
+  given text e p =
+      let m : n ≡ length (session_text file) = p.moved ∙ zero-add (length text) ∙ ap length e in (
+        rw (le-leb text_room (length out) h, m),
+        rw (le-leb text_room (length out) h) (p.written ∙ ap (λ t. over 0 t out) e),
+      )
 
-  module _ (h : text_room ≤ length out) {after : List ℕ} {n : ℕ} where
-    given : (text : List ℕ) → text ≡ session_text file → Put 0 text out after n → length after ≡ length out
-        → Handed file out true n after
-    given text e p k =
-        let m : n ≡ length (session_text file) = p.moved ∙ zero-add (length text) ∙ ap length e in (
-          rw (le-leb text_room (length out) h, m),
-          (
-            rw (le-leb text_room (length out) h) (p.written ∙ ap (λ t. over 0 t out) e),
-            omega (arith, ap length p.written, length-append text (drop (0 + length text) out), p.moved),
-          ),
-        )
+  pub bad-written : good_file file ≡ false → Put 0 bad_file out after n → Handed file out n after
+  unfolding session_text
+  bad-written e p = given bad_file (sym (rw e)) p
 
-    pub bad-written : good_file file ≡ false → Put 0 bad_file out after n → length after ≡ length out
-        → Handed file out true n after
-    unfolding session_text
-    bad-written e p = given bad_file (sym (rw e)) p
-
-    pub good-written : good_file file ≡ true → Put 0 (heading ++ all_rows file) out after n → length after ≡ length out
-        → Handed file out true n after
-    unfolding session_text
-    good-written e p = given (heading ++ all_rows file) (sym (rw e)) p
+  pub good-written : good_file file ≡ true → Put 0 (heading ++ all_rows file) out after n → Handed file out n after
+  unfolding session_text
+  good-written e p = given (heading ++ all_rows file) (sym (rw e)) p

@@ -1,17 +1,14 @@
 -- The text of a session, from the bytes of its event file.
-use Rattle.std.specs.Prelude.{ℕ, ◌+◌, ◌*◌, ◌%◌, ◌≤◌, ◌≡◌, Bool, true, false, cond, List, [], ◌∷◌, ◌++◌, eqb, leb, length, replicate, set}
+use Rattle.std.specs.Prelude.{ℕ, ◌+◌, ◌*◌, ◌≤◌, ◌≡◌, Bool, true, false, cond, List, [], ◌∷◌, ◌++◌, eqb, leb, length, replicate, Option, Some, None}
 use Rattle.laws.specs.Tests.{all}
 use Rattle.laws.specs.Parts.{over}
 use Rattle.laws.specs.Text.{codes}
-use Rattle.protocol.specs.declared.Line.{Line}
 use Rattle.protocol.specs.declared.Own.{Own}
-use Rattle.protocol.specs.declared.Age.{Age}
 use Rattle.protocol.specs.State.{Station}
 use Rattle.protocol.specs.Outcomes.{Outcome, terms_of}
 use Rattle.protocol.specs.Calls.{fresh}
 use Rattle.protocol.specs.Runs.{Call, Open, Close, Message, Same, outcome_of, area_after, start}
 use Rattle.transcript.specs.declared.events.Answered.{Answered}
-use Rattle.transcript.specs.declared.Written.{Written}
 use Rattle.transcript.specs.Files.{kind_of, line_of, clock_of, message_of, event_at, count_from, count_of, longest}
 use Rattle.transcript.specs.Files.{good_event, good_file}
 use Rattle.transcript.specs.Rows.{row_text}
@@ -44,12 +41,6 @@ outcome_by s route e = outcome_of (start s route) (call_of e)
 
 abbrev pub route_by : Station → List ℕ → List ℕ → List ℕ
 route_by s route e = area_after (call_of e) route (outcome_by s route e).route
-
--- what the code hands on of a call on a line, whose record after it is x: the state but for the ring, the answer, the
--- lines sent to and the age handed up
-abbrev pub handed_on : List Line → ℕ → Line → ℕ → List Bool → Age → Answered
-handed_on lines line x answer to age =
-    record { lines = set lines (line % 8) x; answer = answer; to = to; age = age }
 
 -- what is handed on, and the state after, are an outcome's
 pub record Answers (o : Outcome) (r : Answered) (after : Station) : Type 0 where
@@ -91,6 +82,16 @@ session_text file = cond (good_file file) (heading ++ all_rows file) bad_file
 -- an area of this many bytes has room for every text
 abbrev pub text_room : ℕ
 text_room = 118784
+
+-- whether there was room for the text, and its length, which is none where there was not
+pub record Written : Type 0 where
+  pub fits : Bool
+  pub written : ℕ
+
+-- as the code tells of it: the length, where there was room
+abbrev pub handed_back : Option ℕ → Written
+handed_back (Some n) = record { fits = true; written = n }
+handed_back None = record { fits = false; written = 0 }
 
 -- what is handed back, and the area after it; a shorter area stays as it is
 abbrev pub written_of : ℕ → List ℕ → Written

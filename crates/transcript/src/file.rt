@@ -1,7 +1,10 @@
 // Event files: their offsets, and the test of the whole file before anything is done.
-ghost use Rattle.std.specs.Prelude.{◌≡◌, ◌+◌, ◌*◌, ◌<◌, ◌≤◌, length};
+ghost use Rattle.std.specs.Prelude.{◌≡◌, true, ◌+◌, ◌*◌, ◌<◌, ◌≤◌, length};
 ghost use Rattle.laws.specs.Tests.{all};
-ghost use Rattle.transcript.specs.Files.{word_at, count_of, offset_of, count_from, good_offsets, good_event, good_file};
+ghost use Rattle.transcript.specs.Files.{word_at, count_of, offset_of, event_at, kind_of, count_from};
+ghost use Rattle.transcript.specs.Files.{good_offsets, good_event, good_file};
+
+use crate::events::Kind;
 
 // The four-byte number at a place.
 fn word_at(file: &[u8], at: usize) -> usize
@@ -19,7 +22,7 @@ pub(crate) fn count(file: &[u8]) -> usize
 }
 
 // Where event i begins.
-pub(crate) fn offset(file: &[u8], i: usize) -> usize
+fn offset(file: &[u8], i: usize) -> usize
     requires { 4 + 4 * i ≤ length file.now }
     ensures { (result ≡ offset_of file.now i) × (result < 4294967296) }
 {
@@ -27,41 +30,38 @@ pub(crate) fn offset(file: &[u8], i: usize) -> usize
 }
 
 // The file is neither too long nor too short, and its first and last offsets are as they have to be.
+#[tactic(auto, using(std::proofs::lemmas::Bool::Decides::nat_tests), unfolding(crate::specs::Files::good_offsets))]
 fn good_offsets(file: &[u8]) -> bool
     ensures { result ≡ good_offsets file.now }
 {
-    if file.len() > 32768 {
-        return false;
-    }
-    if file.len() < 8 {
-        return false;
-    }
     let n = count(file);
     let start = 8 + 4 * n;
-    if start > file.len() {
-        return false;
-    }
-    if offset(file, 0) != start {
-        return false;
-    }
-    offset(file, n) == file.len()
+    (8..=32768).contains(&file.len())
+        && start <= file.len()
+        && offset(file, 0) == start
+        && offset(file, n) == file.len()
 }
 
 // Event i is long enough, ends within the file and is of a kind that there is.
+#[tactic(auto, using(std::proofs::lemmas::Bool::Decides::nat_tests), unfolding(crate::specs::Files::good_event))]
 fn good_event(file: &[u8], i: usize) -> bool
     requires { 12 + 4 * i ≤ length file.now }
     ensures { result ≡ good_event file.now i }
 {
     let from = offset(file, i);
     let to = offset(file, i + 1);
-    if to < from + 6 {
-        return false;
-    }
-    if file.len() < to {
-        return false;
-    }
-    let event = &file[from..to];
-    event[0] <= 2
+    from + 6 <= to && to <= file.len() && Kind::try_from(file[from]).is_ok()
+}
+
+// The bytes of event i, which is good.
+pub(crate) fn event(file: &[u8], i: usize) -> &[u8]
+    requires room { 12 + 4 * i ≤ length file.now }
+    requires good { good_event file.now i ≡ true }
+    ensures value { result.now ≡ event_at file.now i }
+    ensures whole { 6 ≤ length result.now }
+    ensures kind { kind_of result.now ≤ 2 }
+{
+    &file[offset(file, i)..offset(file, i + 1)]
 }
 
 // The first n events are good.
@@ -69,23 +69,12 @@ fn good_events(file: &[u8], n: usize) -> bool
     requires { 8 + 4 * n ≤ length file.now }
     ensures { result ≡ all (good_event file.now) (count_from 0 n) }
 {
-    let mut i: usize = 0;
-    while i < n {
-        if !good_event(file, i) {
-            return false;
-        }
-        i += 1;
-    }
-    true
+    (0..n).all(|i| good_event(file, i))
 }
 
 // The whole file is good.
 pub(crate) fn good_file(file: &[u8]) -> bool
     ensures { result ≡ good_file file.now }
 {
-    if !good_offsets(file) {
-        return false;
-    }
-    let n = count(file);
-    good_events(file, n)
+    good_offsets(file) && good_events(file, count(file))
 }

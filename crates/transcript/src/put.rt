@@ -15,12 +15,9 @@ pub(crate) fn put_text(out: &mut [u8], at: usize, text: &[u8]) -> usize
     requires { at + length text.now ≤ length out.old }
     ensures { Put at text.now out.old out.new result }
 {
-    let mut i = 0;
-    while i < text.len() {
-        out[at + i] = text[i];
-        i += 1;
-    }
-    at + text.len()
+    let end = at + text.len();
+    out[at..end].copy_from_slice(text);
+    end
 }
 
 // A number in decimal.
@@ -30,7 +27,6 @@ pub(crate) fn put_number(out: &mut [u8], at: usize, n: u16) -> usize
     ensures near { result ≤ at + 5 }
 {
     let digits = digits::spell(n);
-    let size = digits.size;
     let bytes = digits.bytes;
-    put_text(out, at, &bytes[..size])
+    put_text(out, at, &bytes[..digits.size])
 }

@@ -1,66 +1,54 @@
--- By the event's kind: what the call ensures, with the line's record put in its place.
+-- By the event's kind: what the call ensures.
+use Rattle.std.proofs.Common.{◌≡◌, rules}
 use Rattle.laws.proofs.Parts.{part_tail}
-use Rattle.protocol.specs.Memory.{memory_of}
-use Rattle.protocol.specs.State.{station_of}
+use Rattle.keeper.specs.Kept.{kept_by}
 use Rattle.protocol.specs.Calls.{opening, closing}
-use Rattle.transcript.proofs.Acting.{
-  handed,
-  opening-quiet,
-  closing-quiet,
-  message-answered,
-  message-route,
-  act_open,
-  act-close,
-  act-message,
-}
+use Rattle.transcript.specs.Files.{kind_of, line_of}
+use Rattle.transcript.proofs.Acting.{unsent, opening-quiet, closing-quiet, message-answered, message-route}
+use Rattle.transcript.proofs.Acting.{act_open, act-close, act-message}
 use Rattle.transcript.proofs.events.act.Goals as goal
 
-pub returns-then-kind-eq0 : goal.returns-then-kind-eq0
-returns-then-kind-eq0 c =
+pub returns-in-Ok-Open : goal.returns-in-Ok-Open
+returns-in-Ok-Open c =
     let a = c.args in
-    let l = c.line_of-line in
-    let q = memory_of a.lo.now a.hi.now a.asker.now a.hits.now a.count.now a.next.now in
-    let s = station_of a.room a.lines q in
+    let s = kept_by a.station.now in
+    let l = c.from-line.result in
+    let f : l ≡ line_of a.event.now = search rules in
+    let k : kind_of a.event.now ≡ 0 = search rules in
     let d =
-    act_open s a.route.now a.event.now l.result l.ensures c.if-kind-eq0.true
-    (handed a.lines l.result c.lunozhar_open_lent-opened.result.line (opening s l.result)
-    c.lunozhar_open_lent-opened.ensures (opening-quiet s l.result) c.no_age.ensures
-    c.hand_on.ensures) in record {
+    act_open s a.route.now a.event.now l f k
+    (unsent (opening s l) c.open.ensures (opening-quiet s l) c.quiet.ensures) in record {
       result = d.0;
       after = d.1;
     }
 
-pub returns-then-kind-eq1 : goal.returns-then-kind-eq1
-returns-then-kind-eq1 c =
+pub returns-in-Ok-Close : goal.returns-in-Ok-Close
+returns-in-Ok-Close c =
     let a = c.args in
-    let l = c.line_of-line in
-    let q = memory_of a.lo.now a.hi.now a.asker.now a.hits.now a.count.now a.next.now in
-    let s = station_of a.room a.lines q in
+    let s = kept_by a.station.now in
+    let l = c.from-line.result in
+    let f : l ≡ line_of a.event.now = search rules in
+    let k : kind_of a.event.now ≡ 1 = search rules in
     let d =
-    act-close s a.route.now a.event.now l.result l.ensures c.if-kind-eq0.false c.if-kind-eq1.true
-    (handed a.lines l.result c.lunozhar_close_lent-closed.result.line (closing s l.result)
-    c.lunozhar_close_lent-closed.ensures (closing-quiet s l.result) c.no_age-then-kind-eq1.ensures
-    c.hand_on-then-kind-eq1.ensures) in record {
+    act-close s a.route.now a.event.now l f k
+    (unsent (closing s l) c.close.ensures (closing-quiet s l) c.quiet-in-Ok-Close.ensures) in record {
       result = d.0;
       after = d.1;
     }
 
-pub returns : goal.returns
-returns c =
+pub returns-in-Ok-Message : goal.returns-in-Ok-Message
+returns-in-Ok-Message c =
     let a = c.args in
-    let l = c.line_of-line in
-    let q = memory_of a.lo.now a.hi.now a.asker.now a.hits.now a.count.now a.next.now in
-    let s = station_of a.room a.lines q in
-    let x = c.lunozhar_message_lent-arrival.result.line in
+    let s = kept_by a.station.now in
+    let l = c.from-line.result in
+    let f : l ≡ line_of a.event.now = search rules in
+    let k : kind_of a.event.now ≡ 2 = search rules in
     let clock = c.little4-clock.result in
-    let own = c.own_pong-own.ensures in
-    let met = c.lunozhar_message_lent-arrival.ensures in
+    let met = c.message-report.ensures in
     let d =
-    act-message s a.route.now a.event.now l.result l.ensures c.if-kind-eq0.false c.if-kind-eq1.false
-    (rw part_tail at c.little4-clock.ensures) (part_tail 6 a.event.now)
-    (message-answered s a.lines l.result clock _ a.area.now a.route.now own c.requires.0 x met
-    c.hand_on-2.ensures)
-    (message-route s a.lines l.result clock _ a.area.now a.route.now own c.requires.0 x met) in record {
+    act-message s a.route.now a.event.now l f k (rw part_tail at c.little4-clock.ensures) (part_tail 6 a.event.now)
+    (message-answered s l clock _ a.area.now a.route.now c.requires.output met)
+    (message-route s l clock _ a.area.now a.route.now c.requires.output met) in record {
       result = d.0;
       after = d.1;
     }

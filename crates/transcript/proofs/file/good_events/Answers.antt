@@ -1,20 +1,13 @@
--- The events gone through are good; those left decide.
-use mathlib.Core.Path.{sym, ◌∙◌}
-use Rattle.transcript.proofs.Reading.{tested-start, tested-bad, tested-on, tested-end}
+-- The test of a range of numbers.
+use Rattle.std.proofs.Common.{rules, tests, arith, refl, ◌∙◌}
+use Rattle.std.proofs.lemmas.Iterator.{YieldsList-from_range}
+use Rattle.std.proofs.lemmas.Iterator.Search.{all_from_yields_List}
+use Rattle.transcript.specs.Files.{good_event}
+use Rattle.transcript.proofs.Reading.{all_in_range}
 use Rattle.transcript.proofs.file.good_events.Goals as goal
 
-pub loop-i-init : goal.loop-i-init
-loop-i-init c = tested-start c.args.file.now c.args.n
-
-pub returns-then-not-good_event : goal.returns-then-not-good_event
-returns-then-not-good_event c =
-    tested-bad c.loop-i.invariant c.loop-i-test.true (sym c.good_event.ensures
-    ∙ c.if-not-good_event.true)
-
-pub loop-i-preserved : goal.loop-i-preserved
-loop-i-preserved c =
-    tested-on c.loop-i.invariant c.loop-i-test.true (sym c.good_event.ensures
-    ∙ c.if-not-good_event.false)
-
 pub returns : goal.returns
-returns c = tested-end c.loop-i.invariant c.loop-i-test.false
+returns c =
+    all_from_yields_List (good_event c.args.file.now) _ _ c.all.result c.all.ensures.ran
+    (YieldsList-from_range 0 c.args.n c.args.n refl (omega arith)) (λ x b q k. search (rules, tests))
+    ∙ all_in_range (good_event c.args.file.now) c.args.n 0

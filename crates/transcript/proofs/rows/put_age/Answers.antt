@@ -1,22 +1,10 @@
 -- A dash, or the age's number, which is below 512 and so fits.
--- Assumes nothing.
+use Rattle.std.proofs.Common.{rules}
 use Rattle.transcript.proofs.Listing.{age-none, age-some}
-use borrow.Author.Tests.{not-true, not-false}
-use borrow.Author.Rules.{rules}
 use Rattle.transcript.proofs.rows.put_age.Goals as goal
 
-pub returns-then-not-age : goal.returns-then-not-age
-returns-then-not-age c =
-    let d =
-    age-none c.args.age (search (rules, not-true)) c.put_byte.ensures in record {
-      text = d.0;
-      near = d.1;
-    }
+pub returns-then-age-clause-text : goal.returns-then-age-clause-text
+returns-then-age-clause-text c = age-some c.args.age (search rules) c.put_number.ensures.text
 
-pub returns : goal.returns
-returns c =
-    let p = c.put_number.ensures in
-    record {
-      text = age-some c.args.age (search (rules, not-false)) p.text;
-      near = p.near;
-    }
+pub returns-else-age-clause-text : goal.returns-else-age-clause-text
+returns-else-age-clause-text c = (age-none c.args.age (search rules) c.put_byte.ensures).0

@@ -1,45 +1,30 @@
--- What is handed back, by the room and by the test of the file.
-use Prim.Native.Nat.{ℕ}
-use mathlib.Core.List.{List}
-use mathlib.Core.Path.{sym, ◌∙◌}
-use Rattle.transcript.proofs.Writing.{no-space, bad-written, good-written}
-use Rattle.transcript.proofs.text.session_text.Goals.{After-good_file}
+-- What is handed back where there is room, by the test of the file.
+use Rattle.std.proofs.Common.{◌≡◌, ◌≤◌, length, true, false, rules}
+use Rattle.transcript.specs.Files.{good_file}
+use Rattle.transcript.specs.Text.{text_room}
+use Rattle.transcript.proofs.Writing.{bad-written, good-written}
 use Rattle.transcript.proofs.text.session_text.Goals as goal
 
--- where the file was tested: the file
-abbrev file-of : After-good_file → List ℕ
-file-of g = g.args.file.now
+pub returns-then-good_file-clause-result : goal.returns-then-good_file-clause-result
+returns-then-good_file-clause-result c =
+    let h : text_room ≤ length c.args.out.now = search rules in
+    let g : good_file c.args.file.now ≡ true = search rules in
+    (good-written c.args.file.now h g c.put_session.ensures).0
 
-pub returns-then-out-lt118784 : goal.returns-then-out-lt118784
-returns-then-out-lt118784 c =
-    let d = no-space c.args.file.now c.if-out-lt118784.true in record {
-      result = d.0;
-      area = d.1.0;
-      inside = d.1.1;
-    }
+pub returns-then-good_file-clause-area : goal.returns-then-good_file-clause-area
+returns-then-good_file-clause-area c =
+    let h : text_room ≤ length c.args.out.now = search rules in
+    let g : good_file c.args.file.now ≡ true = search rules in
+    (good-written c.args.file.now h g c.put_session.ensures).1
 
-pub returns-then-not-good_file : goal.returns-then-not-good_file
-returns-then-not-good_file c =
-    let d =
-    bad-written (file-of (goal.at.returns-then-not-good_file c).After-good_file) c.if-out-lt118784.false (sym c.good_file.ensures
-    ∙ c.if-not-good_file.true)
-    c.put_text-short.ensures c.put_text-short.auto.out in record {
-      result = d.0;
-      area = d.1.0;
-      inside = d.1.1;
-    }
+pub returns-else-good_file-clause-result : goal.returns-else-good_file-clause-result
+returns-else-good_file-clause-result c =
+    let h : text_room ≤ length c.args.out.now = search rules in
+    let g : good_file c.args.file.now ≡ false = search rules in
+    (bad-written c.args.file.now h g c.put_text.ensures).0
 
-pub put_session-written-requires : goal.put_session-written-requires
-put_session-written-requires c =
-    (sym c.good_file.ensures ∙ c.if-not-good_file.false, c.if-out-lt118784.false)
-
-pub returns : goal.returns
-returns c =
-    let d =
-    good-written (file-of (goal.at.returns c).After-good_file) c.if-out-lt118784.false (sym c.good_file.ensures
-    ∙ c.if-not-good_file.false)
-    c.put_session-written.ensures c.put_session-written.auto.out in record {
-      result = d.0;
-      area = d.1.0;
-      inside = d.1.1;
-    }
+pub returns-else-good_file-clause-area : goal.returns-else-good_file-clause-area
+returns-else-good_file-clause-area c =
+    let h : text_room ≤ length c.args.out.now = search rules in
+    let g : good_file c.args.file.now ≡ false = search rules in
+    (bad-written c.args.file.now h g c.put_text.ensures).1
