@@ -38,6 +38,6 @@ pub(crate) fn values(
     row: &[u8],
     out: &mut [u8],
 ) -> io::Result<()> {
-    let done = transcript::text::session_text(file(kind, row), &mut *out);
-    lines(rt, label, words::part(out, 0, done.written))
+    let size = transcript::text::session_text(file(kind, row), &mut *out).unwrap_or(0);
+    lines(rt, label, words::part(out, 0, size))
 }
