@@ -7,7 +7,10 @@ use mathlib.Core.Path.{◌≡◌, refl, sym, ap, ◌∙◌}
 use mathlib.Core.Bool.{Bool, true, false, cond, ◌&&◌}
 use mathlib.Core.List.{List, [], ◌∷◌, map}
 use lib.Dec.{leb, eqb}
-use lib.ListN.{length, get_or, length-map}
+use lib.ListN.{length, get_or, take, length-map, length-take}
+use lib.Seq.{get_or-take}
+use Rattle.std.proofs.lemmas.List.{get_or_default}
+use Rattle.std.proofs.Common.{Option, Some, None, MatchOption, Contains}
 use borrow.Author.Tests.{eq-eqb}
 use Rattle.laws.specs.Tests.{all}
 use Rattle.laws.proofs.Refusals.{clash, and_intro}
@@ -18,16 +21,11 @@ use Rattle.keywords.specs.Keywords.{keywords_of}
 use Rattle.keywords.proofs.Standing.{Stands, keyword_stands}
 use Rattle.matching.specs.declared.quick.Sample.{Sample}
 use Rattle.matching.specs.Matching.{is_among, has_each, matches}
-use Rattle.matching.specs.Kept.{part_of, key_at, Gathered}
-use Rattle.matching.specs.Quick.{sample_of, Agrees, NoneIn, Nowhere, Telling}
+use Rattle.matching.specs.declared.kept.Span.{Span}
+use Rattle.matching.specs.Kept.{part_of, no_span, key_at, Gathered}
+use Rattle.matching.specs.Quick.{sample_of, Agrees, NoneIn, Nowhere, Telling, NoneMatches}
 use Rattle.matching.proofs.MatchLaws.{match_none}
 use Rattle.matching.proofs.Words.{among-forth}
-
--- no word
-pub sample_none : (word : List ℕ) → length word ≡ 0
-    → ◌≡◌ {A = Sample} (record { size = 0; first = 0; middle = 0; last = 0 }) (sample_of word)
-sample_none [] e = refl
-sample_none (b ∷ word) e = absurd (omega arith)
 
 -- ---- places
 
@@ -54,7 +52,7 @@ module _ (s : Sample) (name : List ℕ) where
       (λ p h k a. let e : p ≡ from + i = omega arith in here (rw e at a)) (omega arith) (omega arith) (omega arith)
 
   -- at every place that has room for the word
-  pub none-all : (to : ℕ) → length name < to + s.size → NoneIn s name 0 to → Nowhere s name
+  pub none-all : (to : ℕ) → length name ≤ to + s.end → NoneIn s name 0 to → Nowhere s name
   none-all to h f p a = f p (omega arith) (omega (arith, a.inside)) a
 
 -- ---- a keyword
@@ -90,21 +88,46 @@ has_all : (ks own : List (List ℕ)) → has_each ks own ≡ true → all (λ q.
 has_all [] own e = refl
 has_all (k ∷ ks) own e = e
 
--- the sample of any kept keyword tells; where none is kept, any does
-module _ (text spans : List ℕ) (count : ℕ) (g : Gathered text spans count) (place : ℕ) where
-  telling-kept : place < count → Telling text (sample_of (part_of text (get_or spans place 0)))
-  unfolding matches key_at
-  telling-kept h name none =
-      refuted (matches text name) (λ t.
-      let word = part_of text (get_or spans place 0) in
-      let each = has_all (keywords_of text) (keywords_of name) t in
-      let among = (g.whole (λ q. is_among q (keywords_of name))).0 each place h in
-      let st = keyword_stands name (map lower word) (among-forth (map lower word) (keywords_of name) among) in
-      none st.at (stands-agrees word name st))
+module _ (text : List ℕ) (spans : List Span) (count : ℕ) (g : Gathered text spans count) where
+  -- where none is kept, no name matches
+  pub unmatched : count ≡ 0 → NoneMatches text
+  unmatched z name = match_none text spans count g name z
 
-  pub telling : place ≤ count - 1 → Telling text (sample_of (part_of text (get_or spans place 0)))
-  telling h = by (dec_le 1 count)
-    where
-      by : Dec (1 ≤ count) → Telling text (sample_of (part_of text (get_or spans place 0)))
-      by (yes l) = telling-kept (omega arith)
-      by (no l) = λ name n. sym (match_none text spans count g name (omega arith))
+  module _ (span : Span) (place : ℕ) (inside : place < count) (is : get_or spans place no_span ≡ span) where
+    -- a keyword that is kept stands in each name that matches
+    stands : (name : List ℕ) → matches text name ≡ true → Stands (map lower (part_of text span)) name
+    unfolding matches key_at
+    stands name t =
+        let word = map lower (part_of text span) in
+        let each = has_all (keywords_of text) (keywords_of name) t in
+        let among = rw is at ((g.whole (λ q. is_among q (keywords_of name))).0 each place inside) in
+        keyword_stands name word (among-forth word (keywords_of name) among)
+
+    -- its sample tells; and if it has no bytes, no name matches
+    kept-tells : (o : Option Sample)
+        → MatchOption o (part_of text span ≡ []) (λ s. s ≡ sample_of (part_of text span))
+        → MatchOption o (NoneMatches text) (λ s. (0 < count) × Telling text s)
+    kept-tells None e = λ name.
+        refuted (matches text name) (λ t.
+        let st = stands name t in
+        let size = length-map (part_of text span) lower in
+        let z = ap length e in
+        absurd (omega (arith, st.some)))
+    kept-tells (Some s) e =
+        (
+          omega arith,
+          λ name none.
+              refuted (matches text name) (λ t.
+              let st = stands name t in
+              rw e at none st.at (stands-agrees (part_of text span) name st)),
+        )
+
+  pub sampled : (span : Span) → count ≤ length spans → Contains (take count spans) span → (word : List ℕ)
+      → word ≡ part_of text span → (o : Option Sample) → MatchOption o (word ≡ []) (λ s. s ≡ sample_of word)
+      → MatchOption o (NoneMatches text) (λ s. (0 < count) × Telling text s)
+  sampled span long k word e o h =
+      let inside : k.0 < count = omega (arith, k.1, length-take count spans) in
+      kept-tells span k.0 inside (
+        get_or_default spans k.0 no_span span (omega arith)
+        ∙ sym (get_or-take count spans k.0 span inside)
+        ∙ k.2) o (rw e at h)

@@ -7,7 +7,7 @@ use Rattle.matching.specs.Matching.{matches}
 abbrev pub sample_of : List ℕ → Sample
 sample_of word =
     record {
-      size = length word;
+      end = length word - 1;
       first = get_or word 0 0 % 32;
       middle = get_or word ((length word - 1) / 2) 0 % 32;
       last = get_or word (length word - 1) 0 % 32;
@@ -15,10 +15,10 @@ sample_of word =
 
 -- the bytes of a name from place p on, as many as the word has, agree with its sample
 pub record Agrees (s : Sample) (name : List ℕ) (p : ℕ) : Type 0 where
-  pub inside : p + s.size ≤ length name
+  pub inside : p + s.end < length name
   pub first : get_or name p 0 % 32 ≡ s.first
-  pub middle : get_or name (p + (s.size - 1) / 2) 0 % 32 ≡ s.middle
-  pub last : get_or name (p + (s.size - 1)) 0 % 32 ≡ s.last
+  pub middle : get_or name (p + s.end / 2) 0 % 32 ≡ s.middle
+  pub last : get_or name (p + s.end) 0 % 32 ≡ s.last
 
 -- those at none of these places do
 abbrev pub NoneIn : Sample → List ℕ → ℕ → ℕ → Type 0
@@ -30,3 +30,7 @@ Nowhere s name = (p : ℕ) → Agrees s name p → ⊥
 -- then the name does not match the text
 abbrev pub Telling : List ℕ → Sample → Type 0
 Telling text s = (name : List ℕ) → Nowhere s name → matches text name ≡ false
+
+-- no name matches the text
+abbrev pub NoneMatches : List ℕ → Type 0
+NoneMatches text = (name : List ℕ) → matches text name ≡ false

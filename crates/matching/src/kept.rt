@@ -1,108 +1,88 @@
 // The keywords of a query's text, each kept once and in their order, so that a word is found among them in few steps.
-// A kept keyword is told by a span: where it begins in the text, times 65,536, and how many bytes it has. There is
-// room for 4,096, more keywords than a text of so many bytes has.
-ghost use Rattle.std.specs.Prelude.{◌≡◌, map, ◌+◌, ◌≤◌, ◌<◌, length, take, drop};
+ghost use Rattle.std.specs.Prelude.{◌≡◌, false, map, ◌+◌, ◌≤◌, ◌<◌, length, take, drop, get_or, IfSome, IsTrue};
 ghost use Rattle.ascii.specs.Text.{lower};
-ghost use Rattle.matching.specs.Kept.{part_of, key_at, is_at, Rising, Ranked, Shifted, Added, Gathered};
+ghost use Rattle.keywords.specs.Keywords.{keywords_of};
+ghost use Rattle.matching.specs.Matching.{is_among};
+ghost use Rattle.matching.specs.Kept.{part_of, key_at, no_span, Rising, Sought, Joined, Gathered, Marked};
 
-use crate::order::is_below;
-use ascii::{after, front, same};
+use crate::order::order;
+use ascii::{after, front};
 use keywords::cut::first_keyword;
 
-// A number of four bytes as one that can count places.
-fn wide(x: u32) -> usize
-    ensures { result ≡ x }
-{
-    x as usize
+// The longest text that is looked at. There are as many places for its keywords, more than it has.
+pub(crate) const LONGEST_TEXT: usize = 4096;
+
+// Where a keyword begins in the text, and how many bytes it has.
+#[derive(Clone, Copy)]
+pub(crate) struct Span {
+    pub(crate) start: u16,
+    pub(crate) size: u16,
 }
 
 // The bytes that a span tells of.
-pub(crate) fn part_at(text: &[u8], span: u32) -> &[u8]
+pub(crate) fn part_at(text: &[u8], span: Span) -> &[u8]
     ensures { result.now ≡ part_of text.now span }
 {
-    front(after(text, wide(span / 65536)), wide(span % 65536))
+    front(after(text, usize::from(span.start)), usize::from(span.size))
 }
 
-// How many of the first `count` kept keywords stand before a word.
-pub(crate) fn rank(text: &[u8], spans: &[u32; 4096], count: usize, word: &[u8]) -> usize
-    requires { (count ≤ 4096) × Rising (key_at text.now spans.now) count }
-    ensures { Ranked (key_at text.now spans.now) count (map lower word.now) result }
-{
-    let mut low = 0;
-    let mut high = count;
-    while low < high {
-        let middle = (low + high) / 2;
-        if is_below(part_at(text, spans[middle]), word) {
-            low = middle + 1;
-        } else {
-            high = middle;
+// The first `count` spans tell of keywords of the text, in their order.
+#[derive(Drop)]
+pub(crate) struct Kept<'a> {
+    pub(crate) text: &'a [u8],
+    pub(crate) spans: [Span; LONGEST_TEXT],
+    pub(crate) count: usize,
+    ghost short: { length text.now ≤ 4096 },
+    ghost few: { count ≤ length text.now },
+    ghost rising: { Rising (key_at text.now spans) count },
+}
+
+impl<'a> Kept<'a> {
+    // The place of a word; where it is not kept, the place that it would have.
+    pub(crate) fn find(&self, word: &[u8]) -> Result<usize, usize>
+        ensures { Sought (key_at self.now.text.now self.now.spans) self.now.count (map lower word.now) result }
+    {
+        let text = self.text;
+        self.spans[..self.count].binary_search_by(|span| order(part_at(text, *span), word))
+    }
+
+    // Keeps a keyword of the text, if it is not kept already.
+    fn add(&mut self, start: usize, size: usize)
+        requires { (self.old.count < length self.old.text.now) × (start + size ≤ length self.old.text.now) }
+        ensures text { self.new.text.now ≡ self.old.text.now }
+        ensures joined { Joined (key_at self.old.text.now self.old.spans) (key_at self.new.text.now self.new.spans)
+            self.old.count (map lower (take size (drop start self.old.text.now))) self.new.count }
+    {
+        let end = start + size;
+        if let Err(place) = self.find(&self.text[start..end]) {
+            self.spans.copy_within(place..self.count, place + 1);
+            self.spans[place] = Span {
+                start: start as u16,
+                size: size as u16,
+            };
+            self.count += 1;
         }
     }
-    low
-}
 
-// A word is the keyword at this place of the first `count`.
-pub(crate) fn is_at(
-    text: &[u8],
-    spans: &[u32; 4096],
-    count: usize,
-    place: usize,
-    word: &[u8],
-) -> bool
-    requires { count ≤ 4096 }
-    ensures { result ≡ is_at text.now spans.now count place word.now }
-{
-    if count <= place {
-        return false;
-    }
-    same(true, part_at(text, spans[place]), word)
-}
-
-// A span at a place, and those that stood from there on one further.
-fn insert(spans: &mut [u32; 4096], count: usize, place: usize, span: u32)
-    requires { (place ≤ count) × (count < 4096) × (length spans.old ≡ 4096) }
-    ensures { Shifted spans.old spans.new count place span }
-{
-    let mut j = count;
-    while place < j {
-        spans[j] = spans[j - 1];
-        j -= 1;
-    }
-    spans[place] = span;
-}
-
-// Keeps the keyword that begins at `start`, if it is not kept already. How many are kept then.
-fn add(text: &[u8], spans: &mut [u32; 4096], count: usize, start: usize, size: usize) -> usize
-    requires count_bound { (count < 4096) × (length text.now ≤ 4096) × (start + size ≤ length text.now) }
-    requires rising { Rising (key_at text.now spans.old) count × (length spans.old ≡ 4096) }
-    ensures { Added text.now spans.old spans.new count
-        (map lower (take size (drop start text.now))) result }
-{
-    let end = start + size;
-    let word = &text[start..end];
-    let place = rank(text, spans, count, word);
-    if is_at(text, spans, count, place, word) {
-        return count;
-    }
-    insert(spans, count, place, (start * 65536 + size) as u32);
-    count + 1
-}
-
-// Keeps every keyword of a text of 4,096 bytes at most. How many are kept.
-pub(crate) fn gather(text: &[u8], spans: &mut [u32; 4096]) -> usize
-    requires { (length text.now ≤ 4096) × (length spans.old ≡ 4096) }
-    ensures { Gathered text.now spans.new result }
-{
-    let mut count = 0;
-    let mut at = 0;
-    loop {
-        let cut = first_keyword(&text[at..]);
-        let start = cut.start;
-        let end = cut.end;
-        if end <= start {
-            return count;
+    // The keywords of a text of 4,096 bytes at most.
+    pub(crate) fn of(text: &'a [u8]) -> Kept<'a>
+        requires { length text.now ≤ 4096 }
+        ensures text { result.text.now ≡ text.now }
+        ensures gathered { Gathered text.now result.spans result.count }
+    {
+        let mut kept = Kept {
+            text,
+            spans: [Span { start: 0, size: 0 }; LONGEST_TEXT],
+            count: 0,
+        };
+        let mut at = 0;
+        loop {
+            let cut = first_keyword(&text[at..]);
+            if cut.end <= cut.start {
+                return kept;
+            }
+            kept.add(at + cut.start, cut.end - cut.start);
+            at += cut.end;
         }
-        count = add(text, spans, count, at + start, end - start);
-        at += end;
     }
 }

@@ -1,125 +1,101 @@
 // A quick test of a name, made before it is cut: of most names it tells that they do not match. It looks for three
 // bytes of one kept keyword, the first, the last and one half way, at their distances. A byte counts modulo 32, in
 // which the two cases of a letter agree.
-ghost use Rattle.std.specs.Prelude.{◌≡◌, false, ◌+◌, ◌-◌, ◌≤◌, ◌<◌, length};
+ghost use Rattle.std.specs.Prelude.{◌≡◌, false, [], ◌+◌, ◌≤◌, ◌<◌, length, take, Contains, MatchOption};
 ghost use Rattle.matching.specs.Kept.{Gathered};
-ghost use Rattle.matching.specs.Quick.{sample_of, Agrees, NoneIn, Nowhere, Telling};
+ghost use Rattle.matching.specs.Quick.{sample_of, Agrees, NoneIn, Nowhere, Telling, NoneMatches};
 
-use crate::kept::part_at;
+use crate::kept::{Kept, Span, part_at};
 
 // How many places of a name are looked at at once.
 const BLOCK: usize = 16;
 
-// How many bytes a word has, and three of them modulo 32.
+// Three bytes of a word modulo 32, and how far the last of them is behind the first.
 #[derive(Clone, Copy)]
-pub struct Sample {
-    pub size: usize,
-    pub first: u8,
-    pub middle: u8,
-    pub last: u8,
+pub(crate) struct Sample {
+    pub(crate) end: usize,
+    pub(crate) first: u8,
+    pub(crate) middle: u8,
+    pub(crate) last: u8,
 }
 
-// The sample of a word. That of no word has the size 0.
-fn sample_of(word: &[u8]) -> Sample
-    ensures { result ≡ sample_of word.now }
-{
-    let size = word.len();
-    if size == 0 {
-        return Sample {
-            size: 0,
-            first: 0,
-            middle: 0,
-            last: 0,
-        };
+impl Sample {
+    // The sample of a word; none of no word.
+    fn of(word: &[u8]) -> Option<Sample>
+        ensures { MatchOption result (word.now ≡ []) (λ s. s ≡ sample_of word.now) }
+    {
+        let last = word.last()?;
+        let end = word.len() - 1;
+        Some(Sample {
+            end,
+            first: word[0] % 32,
+            middle: word[end / 2] % 32,
+            last: *last % 32,
+        })
     }
-    let end = size - 1;
-    let half = end / 2;
-    Sample {
-        size,
-        first: word[0] % 32,
-        middle: word[half] % 32,
-        last: word[end] % 32,
-    }
-}
 
-// The place of the longest kept keyword: few names have its bytes. 0 where none is kept.
-fn longest(spans: &[u32; 4096], count: usize) -> usize
-    requires { count ≤ 4096 }
-    ensures { result ≤ count - 1 }
-{
-    let mut best = 0;
-    let mut size = 0;
-    let mut i = 0;
-    while i < count {
-        let n = spans[i] % 65536;
-        if size < n {
-            best = i;
-            size = n;
+    // The bytes of a name at a place agree with the sample.
+    fn agrees_at(self, name: &[u8], p: usize) -> bool
+        requires { p + self.end < length name.now }
+        ensures { result ≡ false → Agrees self name.now p → ⊥ }
+    {
+        (name[p] % 32 == self.first)
+            & (name[p + self.end / 2] % 32 == self.middle)
+            & (name[p + self.end] % 32 == self.last)
+    }
+
+    // Those at one of so many places do. The loop has no way out, so that the compiler takes the places of a block all
+    // at once.
+    fn meets(self, name: &[u8], from: usize, count: usize) -> bool
+        requires { from + count + self.end ≤ length name.now }
+        ensures { result ≡ false → NoneIn self name.now from (from + count) }
+    {
+        let mut met = false;
+        for i in from..from + count {
+            met |= self.agrees_at(name, i);
         }
-        i += 1;
+        met
     }
-    best
-}
 
-// The sample of the longest kept keyword. Where none is kept, no name matches, and any sample tells that.
-pub(crate) fn pick(text: &[u8], spans: &[u32; 4096], count: usize) -> Sample
-    requires { (count ≤ 4096) × Gathered text.now spans.now count }
-    ensures { Telling text.now result }
-{
-    let place = longest(spans, count);
-    sample_of(part_at(text, spans[place]))
-}
-
-// The bytes of a name at a place agree with a sample.
-fn agrees_at(name: &[u8], p: usize, s: Sample) -> bool
-    requires { (0 < s.size) × (p + s.size ≤ length name.now) }
-    ensures { result ≡ false → Agrees s name.now p → ⊥ }
-{
-    let size = s.size;
-    let end = size - 1;
-    let half = end / 2;
-    let behind = p + half;
-    let last = p + end;
-    (name[p] % 32 == s.first) & (name[behind] % 32 == s.middle) & (name[last] % 32 == s.last)
-}
-
-// Those at one of so many places do. The loop has no way out, so that the compiler takes the places of a block all at
-// once.
-fn meets(name: &[u8], from: usize, count: usize, s: Sample) -> bool
-    requires { (0 < s.size) × (from + count + s.size ≤ length name.now + 1) }
-    ensures { result ≡ false → NoneIn s name.now from (from + count) }
-{
-    let mut met = false;
-    let mut i = 0;
-    while i < count {
-        met = met | agrees_at(name, from + i, s);
-        i += 1;
-    }
-    met
-}
-
-// A name may have the word that the sample is of; where this is false it has not. Its places are gone through by
-// blocks, the last of which may overlap the one before.
-pub(crate) fn may_have(name: &[u8], s: Sample) -> bool
-    ensures { result ≡ false → Nowhere s name.now }
-{
-    let size = s.size;
-    if size == 0 {
-        return true;
-    }
-    if name.len() < size {
-        return false;
-    }
-    let places = name.len() - (size - 1);
-    if places < BLOCK {
-        return meets(name, 0, places, s);
-    }
-    let mut at = 0;
-    while BLOCK < places - at {
-        if meets(name, at, BLOCK, s) {
-            return true;
+    // A name may have the word that the sample is of; where this is false it has not. Its places are gone through by
+    // blocks, the last of which may overlap the one before.
+    pub(crate) fn may_be_in(self, name: &[u8]) -> bool
+        ensures { result ≡ false → Nowhere self name.now }
+    {
+        if name.len() <= self.end {
+            return false;
         }
-        at += BLOCK;
+        let places = name.len() - self.end;
+        if places < BLOCK {
+            return self.meets(name, 0, places);
+        }
+        let mut at = 0;
+        while BLOCK < places - at {
+            if self.meets(name, at, BLOCK) {
+                return true;
+            }
+            at += BLOCK;
+        }
+        self.meets(name, places - BLOCK, BLOCK)
     }
-    meets(name, places - BLOCK, BLOCK, s)
+}
+
+impl Kept<'_> {
+    // The span of the longest keyword that is kept.
+    fn longest(&self) -> Option<&Span>
+        ensures { MatchOption result (self.now.count ≡ 0) (λ s. Contains (take self.now.count self.now.spans) s.now) }
+    {
+        self.spans[..self.count]
+            .iter()
+            .max_by_key(|span| span.size)
+    }
+
+    // Its sample: few names have its bytes. None where none is kept: then no name matches.
+    pub(crate) fn sample(&self) -> Option<Sample>
+        requires { Gathered self.now.text.now self.now.spans self.now.count }
+        ensures { MatchOption result (NoneMatches self.now.text.now)
+            (λ s. (0 < self.now.count) × Telling self.now.text.now s) }
+    {
+        Sample::of(part_at(self.text, *self.longest()?))
+    }
 }

@@ -1,0 +1,12 @@
+-- The keywords before byte `at` are kept.
+use Prim.Native.Nat.{◌-◌}
+use mathlib.Core.Path.{◌≡◌}
+use lib.ListN.{length}
+use Rattle.matching.proofs.KeptLaws.{Gathering}
+use Rattle.matching.proofs.kept.Kept.of.Given as goal
+
+abbrev pub invariant-loop-cut : goal.invariant-loop-cut
+invariant-loop-cut l = (l.kept.text.now ≡ l.text) × Gathering l.text l.kept.spans l.kept.count l.at
+
+abbrev pub decreases-loop-cut : goal.decreases-loop-cut
+decreases-loop-cut l = length l.text - l.at
