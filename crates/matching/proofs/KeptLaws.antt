@@ -6,14 +6,15 @@ use mathlib.Core.Logic.{◌↔◌, ◌⊎◌, inl, inr}
 use mathlib.Core.List.{List, [], ◌∷◌, map}
 use native.Mathlib.Decide.{dec_le}
 use native.Mathlib.Omega.{arith}
-use lib.ListN.{length, get_or, set, take, drop, length-drop, length-take}
-use lib.Seq.{get_or-set_same, get_or-set_other, get_or-take, drop-drop}
+use lib.ListN.{length, get_or, set, take, drop, length-set, length-drop, length-take}
+use lib.Seq.{get_or-set_same, get_or-set_other, get_or-take, get_or-drop, get_or-append-add, drop-drop}
 use Rattle.std.proofs.Common.{Result, Ok, Err}
-use Rattle.std.proofs.lemmas.List.{get_or_default}
+use Rattle.std.proofs.lemmas.List.{get_or_default, get_or_append_left}
 use Rattle.std.proofs.lemmas.Map.Lookups.{exact_bytes}
 use Rattle.std.specs.declared.cmp.Ordering.{Ordering}
 use Rattle.std.specs.Ordering.{ordering_index}
-use Rattle.std.specs.List.{CopiedTo, SameBelow}
+use Rattle.std.specs.List.{RotatedRight}
+use borrow.Rule.Slice.PartMut.{put_mid}
 use Rattle.std.specs.List.Sorted.{IsNonDecreasingBy, IsBinarySearchResult, IsSearchInRange}
 use Rattle.laws.specs.Tests.{all}
 use Rattle.laws.proofs.Parts.{part_tail}
@@ -173,24 +174,71 @@ module _ (key new : ℕ → List ℕ) (count : ℕ) (x : List ℕ) (r : ℕ) (ri
 abbrev pub keyword : List ℕ → ℕ → ℕ → List ℕ
 keyword text start size = map lower (take size (drop start text))
 
--- a span at its place, and those behind moved on by one
-pub add-shifted : (text : List ℕ) (old mid : List Span) (count r : ℕ) (span : Span) → Rising (key_at text old) count
-    → Ranked (key_at text old) count (map lower (part_of text span)) r
-    → CopiedTo old mid r (r + 1) (count - r) → SameBelow old mid (r + 1) → r < length mid
-    → Joined (key_at text old) (key_at text (set mid r span)) count (map lower (part_of text span)) (count + 1)
-unfolding key_at
-add-shifted text old mid count r span rising ranked copied same h =
-    let within = ranked.within in
-    add-new (key_at text old) (key_at text (set mid r span)) count (map lower (part_of text span)) r rising ranked
-    (λ i g. ap (λ p. map lower (part_of text p))
-    (get_or-set_other mid r i span no_span (λ e. omega arith) ∙ same i no_span (omega arith)))
-    (ap (λ p. map lower (part_of text p)) (get_or-set_same mid r span no_span h))
-    (λ i g k.
-    let e : r + (suc i - (r + 1)) ≡ i = omega arith in
-    ap (λ p. map lower (part_of text p))
-    (get_or-set_other mid r (suc i) span no_span (λ q. omega arith)
-    ∙ copied (suc i) no_span (omega arith) (omega arith)
-    ∙ ap (λ n. get_or old n no_span) e))
+-- a span that was put behind the others, and turned to its place
+module _ (old : List Span) (count r : ℕ) (span : Span) (turned : List Span) where
+  abbrev pub mid : List Span
+  mid = set old count span
+
+  abbrev pub part : List Span
+  part = take (count + 1 - r) (drop r mid)
+
+  abbrev pub after : List Span
+  after = put_mid r (count + 1 - r) mid turned
+
+  module _ (long : count < length old) (within : r ≤ count) (size : length turned ≡ length part)
+      (turns : RotatedRight part turned (length part) 1) where
+    part-size : length part ≡ count + 1 - r
+    part-size = omega (arith, length-take (count + 1 - r) (drop r mid), length-drop r mid, length-set old count span)
+
+    front : length (take r mid) ≡ r
+    front = omega (arith, length-take r mid, length-set old count span)
+
+    in_front : (i : ℕ) → i < r → get_or after i no_span ≡ get_or old i no_span
+    in_front i h =
+        get_or_append_left (take r mid) _ no_span i (omega (arith, front))
+        ∙ get_or-take r mid i no_span h
+        ∙ get_or-set_other old count i span no_span (λ e. omega arith)
+
+    turned_at : (j : ℕ) → j < count + 1 - r → get_or after (r + j) no_span ≡ get_or turned j no_span
+    turned_at j h =
+        let e : r + j ≡ length (take r mid) + j = omega (arith, front) in
+        ap (λ n. get_or after n no_span) e
+        ∙ get_or-append-add (take r mid) _ j no_span
+        ∙ get_or_append_left turned _ no_span j (omega (arith, size, part-size))
+
+    part_at : (j : ℕ) → j < count + 1 - r → get_or part j no_span ≡ get_or mid (r + j) no_span
+    part_at j h = get_or-take (count + 1 - r) (drop r mid) j no_span h ∙ get_or-drop r mid j no_span
+
+    here : get_or after r no_span ≡ span
+    here =
+        let e : r ≡ r + 0 = omega arith in
+        let last : r + (length part - 1 + 0) ≡ count = omega (arith, part-size) in
+        ap (λ n. get_or after n no_span) e
+        ∙ turned_at 0 (omega arith)
+        ∙ turns.0 0 no_span (omega arith)
+        ∙ part_at (length part - 1 + 0) (omega (arith, part-size))
+        ∙ ap (λ n. get_or mid n no_span) last
+        ∙ get_or-set_same old count span no_span long
+
+    behind : (i : ℕ) → r ≤ i → i < count → get_or after (suc i) no_span ≡ get_or old i no_span
+    behind i h k =
+        let e : suc i ≡ r + (suc i - r) = omega arith in
+        let q : r + (suc i - r - 1) ≡ i = omega arith in
+        ap (λ n. get_or after n no_span) e
+        ∙ turned_at (suc i - r) (omega arith)
+        ∙ turns.1 (suc i - r) no_span (omega arith) (omega (arith, part-size))
+        ∙ part_at (suc i - r - 1) (omega arith)
+        ∙ ap (λ n. get_or mid n no_span) q
+        ∙ get_or-set_other old count i span no_span (λ z. omega arith)
+
+    pub turned-joined : (text : List ℕ) → Rising (key_at text old) count
+        → Ranked (key_at text old) count (map lower (part_of text span)) r
+        → Joined (key_at text old) (key_at text after) count (map lower (part_of text span)) (count + 1)
+    unfolding key_at
+    turned-joined text rising ranked =
+        let word = λ (p : Span). map lower (part_of text p) in
+        add-new (key_at text old) (key_at text after) count (word span) r rising ranked
+        (λ i h. ap word (in_front i h)) (ap word here) (λ i h k. ap word (behind i h k))
 
 -- ---- all keywords of a text
 

@@ -117,11 +117,10 @@ pub all_marks : (r : Bool) (marks : List Bool) (count : ℕ) → count ≤ lengt
     → MatchBool r (AllWithin (λ m. m ≡ true) (take count marks) 0 (length (take count marks)))
     ((k : ℕ) × (k < length (take count marks)) × HoldsAt (λ m. m ≡ false) (take count marks) k)
     → (r ≡ true) ↔ ((i : ℕ) → i < count → get_or marks i false ≡ true)
-all_marks true marks count long h =
-    (
-      λ e i g. sym (get_or-take count marks i false g) ∙ h i false (omega arith) (omega (arith, length-take count marks)),
-      λ f. refl,
-    )
+all_marks true marks count long h = (
+  λ e i g. sym (get_or-take count marks i false g) ∙ h i false (omega arith) (omega (arith, length-take count marks)),
+  λ f. refl,
+)
 all_marks false marks count long h =
     let inside : h.0 < count = omega (arith, length-take count marks, h.1) in
     let off = sym (get_or-take count marks h.0 false inside) ∙ h.2 false in

@@ -113,14 +113,13 @@ module _ (text : List ℕ) (spans : List Span) (count : ℕ) (g : Gathered text 
         let size = length-map (part_of text span) lower in
         let z = ap length e in
         absurd (omega (arith, st.some)))
-    kept-tells (Some s) e =
-        (
-          omega arith,
-          λ name none.
-              refuted (matches text name) (λ t.
-              let st = stands name t in
-              rw e at none st.at (stands-agrees (part_of text span) name st)),
-        )
+    kept-tells (Some s) e = (
+      omega arith,
+      λ name none.
+          refuted (matches text name) (λ t.
+          let st = stands name t in
+          rw e at none st.at (stands-agrees (part_of text span) name st)),
+    )
 
   pub sampled : (span : Span) → count ≤ length spans → Contains (take count spans) span → (word : List ℕ)
       → word ≡ part_of text span → (o : Option Sample) → MatchOption o (word ≡ []) (λ s. s ≡ sample_of word)
@@ -128,6 +127,6 @@ module _ (text : List ℕ) (spans : List Span) (count : ℕ) (g : Gathered text 
   sampled span long k word e o h =
       let inside : k.0 < count = omega (arith, k.1, length-take count spans) in
       kept-tells span k.0 inside (
-        get_or_default spans k.0 no_span span (omega arith)
-        ∙ sym (get_or-take count spans k.0 span inside)
-        ∙ k.2) o (rw e at h)
+      get_or_default spans k.0 no_span span (omega arith)
+      ∙ sym (get_or-take count spans k.0 span inside)
+      ∙ k.2) o (rw e at h)

@@ -55,11 +55,12 @@ impl<'a> Kept<'a> {
     {
         let end = start + size;
         if let Err(place) = self.find(&self.text[start..end]) {
-            self.spans.copy_within(place..self.count, place + 1);
-            self.spans[place] = Span {
+            let count = self.count;
+            self.spans[count] = Span {
                 start: start as u16,
                 size: size as u16,
             };
+            self.spans[place..=count].rotate_right(1);
             self.count += 1;
         }
     }

@@ -69,6 +69,7 @@ impl Sample {
         if places < BLOCK {
             return self.meets(name, 0, places);
         }
+        // `step_by` with `any` takes 1.3 times as long here, `windows` with `any` 7 times.
         let mut at = 0;
         while BLOCK < places - at {
             if self.meets(name, at, BLOCK) {
@@ -85,9 +86,7 @@ impl Kept<'_> {
     fn longest(&self) -> Option<&Span>
         ensures { MatchOption result (self.now.count ≡ 0) (λ s. Contains (take self.now.count self.now.spans) s.now) }
     {
-        self.spans[..self.count]
-            .iter()
-            .max_by_key(|span| span.size)
+        self.spans[..self.count].iter().max_by_key(|span| span.size)
     }
 
     // Its sample: few names have its bytes. None where none is kept: then no name matches.

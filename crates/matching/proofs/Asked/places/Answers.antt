@@ -12,8 +12,7 @@ pub loop-i-preserved : goal.loop-i-preserved
 loop-i-preserved c =
     let text = c.args.self.kept.now.text.now in
     let area = c.args.area.now in
-    let name = c.name_of.ensures ∙ ap (name_of area) c.span_at.ensures in
-    (
+    let name = c.name_of.ensures ∙ ap (name_of area) c.span_at.ensures in (
       c.is_met_by.array_long,
       fill_more text area c.loop-i.found c.loop-i.i c.loop-i.invariant.1 c.args.self.kept.now.short
           (omega (arith, c.min-listed.ensures)) (omega (arith, c.min-listed.ensures, c.count_in.ensures))

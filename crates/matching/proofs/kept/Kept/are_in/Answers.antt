@@ -13,8 +13,7 @@ returns c =
     (YieldsList-from_slice (take s.count marks) c.iter.ensures.rest)
     (λ x q k. search rules) (λ x q k. search rules) in
     let long : length (take s.count c.args.marks.now) ≡ s.count =
-    omega (arith, c.told-marks, s.few, s.short, length-take s.count c.args.marks.now) in
-    (
+    omega (arith, c.told-marks, s.few, s.short, length-take s.count c.args.marks.now) in (
       match_told s.text.now s.spans s.count c.requires.gathered c.args.name.now c.requires.some _ marks
           (λ i h. cleared (length (take s.count c.args.marks.now)) _ _ (c.fill.ensures.after (λ y e. e)) i (omega arith))
           c.mark.ensures c.all.result
