@@ -1,2 +1,3 @@
--- The numbers of the refusals tell them apart.
+-- The numbers of the refusals tell them apart, and none of them is 0.
 pub mod Apart
+pub mod NotZero

@@ -45,9 +45,8 @@ fn refused(answer: u8) -> HitsWritten
 fn refusal(limit: u8, query: &[u8], names: &[u8], sizes: usize, out: usize) -> u8
     ensures { result ≡ first_of (early_rules limit query.now names.now sizes out) }
 {
-    let list = list_answer(names);
-    if list != 0 {
-        return list;
+    if let Err(refusal) = list_answer(names) {
+        return u8::from(refusal);
     }
     if sizes < count_in(names) as usize {
         return 2;

@@ -322,7 +322,7 @@ pub fn lunozhar_table_for_lent<'a>(
     let at = lines.at;
     let s = survey_ring(lo, hi, asker, hits, count, next, at, ONES, ONES);
     let order = in_order(s.order, room, at);
-    make_table(order, room, at, line, names, size, out, route)
+    Made::from(make_table(order, room, at, line, names, size, out, route))
 }
 
 // Whether a station is in order.

@@ -1,7 +1,10 @@
 -- The calls on an area of names (RULES 22.5 to 22.9): their refusals in order, what a find tells, and what an add and a
 -- remove leave.
 use Rattle.std.specs.Prelude.{ℕ, suc, ◌+◌, ◌-◌, ◌≡◌, Bool, true, cond, not, ◌||◌, List, [], ◌∷◌, ◌++◌, eqb, leb, ltb, length, take, drop}
+use Rattle.std.specs.Prelude.{Result, Ok, Err}
 use Rattle.laws.specs.Tests.{first_of, any}
+use Rattle.answer.specs.declared.Refusal.{Refusal}
+use Rattle.answer.specs.Numbers.{number_of}
 use Rattle.namearea.specs.declared.Found.{Found}
 use Rattle.namearea.specs.Area.{most_names, text_from, names_in, total}
 use Rattle.namearea.specs.Good.{good_name, same_text, good_list}
@@ -36,6 +39,11 @@ finding a x =
       answer = find_answer a x;
       place = cond (eqb (find_answer a x) 0) (place_among x (names_in a)) 0;
     }
+
+-- what the outcome of a find comes to: a place, or a refusal
+abbrev pub found_of : Result ℕ Refusal → Found
+found_of (Ok place) = record { answer = 0; place = place }
+found_of (Err refusal) = record { answer = number_of refusal; place = 0 }
 
 -- one more name finds no place: there are 512, or with it they have more bytes together than there is room for text,
 -- wherever they lie

@@ -6,7 +6,9 @@ ghost use Rattle.std.specs.Prelude.{◌≡◌, not, ◌*◌, eqb, drop};
 ghost use Rattle.laws.specs.Tests.{any};
 ghost use Rattle.namearea.specs.Area.{count_in, span_in, span_at, pair_in, spans_of, end_of, name_of};
 ghost use Rattle.namearea.specs.Good.{good_name, listable, rising_from};
+ghost use Rattle.namearea.specs.Calls.{found_of};
 
+use answer::Refusal;
 use ascii::{after, front};
 use wire::little4;
 
@@ -32,6 +34,20 @@ pub struct Span {
 pub struct Found {
     pub answer: u8,
     pub place: usize,
+}
+
+impl From<Result<usize, Refusal>> for Found {
+    ghost from_gives = { λ outcome found. found ≡ found_of outcome };
+
+    fn from(outcome: Result<usize, Refusal>) -> Found {
+        match outcome {
+            Ok(place) => Found { answer: 0, place },
+            Err(refusal) => Found {
+                answer: u8::from(refusal),
+                place: 0,
+            },
+        }
+    }
 }
 
 // How many names are listed.

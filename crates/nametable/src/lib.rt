@@ -2,9 +2,11 @@
 #![tactic(auto)]
 
 ghost use Rattle.std.specs.Prelude.{◌≡◌, length, set, replicate};
+ghost use Rattle.answer.specs.Numbers.{answer_of};
 ghost use Rattle.namearea.specs.Area.{names_of};
 ghost use Rattle.nametable.specs.Table.{places_of, own_places, with_ones, table_answer, table_out};
 
+use answer::Refusal;
 use keywords::cut::first_keyword;
 use keywords::hash::{hash, scaled_place};
 use namearea::{count_in, name_of, span_at};
@@ -72,24 +74,18 @@ fn make(area: &[u8], count: usize, size: u32, infinity: u8, entries: &mut [u8])
 }
 
 // The table of an area's names, at the front of the output.
-pub fn own_table(area: &[u8], size: u32, infinity: u8, out: &mut [u8]) -> u8
-    ensures answer { result ≡ table_answer area.now size infinity (length out.old) }
+pub fn own_table(area: &[u8], size: u32, infinity: u8, out: &mut [u8]) -> Result<(), Refusal>
+    ensures answer { answer_of result ≡ table_answer area.now size infinity (length out.old) }
     ensures bytes { out.new ≡ table_out area.now size infinity out.old }
 {
-    let answer = list_answer(area);
-    if answer != 0 {
-        return answer;
-    }
-    if !good_length(size) {
-        return 14;
-    }
-    if !good_infinity(infinity) {
-        return 14;
+    list_answer(area)?;
+    if !good_length(size) || !good_infinity(infinity) {
+        return Err(Refusal::BadUpdate);
     }
     let n = size as usize;
     if out.len() < n {
-        return 2;
+        return Err(Refusal::BadArea);
     }
     make(area, count_in(area) as usize, size, infinity, &mut out[..n]);
-    0
+    Ok(())
 }

@@ -1,8 +1,10 @@
 -- The call that makes the table to send the neighbour of a line (RULES 23): what it answers, and what it leaves of the
 -- output. State, names and route area are only read.
-use Rattle.std.specs.Prelude.{ℕ, Bool, cond, not, ◌&&◌, List, [], ◌∷◌, ◌++◌, eqb, ltb, length}
+use Rattle.std.specs.Prelude.{ℕ, Bool, cond, not, ◌&&◌, List, [], ◌∷◌, ◌++◌, eqb, ltb, length, Result, Ok, Err}
 use Rattle.laws.specs.Tests.{first_of}
 use Rattle.laws.specs.Parts.{over}
+use Rattle.answer.specs.declared.Refusal.{Refusal}
+use Rattle.answer.specs.Numbers.{number_of}
 use Rattle.tables.specs.Tables.{Held, settled, good_length}
 use Rattle.namearea.specs.Area.{names_in}
 use Rattle.namearea.specs.Calls.{list_rules}
@@ -46,6 +48,11 @@ make_answer order room lines l names n out route =
 -- what the caller is told: the answer, and the Infinity to write the table with, 0 where it is refused
 abbrev pub told_by : ℕ → ℕ → Made
 told_by answer infinity = record { answer = answer; infinity = cond (eqb answer 0) infinity 0 }
+
+-- the same of an outcome: the Infinity, or why there is no table
+abbrev pub made_of : Result ℕ Refusal → Made
+made_of (Ok infinity) = record { answer = 0; infinity = infinity }
+made_of (Err refusal) = record { answer = number_of refusal; infinity = 0 }
 
 unfoldable pub making : ℕ → Bool → ℕ → List Line → ℕ → List ℕ → ℕ → ℕ → ℕ → Made
 making limit order room lines l names n out route =

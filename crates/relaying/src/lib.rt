@@ -4,14 +4,16 @@
 
 ghost use Rattle.std.specs.Prelude.{◌≡◌, not, ◌&&◌, [], ◌∷◌, eqb, length, get_or};
 ghost use Rattle.laws.specs.Tests.{first_of};
+ghost use Rattle.answer.specs.Numbers.{answer_of};
 ghost use Rattle.tables.specs.Tables.{no_table, settled};
 ghost use Rattle.namearea.specs.Area.{names_in};
 ghost use Rattle.nametable.specs.Table.{own_places, with_ones};
 ghost use Rattle.tablemerging.specs.Merging.{relayed_entries};
 ghost use Rattle.protocol.specs.Lines.{is_other, line_in, each_line};
 ghost use Rattle.protocol.specs.Queries.{usual_limit};
-ghost use Rattle.relaying.specs.Calls.{station_rules, other_tables, make_answer, making, making_out};
+ghost use Rattle.relaying.specs.Calls.{station_rules, other_tables, make_answer, made_of, making, making_out};
 
+use answer::Refusal;
 use namearea::count_in;
 use names::search::list_answer;
 use nametable::mark_names;
@@ -29,6 +31,23 @@ use tables::{SETTLED, Table};
 pub struct Made {
     pub answer: u8,
     pub infinity: u8,
+}
+
+impl From<Result<u8, Refusal>> for Made {
+    ghost from_gives = { λ outcome made. made ≡ made_of outcome };
+
+    fn from(outcome: Result<u8, Refusal>) -> Made {
+        match outcome {
+            Ok(infinity) => Made {
+                answer: 0,
+                infinity,
+            },
+            Err(refusal) => Made {
+                answer: u8::from(refusal),
+                infinity: 0,
+            },
+        }
+    }
 }
 
 // Line k, with this table, is another than `line`, and the table is settled.
@@ -82,27 +101,26 @@ fn make(
     mark_names(names, count_in(names) as usize, size, entries);
 }
 
-// The number of the first that holds: state, route area, line.
-fn station_number(order: bool, unfit: bool, closed: bool) -> u8
-    ensures { result ≡ first_of ((not order, 1) ∷ (unfit, 2) ∷ (closed, 3) ∷ []) }
+// The refusals by state, route area and line, given the route area's length and whether the line is open.
+fn station_answer(
+    order: bool,
+    room: usize,
+    route: usize,
+    line: u32,
+    live: bool,
+) -> Result<(), Refusal>
+    ensures { answer_of result ≡ first_of (station_rules order room route line live) }
 {
     if !order {
-        return 1;
+        return Err(Refusal::NotInOrder);
     }
-    if unfit {
-        return 2;
+    if other_room(room, route) {
+        return Err(Refusal::BadArea);
     }
-    if closed {
-        return 3;
+    if line >= LINES || !live {
+        return Err(Refusal::BadLine);
     }
-    0
-}
-
-// 1, 2 and 3, given the route area's length and whether the line is open.
-fn station_answer(order: bool, room: usize, route: usize, line: u32, live: bool) -> u8
-    ensures { result ≡ first_of (station_rules order room route line live) }
-{
-    station_number(order, other_room(room, route), !(line < LINES) | !live)
+    Ok(())
 }
 
 // Whether a line is open; one over 7 is not.
@@ -126,27 +144,21 @@ fn refusal(
     size: u32,
     out: usize,
     route: usize,
-) -> u8
-    ensures { result ≡ make_answer order room lines line names.now size out route }
+) -> Result<(), Refusal>
+    ensures { answer_of result ≡ make_answer order room lines line names.now size out route }
 {
-    let early = station_answer(order, room, route, line, is_open(lines, line));
-    if early != 0 {
-        return early;
-    }
-    let list = list_answer(names);
-    if list != 0 {
-        return list;
-    }
+    station_answer(order, room, route, line, is_open(lines, line))?;
+    list_answer(names)?;
     if !good_length(size) {
-        return 14;
+        return Err(Refusal::BadUpdate);
     }
     if out < size as usize {
-        return 2;
+        return Err(Refusal::BadArea);
     }
-    0
+    Ok(())
 }
 
-// The table to send by a line, at the front of the output.
+// The table to send by a line, at the front of the output, and the Infinity to write it with.
 pub fn make_table(
     order: bool,
     room: usize,
@@ -156,14 +168,14 @@ pub fn make_table(
     size: u32,
     out: &mut [u8],
     route: &[u8],
-) -> Made
-    ensures told { result ≡ making usual_limit order room lines line names.now size
+) -> Result<u8, Refusal>
+    ensures told { made_of result ≡ making usual_limit order room lines line names.now size
         (length out.old) (length route.now) }
     ensures bytes { out.new
         ≡ making_out usual_limit order room lines line names.now size
         out.old route.now }
 {
-    let answer = refusal(
+    refusal(
         order,
         room,
         lines,
@@ -172,13 +184,7 @@ pub fn make_table(
         size,
         out.len(),
         route.len(),
-    );
-    if answer != 0 {
-        return Made {
-            answer,
-            infinity: 0,
-        };
-    }
+    )?;
     let infinity = LIMIT + 1;
     let n = size as usize;
     make(
@@ -191,8 +197,5 @@ pub fn make_table(
         route,
         &mut out[..n],
     );
-    Made {
-        answer: 0,
-        infinity,
-    }
+    Ok(infinity)
 }

@@ -3,7 +3,8 @@
 ghost use Rattle.std.specs.Prelude.{◌≤◌};
 
 use crate::print;
-use namearea::{count_in, name_of, span_at};
+use answer::answer;
+use namearea::{Found, count_in, name_of, span_at};
 use rows::words;
 use std::io;
 
@@ -67,9 +68,9 @@ fn by_hand(kind: usize, area: &mut [u8], row: &[u8], k: usize) {
 
 fn change(kind: usize, area: &mut [u8], name: &[u8]) -> u8 {
     if kind == 0 {
-        return namelist::changes::add(area, name);
+        return answer(namelist::changes::add(area, name));
     }
-    namelist::changes::remove(area, name)
+    answer(namelist::changes::remove(area, name))
 }
 
 // `add NAME` or `remove NAME`: the answer, with `=` behind it where every byte of the area is as before.
@@ -86,7 +87,7 @@ fn changed(rt: &impl Print, kind: usize, area: &mut [u8], name: &[u8]) -> io::Re
 
 // `find NAME`: the answer and the place.
 fn found(rt: &impl Print, area: &[u8], name: &[u8]) -> io::Result<()> {
-    let f = names::search::find(area, name);
+    let f = Found::from(names::search::find(area, name));
     let answer = f.answer;
     let place = f.place;
     print!(rt; " {answer}@{place}")
@@ -125,7 +126,7 @@ pub(crate) fn runs(rt: &impl Print, bytes: &[u8]) -> io::Result<()> {
 fn table(rt: &impl Print, area: &[u8], row: &[u8], k: usize, out: &mut [u8]) -> io::Result<()> {
     let size = rows::number(row, k, 1);
     let infinity = rows::byte(row, k, 2);
-    let answer = nametable::own_table(area, size, infinity, &mut *out);
+    let answer = answer(nametable::own_table(area, size, infinity, &mut *out));
     print!(rt; " {answer}:")?;
     runs(rt, out)
 }
@@ -190,7 +191,7 @@ fn list(rt: &impl Print, area: &[u8], count: usize) -> io::Result<()> {
 
 // What every call on the area answers first, and the names where that is 0.
 fn listed(rt: &impl Print, area: &[u8]) -> io::Result<()> {
-    let answer = names::search::list_answer(area);
+    let answer = answer(names::search::list_answer(area));
     print::number(rt, u64::from(answer))?;
     if answer == 0 {
         list(rt, area, count_in(area) as usize)

@@ -11,7 +11,7 @@ pub returns : goal.returns
 returns c =
     let a = c.args in
     let order = c.in_order-order.ensures ∙ surveyed_order _ _ _ c.survey_ring-s.ensures.order in record {
-      told = c.make_table.ensures.told
+      told = c.from.ensures ∙ c.make_table.ensures.told
           ∙ ap (λ (b : Bool). making usual_limit b a.room a.lines.at a.line a.names.now a.size
           (length a.out.now) (length a.route.now))
           order;
