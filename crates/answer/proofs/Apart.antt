@@ -44,3 +44,27 @@ is_named AnsweredEnough = refl
 
 pub tells_apart : TellsApart
 tells_apart a b same = sym (is_named a) ∙ (ap named same ∙ is_named b)
+
+-- no refusal has the number 0
+pub never_zero : (r : Refusal) → number_of r ≡ 0 → ⊥
+never_zero NotInOrder e = cc
+never_zero BadArea e = cc
+never_zero BadLine e = cc
+never_zero NotWhole e = cc
+never_zero TooLong e = cc
+never_zero BadPayload e = cc
+never_zero UnknownType e = cc
+never_zero BadTtlOrHops e = cc
+never_zero Repeated e = cc
+never_zero NotFound e = cc
+never_zero AskerClosed e = cc
+never_zero HopsFull e = cc
+never_zero PingTooSoon e = cc
+never_zero BadUpdate e = cc
+never_zero OutOfTurn e = cc
+never_zero EntryOutOfRange e = cc
+never_zero BadHandshake e = cc
+never_zero NoGroupEnd e = cc
+never_zero Shut e = cc
+never_zero ListFull e = cc
+never_zero AnsweredEnough e = cc

@@ -10,7 +10,7 @@ ghost use Rattle.forwarding.specs.Passing.{held_of, left_by};
 use keywords::cut::first_keyword;
 use keywords::hash::hash;
 use protocol::lines::is_other;
-use tablereader::admission::stops;
+use tablereader::held::Held;
 use tables::Table;
 
 // Whether a message goes to any line.
@@ -37,10 +37,7 @@ fn smaller(a: usize, b: usize) -> usize
 fn is_left(flag: bool, table: Table, part: &[u8], ttl: u8, hash: u32) -> bool
     ensures { result ≡ (flag && not (stops (held_in table part.now) ttl hash)) }
 {
-    if !flag {
-        return false;
-    }
-    !stops(table, part, ttl, hash)
+    flag && !Held { table, part }.stops(ttl, hash)
 }
 
 // The lines that one more keyword leaves. The parts of the area stand one after another; the last may be short or

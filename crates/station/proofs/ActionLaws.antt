@@ -19,7 +19,7 @@ use Rattle.laws.proofs.Writing.{lent-part}
 use Rattle.wire.specs.declared.Header.{Header}
 use Rattle.wire.specs.Header.{header_in, kind_of, ttl_of, hops_of, size_of, payload_of, hit_type, query_type}
 use Rattle.wire.proofs.HeaderLaws.{payload-part}
-use Rattle.tables.specs.declared.Updated.{Updated}
+use Rattle.tables.specs.Updates.{Updated}
 use Rattle.tables.specs.Tables.{Held, held_in}
 use Rattle.tables.specs.Updates.{update_answer, updated, answered, part_with}
 use Rattle.protocol.specs.declared.Line.{Line}

@@ -4,6 +4,7 @@ ghost use Rattle.protocol.specs.Calls.{update_step};
 ghost use Rattle.station.specs.Actions.{Arrived, action_of};
 
 use crate::actions::{Action, quietly};
+use answer::answer;
 use protocol::Line;
 use wire::{HEADER_SIZE, Header};
 
@@ -23,16 +24,13 @@ pub(crate) fn update_step(
     let start = j * room;
     let end = start + room;
     let n = HEADER_SIZE + h.size as usize;
-    let table = x.table;
-    let u = tablereader::updates::update(
-        table,
+    let mut y = x;
+    let outcome = tablereader::updates::update(
+        &mut y.table,
         h.ttl,
         h.hops,
         &m[HEADER_SIZE..n],
         &mut route[start..end],
     );
-    let mut y = x;
-    let t = u.table;
-    y.table = t;
-    quietly(u.answer, y)
+    quietly(answer(outcome), y)
 }

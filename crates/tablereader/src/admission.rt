@@ -4,34 +4,31 @@ ghost use Rattle.keywords.specs.Hash.{scaled};
 ghost use Rattle.tables.specs.Tables.{held_in};
 ghost use Rattle.tables.specs.Admission.{stops};
 
-use crate::fields::entry_count;
+use crate::held::Held;
 use keywords::hash::scaled_place;
-use tables::{SETTLED, Table};
+use tables::SETTLED;
 
-// The entry of a keyword with this hash, and 0 where the part has none.
-fn entry_at(length: u32, part: &[u8], hash: u32) -> u8
-    ensures { result ≡ get_or (take length part.now) (scaled length hash) 0 }
-{
-    let place = scaled_place(hash, length) as usize;
-    let end = entry_count(length, part.len());
-    if place < end {
-        return part[place];
+impl<'a> Held<'a> {
+    // The entry of a keyword with this hash, and 0 where the part has none.
+    fn entry_at(self, hash: u32) -> u8
+        ensures { result ≡ get_or (take self.entry.table.length self.entry.part.now)
+            (scaled self.entry.table.length hash)
+            0 }
+    {
+        let place = scaled_place(hash, self.table.length) as usize;
+        self.entries().get(place).copied().unwrap_or(0)
     }
-    0
-}
 
-// Whether the table stops each query, to be sent with this TTL, that has a keyword with this hash. A table that is not
-// settled stops none, and its entry is not read; a settled one does if the entry is Infinity, which means none, or
-// exceeds the TTL.
-pub fn stops(table: Table, part: &[u8], ttl: u8, hash: u32) -> bool
-    ensures { result ≡ stops (held_in table part.now) ttl hash }
-{
-    if table.mark != SETTLED {
-        return false;
+    // Whether the table stops each query, to be sent with this TTL, that has a keyword with this hash. A table that is
+    // not settled stops none, and its entry is not read; a settled one does if the entry is Infinity, which means none,
+    // or exceeds the TTL.
+    pub fn stops(self, ttl: u8, hash: u32) -> bool
+        ensures { result ≡ stops (held_in self.entry.table self.entry.part.now) ttl hash }
+    {
+        if self.table.mark != SETTLED {
+            return false;
+        }
+        let entry = self.entry_at(hash);
+        entry == self.table.infinity || ttl < entry
     }
-    let entry = entry_at(table.length, part, hash);
-    if entry == table.infinity {
-        return true;
-    }
-    ttl < entry
 }

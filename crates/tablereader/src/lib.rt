@@ -6,7 +6,9 @@
 pub mod admission;
 pub mod bounds;
 mod fields;
+pub mod held;
 mod numbers;
 pub mod order;
+mod patch;
 mod turns;
 pub mod updates;

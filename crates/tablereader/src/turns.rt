@@ -1,61 +1,68 @@
 // A PATCH against a table: whether it is in turn, whether its numbers lead outside 1..Infinity, and where it moves the
 // run.
-ghost use Rattle.std.specs.Prelude.{◌≡◌, true, false, ◌+◌, ◌≤◌, ◌<◌, ◌^◌, length};
+ghost use Rattle.std.specs.Prelude.{◌≡◌, true, ◌+◌, ◌<◌, ◌^◌, length, IfOk};
+ghost use Rattle.answer.specs.Numbers.{answer_of};
 ghost use Rattle.tables.specs.Tables.{held_in, at_rest};
-ghost use Rattle.tables.specs.Updates.{numbers_in, good_patch, in_turn, in_range, patch_answer, moved_on};
+ghost use Rattle.tables.specs.Patch.{numbers};
+ghost use Rattle.tables.specs.Updates.{in_turn, in_range, patch_answer, moved_on};
+ghost use Rattle.tablereader.specs.Payloads.{payload_of};
 
-use crate::fields::{ends_right, entry_count, good_patch, same_run, takes_patch};
+use crate::fields::{ends_right, same_run, takes_patch};
+use crate::held::Held;
 use crate::numbers::{all_fit, number_count};
+use crate::patch::Patch;
+use answer::Refusal;
 use tables::{RUNNING, SETTLED, Table};
 
-// The PATCH is the one that the table awaits, and its data ends where it may.
-fn in_turn(table: Table, payload: &[u8], part: &[u8]) -> bool
-    requires { 5 ≤ length payload.now }
-    ensures { result ≡ in_turn (held_in table part.now) payload.now }
-{
-    let place = payload[1];
-    let size = payload[2];
-    let bits = payload[4];
-    if !takes_patch(table.mark) {
-        return false;
+impl<'a> Held<'a> {
+    // The PATCH is the one that the table awaits, and its data ends where it may.
+    fn in_turn(self, patch: Patch<'_>) -> bool
+        ensures { result ≡ in_turn (held_in self.entry.table self.entry.part.now) (payload_of patch.entry) }
+    {
+        let table = self.table;
+        let n = number_count(patch.bits, patch.bytes.len());
+        let end = self.entries().len();
+        takes_patch(table.mark)
+            && patch.place == table.nextplace
+            && same_run(
+                table.mark,
+                patch.size,
+                table.runsize,
+                patch.bits,
+                table.runbits,
+            )
+            && ends_right(table.nextentry as usize, n, end, patch.place == patch.size)
     }
-    if place != table.nextplace {
-        return false;
-    }
-    if !same_run(table.mark, size, table.runsize, bits, table.runbits) {
-        return false;
-    }
-    let n = number_count(bits, payload.len() - 5);
-    let end = entry_count(table.length, part.len());
-    ends_right(table.nextentry as usize, n, end, place == size)
-}
 
-// Every entry that the data covers stays in 1..Infinity.
-fn in_range(table: Table, payload: &[u8], part: &[u8]) -> bool
-    requires payload_value { good_patch payload.now ≡ true }
-    requires payload_value_2 { in_turn (held_in table part.now) payload.now ≡ true }
-    ensures { result ≡ in_range (held_in table part.now) payload.now }
-{
-    let bits = payload[4];
-    let at = table.nextentry as usize;
-    let end = entry_count(table.length, part.len());
-    all_fit(&payload[5..], &part[at..end], bits, table.infinity)
-}
+    // Every entry that the data covers stays in 1..Infinity.
+    fn in_range(self, patch: Patch<'_>) -> bool
+        requires { in_turn (held_in self.table self.part.now) (payload_of patch) ≡ true }
+        ensures { result ≡ in_range (held_in self.entry.table self.entry.part.now) (payload_of patch.entry) }
+    {
+        let at = self.table.nextentry as usize;
+        all_fit(
+            patch.bytes,
+            &self.entries()[at..],
+            patch.bits,
+            self.table.infinity,
+        )
+    }
 
-// What a PATCH is answered: 14, then 15, then 16, then 0.
-pub(crate) fn patch_answer(table: Table, payload: &[u8], part: &[u8]) -> u8
-    ensures { result ≡ patch_answer (held_in table part.now) payload.now }
-{
-    if !good_patch(payload) {
-        return 14;
+    // The PATCH, where it may be added: a field out of its range, then a PATCH out of turn, then an entry out of range
+    // refuses it.
+    pub(crate) fn takes<'p>(self, payload: &'p [u8]) -> Result<Patch<'p>, Refusal>
+        ensures answer { answer_of result ≡ patch_answer (held_in self.entry.table self.entry.part.now) payload.now }
+        ensures fields { IfOk result (λ q. payload_of q ≡ payload.now) }
+    {
+        let patch = Patch::read(payload)?;
+        if !self.in_turn(patch) {
+            return Err(Refusal::OutOfTurn);
+        }
+        if !self.in_range(patch) {
+            return Err(Refusal::EntryOutOfRange);
+        }
+        Ok(patch)
     }
-    if !in_turn(table, payload, part) {
-        return 15;
-    }
-    if !in_range(table, payload, part) {
-        return 16;
-    }
-    0
 }
 
 // A table between runs: place 1 and the first entry are next.
@@ -74,25 +81,19 @@ pub(crate) fn at_rest(mark: u8, length: u32, infinity: u8) -> Table
 }
 
 // The table once the PATCH is added: inside its run, or settled by the run's last message.
-pub(crate) fn moved_on(table: Table, payload: &[u8]) -> Table
-    requires payload_value { good_patch payload.now ≡ true }
-    requires payload_bound { table.nextentry + length (numbers_in payload.now) < 2 ^ 32 }
-    ensures { result ≡ moved_on table payload.now }
+pub(crate) fn moved_on(table: Table, patch: Patch<'_>) -> Table
+    requires { table.nextentry + length (numbers patch.bits patch.bytes.now) < 2 ^ 32 }
+    ensures { result ≡ moved_on table (payload_of patch.entry) }
 {
-    let place = payload[1];
-    let size = payload[2];
-    if place == size {
+    if patch.place == patch.size {
         return at_rest(SETTLED, table.length, table.infinity);
     }
-    let bits = payload[4];
-    let n = number_count(bits, payload.len() - 5) as u32;
     Table {
         mark: RUNNING,
-        length: table.length,
-        infinity: table.infinity,
-        nextplace: place + 1,
-        runsize: size,
-        runbits: bits,
-        nextentry: table.nextentry + n,
+        nextplace: patch.place + 1,
+        runsize: patch.size,
+        runbits: patch.bits,
+        nextentry: table.nextentry + number_count(patch.bits, patch.bytes.len()) as u32,
+        ..table
     }
 }

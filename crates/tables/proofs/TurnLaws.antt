@@ -41,51 +41,26 @@ pub turn-within : (t : Table) (p part : List ℕ) → in_turn (held_in t part) p
 unfolding in_turn
 turn-within t p part h = leb-true _ _ (every_true (turn_tests (held_in t part) p) h).1.1.1.0
 
--- what a PATCH has that is as it must be and in turn
-pub record Awaited (t : Table) (p part : List ℕ) : Type 0 where
-  pub fields : PatchFields p
-  pub within : t.nextentry + length (numbers_in p) ≤ length (take t.length part)
-  pub end : length (take t.length part) ≡ min t.length (length part)
-
-pub awaited : (t : Table) (p part : List ℕ) → good_patch p ≡ true → in_turn (held_in t part) p ≡ true → Awaited t p part
-awaited t p part g u =
-    record { fields = patch-fields p g; within = turn-within t p part u; end = length-take t.length part }
-
--- how many numbers a PATCH brings
-pub count_in : (p : List ℕ) → length (numbers_in p) ≡ number_count (bits_in p) (length p - 5)
-count_in p = numbers-length (bits_in p) (drop 5 p) ∙ ap (number_count (bits_in p)) (length-drop 5 p)
-
 -- the last test, after the others held
 pub turn_last : (t : Table) (p part : List ℕ) (r : Bool) (n end : ℕ)
     → ready t.mark ≡ true
     → place_in p ≡ t.nextplace
     → (not (eqb t.mark running) || (eqb (size_in p) t.runsize && eqb (bits_in p) t.runbits)) ≡ true
-    → n ≡ number_count (bits_in p) (length p - 5)
-    → end ≡ min t.length (length part)
+    → n ≡ length (numbers_in p)
+    → end ≡ length (take t.length part)
     → r ≡ (leb (t.nextentry + n) end && (not (is_last p) || eqb (t.nextentry + n) end))
     → r ≡ in_turn (held_in t part) p
 unfolding in_turn
 turn_last t p part r n end a b c d e f =
-    let n' : n ≡ length (numbers_in p) = d ∙ sym (count_in p) in
-    let e' : end ≡ length (take t.length part) = e ∙ sym (length-take t.length part) in
-    rw (a, eq-eqb _ _ b, c, and-true) (rw (n', e') at f)
+    rw (a, eq-eqb _ _ b, c, and-true) (rw (d, e) at f)
 
--- the payload's data and the entries from the next one on, as the code lends them
-module _ (t : Table) (p part : List ℕ) (end : ℕ) (e : end ≡ min t.length (length part)) where
+-- the entries from the next one on, as the code lends them
+module _ (t : Table) (p part : List ℕ) (end : ℕ) (e : end ≡ length (take t.length part)) where
   pub lent-entries : take (end - t.nextentry) (drop t.nextentry part) ≡ drop t.nextentry (take t.length part)
   lent-entries =
-      ap (λ k. take (k - t.nextentry) (drop t.nextentry part)) (e ∙ sym (length-take t.length part))
-      ∙ rest-front part t.nextentry t.length
+      ap (λ k. take (k - t.nextentry) (drop t.nextentry part)) e ∙ rest-front part t.nextentry t.length
 
-  pub lent-range : all_fit (bits_in p) t.infinity (numbers (bits_in p) (take (length p - 5) (drop 5 p)))
-      (take (end - t.nextentry) (drop t.nextentry part))
+  pub lent-range : all_fit (bits_in p) t.infinity (numbers_in p) (take (end - t.nextentry) (drop t.nextentry part))
       ≡ in_range (held_in t part) p
   unfolding in_range
-  lent-range = rw (lent-entries, part_tail 5 p)
-
-  pub lent-room : in_turn (held_in t part) p ≡ true
-      → number_count (bits_in p) (length (take (length p - 5) (drop 5 p))) ≤ length (take (end - t.nextentry)
-      (drop t.nextentry part))
-  lent-room h =
-      rw (lent-entries, part_tail 5 p)
-      (simp length-drop (rw (← count_in p) (omega (arith, turn-within t p part h))))
+  lent-range = rw lent-entries

@@ -1,6 +1,7 @@
 -- Laws of an update as a whole: what it does where it is refused, and where it is taken.
 use Prim.Native.Nat.{ℕ, ◌-◌, ◌≤◌, min}
 use mathlib.Core.Path.{◌≡◌, refl, sym, ◌∙◌}
+use Rattle.std.proofs.Common.{◌⊎◌, inl, inr}
 use mathlib.Core.Bool.{Bool, true, false, not, and-false, or-false}
 use mathlib.Core.List.{List, [], ◌∷◌}
 use native.Mathlib.Omega.{arith}
@@ -13,14 +14,13 @@ use Rattle.laws.specs.Parts.{over}
 use Rattle.laws.proofs.Over.{over-own, over-lent}
 use Rattle.laws.proofs.Parts.{part_tail}
 use Rattle.tables.specs.declared.Table.{Table}
-use Rattle.tables.specs.declared.Updated.{Updated}
 use Rattle.tables.specs.Patch.{numbers, added, all_fit}
 use Rattle.tables.specs.Tables.{Held, held_in, at_rest, waiting}
 use Rattle.tables.specs.Updates.{length_in, infinity_in, bits_in, numbers_in, reset_tests, is_patch, good_reset}
 use Rattle.tables.specs.Updates.{good_patch, in_turn, in_range}
 use Rattle.tables.specs.Updates.{reset_answer, reset_held, reset_by, patch_answer, patched_held, patch_by, moved_on}
 use Rattle.tables.specs.Updates.{update_answer, updated, broken_by}
-use Rattle.tables.specs.Updates.{refused_by, answered, part_with}
+use Rattle.tables.specs.Updates.{Updated, refused_by, answered, part_with}
 use Rattle.tables.proofs.TestLaws.{every_true}
 use Rattle.tables.proofs.NumberLaws.{fit_wider}
 use Rattle.tables.proofs.PatchFacts.{added-length}
@@ -87,24 +87,22 @@ module _ (t : Table) (p part : List ℕ) (n : ℕ) (e : n ≡ patch_answer (held
   patch-refused z = rw (← e, ne_eqb n 0 z) (done_refused t part n)
 
   pub patch-taken : n ≡ 0 → (end : ℕ) (ys : List ℕ) (next : Table)
-      → end ≡ min t.length (length part)
-      → ys ≡ added (bits_in p) (numbers (bits_in p) (take (length p - 5) (drop 5 p)))
-      (take (end - t.nextentry) (drop t.nextentry part))
+      → end ≡ length (take t.length part)
+      → ys ≡ added (bits_in p) (numbers_in p) (take (end - t.nextentry) (drop t.nextentry part))
       → next ≡ moved_on t p
       → Done part (patch_answer (held_in t part) p) (patched_held (held_in t part) p)
       (record { answer = 0; table = next })
       (put_mid t.nextentry (end - t.nextentry) part ys)
   unfolding patched_held patch_by
   patch-taken z end ys next m a b =
-      let k : end ≡ length (take t.length part) = m ∙ sym (length-take t.length part) in
       let w = turn-within t p part (taken (held_in t part) p (sym e ∙ z)).turn in
       let y : ys ≡ added (bits_in p) (numbers_in p) (drop t.nextentry (take t.length part)) =
-      rw (lent-entries t p part end m, part_tail 5 p) at a in
+      rw (lent-entries t p part end m) at a in
       rw (← e, z)
       (record {
         result = rw b refl;
         entries =
-            rw (k, y)
+            rw (m, y)
             (over-lent t.nextentry t.length part
             (added (bits_in p) (numbers_in p) (drop t.nextentry (take t.length part)))
             (omega arith)
@@ -113,13 +111,12 @@ module _ (t : Table) (p part : List ℕ) (n : ℕ) (e : n ≡ patch_answer (held
       })
 
 -- the numbers that the code adds fit a byte
-pub lent-fit : (t : Table) (p part : List ℕ) (end : ℕ) → end ≡ min t.length (length part) → t.infinity ≤ 255
+pub lent-fit : (t : Table) (p part : List ℕ) (end : ℕ) → end ≡ length (take t.length part) → t.infinity ≤ 255
     → in_range (held_in t part) p ≡ true
-    → all_fit (bits_in p) 255 (numbers (bits_in p) (take (length p - 5) (drop 5 p)))
-    (take (end - t.nextentry) (drop t.nextentry part)) ≡ true
+    → all_fit (bits_in p) 255 (numbers_in p) (take (end - t.nextentry) (drop t.nextentry part)) ≡ true
 lent-fit t p part end e i r =
     fit_wider (bits_in p) t.infinity 255
-    (numbers (bits_in p) (take (length p - 5) (drop 5 p)))
+    (numbers_in p)
     (take (end - t.nextentry) (drop t.nextentry part))
     i
     (lent-range t p part end e ∙ r)
@@ -172,11 +169,9 @@ module _ (t : Table) (p part : List ℕ) (ttl hops : ℕ) where
   unfolding update_answer
   fourteen-hops e = rw (ne_eqb hops 0 e, and-false (eqb ttl 1))
 
-  pub bad-ttl : (ttl ≡ 1 → ⊥) → Done part n u (refused_by 14 t) part
-  bad-ttl e = refused-by (fourteen-ttl e)
-
-  pub bad-hops : (hops ≡ 0 → ⊥) → Done part n u (refused_by 14 t) part
-  bad-hops e = refused-by (fourteen-hops e)
+  pub bad-life : (ttl ≡ 1 → ⊥) ⊎ ((ttl ≡ 1) × (hops ≡ 0 → ⊥)) → Done part n u (refused_by 14 t) part
+  bad-life (inl e) = refused-by (fourteen-ttl e)
+  bad-life (inr e) = refused-by (fourteen-hops e.1)
 
   -- with a TTL and Hops that are right, what the variant's function leaves is what the update leaves
   pub by-patch : ttl ≡ 1 → hops ≡ 0 → is_patch p ≡ true → {r : Updated} {left : List ℕ}

@@ -5,10 +5,14 @@ use Rattle.laws.specs.Tests.{first_of, every}
 use Rattle.laws.specs.Bytes.{little}
 use Rattle.laws.specs.Parts.{over}
 use Rattle.tables.specs.declared.Table.{Table}
-use Rattle.tables.specs.declared.Updated.{Updated}
 use Rattle.tables.specs.Patch.{good_bits, numbers, added, all_fit}
 use Rattle.tables.specs.Tables.{Held, at_rest, marked, waiting, running, settled, broken, good_length, good_infinity}
 use Rattle.tables.specs.Tables.{ready}
+
+-- the answer to an update, and the table after it
+pub record Updated : Type 0 where
+  pub answer : ℕ
+  pub table : Table
 
 -- RESET: 00, length (4 bytes), Infinity
 abbrev pub length_in : List ℕ → ℕ

@@ -46,11 +46,3 @@ pub fn no_table() -> Table
         nextentry: 0,
     }
 }
-
-// The answer to an update, and the table after it.
-#[repr(C)]
-#[derive(Clone, Copy)]
-pub struct Updated {
-    pub answer: u8,
-    pub table: Table,
-}

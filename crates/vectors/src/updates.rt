@@ -5,34 +5,35 @@ use crate::print;
 use rows::words;
 use std::io;
 use tablemessages::Written;
-use tables::{Table, Updated, no_table};
+use answer::{Refusal, answer};
+use tables::{Table, no_table};
 use tablewriter::Wanted;
-
-fn none() -> Updated {
-    let table = no_table();
-    Updated { answer: 0, table }
-}
 
 fn pick(first: bool, a: u8, b: u8) -> u8 {
     if first { a } else { b }
 }
 
-// The updates that the words from the third on are, the last with this TTL and these Hops.
-fn updated(row: &[u8], ttl: u8, hops: u8, part: &mut [u8]) -> Updated {
+// The updates that the words from the third on are, the last with this TTL and these Hops: what the last comes to.
+fn updated(
+    row: &[u8],
+    ttl: u8,
+    hops: u8,
+    table: &mut Table,
+    part: &mut [u8],
+) -> Result<(), Refusal> {
     let count = rows::count(row);
-    let mut u = none();
+    let mut outcome = Ok(());
     for n in 2..count {
-        let table = u.table;
         let last = n + 1 == count;
-        u = tablereader::updates::update(
-            table,
+        outcome = tablereader::updates::update(
+            &mut *table,
             pick(last, ttl, 1),
             pick(last, hops, 0),
             rows::word(row, n, 0),
             &mut *part,
         );
     }
-    u
+    outcome
 }
 
 fn table_words(rt: &impl Print, t: Table) -> io::Result<()> {
@@ -44,17 +45,24 @@ fn table_words(rt: &impl Print, t: Table) -> io::Result<()> {
 
 fn update(rt: &impl Print, row: &[u8]) -> io::Result<()> {
     let mut part = [7u8; 8];
-    let u = updated(row, rows::byte(row, 0, 0), rows::byte(row, 0, 1), &mut part);
-    print::number(rt, u64::from(u.answer))?;
-    table_words(rt, u.table)?;
+    let mut table = no_table();
+    let outcome = updated(
+        row,
+        rows::byte(row, 0, 0),
+        rows::byte(row, 0, 1),
+        &mut table,
+        &mut part,
+    );
+    print::number(rt, u64::from(answer(outcome)))?;
+    table_words(rt, table)?;
     print::list(rt, &part, 8, b',')
 }
 
 // Line 0 alone is open, and has the table.
 fn withheld(rt: &impl Print, row: &[u8]) -> io::Result<()> {
     let mut part = [7u8; 8];
-    let u = updated(row, 1, 0, &mut part);
-    let table = u.table;
+    let mut table = no_table();
+    let _ = updated(row, 1, 0, &mut table, &mut part);
     let tables = [table; 8];
     let open = [true, false, false, false, false, false, false, false];
     let passing = forwarding::lines::passing(

@@ -1,6 +1,6 @@
 -- The update is read on the line's part of the route area.
 use native.Mathlib.Omega.{arith}
-use mathlib.Core.Path.{ap}
+use mathlib.Core.Path.{ap, refl, ◌∙◌}
 use lib.ListN.{length}
 use Rattle.wire.specs.declared.Header.{Header}
 use Rattle.station.proofs.ActionLaws.{part-within, update-done}
@@ -36,5 +36,6 @@ returns c =
     let p = c.requires in
     let d = update-done a.room a.l a.x a.m.now a.route.now
     (part-within a.l a.room (length a.route.now) p.eight p.rooms)
-    a.h p.message.header (c.update-u.ensures.result, c.update-u.ensures.entries) c.quietly.ensures in
+    a.h p.message.header (c.update-outcome.ensures.result, c.update-outcome.ensures.entries)
+    (c.quietly.ensures ∙ rw c.answer.ensures refl) in
     record { action = d.0; area = d.1 }

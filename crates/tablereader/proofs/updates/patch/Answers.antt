@@ -1,81 +1,72 @@
--- A PATCH that is refused leaves the part; one that passes every test is added to the entries behind those of its run.
-use mathlib.Core.Path.{sym, ◌∙◌}
-use native.Mathlib.Omega.{arith}
+-- A PATCH that is refused leaves the part; one that is taken is added to the entries behind those of its run.
+use Rattle.std.proofs.Common.{◌≡◌, List, ℕ, ◌+◌, ◌≤◌, length, arith, refl, sym, ap, ◌∙◌, subst, take, length-take}
+use Rattle.answer.specs.Numbers.{number_of}
+use Rattle.answer.proofs.Apart.{never_zero}
+use Rattle.tables.specs.Patch.{numbers}
 use Rattle.tables.specs.Tables.{held_in}
-use Rattle.tables.proofs.TurnLaws.{Awaited, awaited}
-use Rattle.tables.proofs.UpdateLaws.{Taken, taken, lent-fit, patch-refused, patch-taken}
-use Rattle.tablereader.proofs.updates.patch.Goals.{Else-answer-ne0}
+use Rattle.tables.specs.Updates.{patch_answer, patched_held}
+use Rattle.tables.proofs.TurnLaws.{patch-fields, turn-within}
+use Rattle.tables.proofs.UpdateLaws.{Done, Taken, taken, lent-fit, patch-refused, patch-taken}
+use Rattle.tablereader.specs.Payloads.{payload_of}
+use Rattle.tablereader.proofs.updates.patch.Goals.{After-entries-end}
 use Rattle.tablereader.proofs.updates.patch.Goals as goal
 
--- what an answer of 0 says, at hand
-passed : (c : Else-answer-ne0) → Taken
-    (held_in c.args.table
-    c.args.part.now)
-    c.args.payload.now
-passed c =
+pub returns-in-Err : goal.returns-in-Err
+returns-in-Err c =
     let x = c.args in
-    taken (held_in x.table x.part.now) x.payload.now (sym c.patch_answer-answer.ensures ∙ c.if-answer-ne0.false)
+    let d =
+    patch-refused x.table.now x.payload.now x.part.now (number_of c.in-Err.refusal) c.in-Err.ensures.answer
+    (never_zero c.in-Err.refusal) in
+    record { result = c.refuse.ensures ∙ d.result; entries = d.entries }
 
-known : (c : Else-answer-ne0) → Awaited c.args.table
-    c.args.payload.now
-    c.args.part.now
+-- what the PATCH has that is taken
+known : (c : After-entries-end) → Taken (held_in c.args.table.now c.args.part.now) (payload_of c.in-Ok.patch)
 known c =
     let x = c.args in
-    awaited x.table x.payload.now x.part.now (passed c).fields (passed c).turn
+    subst (Taken (held_in x.table.now x.part.now)) (sym c.in-Ok.ensures.fields)
+    (taken (held_in x.table.now x.part.now) x.payload.now (sym c.in-Ok.ensures.answer))
 
-pub returns-then-answer-ne0 : goal.returns-then-answer-ne0
-returns-then-answer-ne0 c =
+ends : (c : After-entries-end)
+    → length c.entries-end.result.now ≡ (let x = c.args in length (take x.table.now.length x.part.now))
+ends c = ap length c.entries-end.ensures
+
+within : (c : After-entries-end)
+    → (let x = c.args in x.table.now.nextentry + length (numbers c.in-Ok.patch.bits c.in-Ok.patch.bytes.now)) ≤ length c.entries-end.result.now
+within c =
     let x = c.args in
-    let a = c.patch_answer-answer in
-    let d = patch-refused x.table x.payload.now x.part.now a.result a.ensures
-    c.if-answer-ne0.true in
-    record {
-      result = c.refused.ensures ∙ d.result;
-      entries = d.entries;
-    }
-
-pub bounds-payload-4 : goal.bounds-payload-4
-bounds-payload-4 c = let k = known (goal.at.bounds-payload-4 c).Else-answer-ne0 in omega arith
+    rw (ends c) (turn-within x.table.now (payload_of c.in-Ok.patch) x.part.now (known c).turn)
 
 pub slice_bounds-add_all-count : goal.slice_bounds-add_all-count
-slice_bounds-add_all-count c = let k = known (goal.at.slice_bounds-add_all-count c).Else-answer-ne0 in omega arith
+slice_bounds-add_all-count c = omega (arith, within (goal.at.slice_bounds-add_all-count c).After-entries-end)
 
 pub slice_bounds-add_all-start : goal.slice_bounds-add_all-start
-slice_bounds-add_all-start c = let k = known (goal.at.slice_bounds-add_all-start c).Else-answer-ne0 in omega arith
-
-pub slice_bounds-add_all-count-2 : goal.slice_bounds-add_all-count-2
-slice_bounds-add_all-count-2 c = let k = known (goal.at.slice_bounds-add_all-count-2 c).Else-answer-ne0 in omega arith
-
-pub slice_bounds-add_all-start-2 : goal.slice_bounds-add_all-start-2
-slice_bounds-add_all-start-2 c = let k = known (goal.at.slice_bounds-add_all-start-2 c).Else-answer-ne0 in omega arith
+slice_bounds-add_all-start c = omega (arith, within (goal.at.slice_bounds-add_all-start c).After-entries-end)
 
 pub add_all-requires : goal.add_all-requires
 add_all-requires c =
     let x = c.args in
-    let n = c.entry_count-end in record {
-      bits_value = (known (goal.at.add_all-requires c).Else-answer-ne0).fields.width;
-      entries_value = lent-fit x.table x.payload.now x.part.now n.result n.ensures
-          (omega (arith, c.well_formed.0)) (passed (goal.at.add_all-requires c).Else-answer-ne0).range;
+    record {
+      bits_value = (patch-fields (payload_of c.in-Ok.patch) c.in-Ok.patch.good).width;
+      entries_value =
+          lent-fit x.table.now (payload_of c.in-Ok.patch) x.part.now (length c.entries-end.result.now)
+          (ends (goal.at.add_all-requires c).After-entries-end)
+          (omega arith) (known (goal.at.add_all-requires c).After-entries-end).range;
     }
 
-pub moved_on-next-requires : goal.moved_on-next-requires
-moved_on-next-requires c =
-    let k = known (goal.at.moved_on-next-requires c).Else-answer-ne0 in
-    record {
-      payload_value = (passed (goal.at.moved_on-next-requires c).Else-answer-ne0).fields;
-      payload_bound = omega (arith, c.well_formed.0);
-    }
+pub moved_on-requires : goal.moved_on-requires
+moved_on-requires c =
+    let x = c.args in
+    let b = (goal.at.moved_on-requires c).After-entries-end in
+    omega (arith, within b, ends b, length-take x.table.now.length x.part.now)
 
 pub returns : goal.returns
 returns c =
     let x = c.args in
-    let a = c.patch_answer-answer in
-    let n = c.entry_count-end in
-    let y = c.add_all in
+    let h = held_in x.table.now x.part.now in
     let d =
-    patch-taken x.table x.payload.now x.part.now a.result a.ensures c.if-answer-ne0.false
-    n.result y.new.entries c.moved_on-next.result n.ensures y.ensures c.moved_on-next.ensures in
-    record {
-      result = d.result;
-      entries = d.entries;
-    }
+    patch-taken x.table.now (payload_of c.in-Ok.patch) x.part.now 0
+    (c.in-Ok.ensures.answer ∙ ap (patch_answer h) (sym c.in-Ok.ensures.fields))
+    refl (length c.entries-end.result.now) c.add_all.new.entries c.moved_on.result
+    (ends (goal.at.returns c).After-entries-end)
+    c.add_all.ensures c.moved_on.ensures in
+    record { result = rw c.in-Ok.ensures.fields at d.result; entries = rw c.in-Ok.ensures.fields at d.entries }
