@@ -8,7 +8,7 @@ use lib.Dec.{ltb, leb, eqb}
 use lib.ListN.{length, take, drop, length-drop, length-append}
 use lib.Seq.{drop-drop, drop-length}
 use borrow.Rule.Slice.PartMut.{put_mid}
-use borrow.Author.Tests.{eq-eqb, ne_eqb, leb-true, ltb-true, ltb-false}
+use borrow.Author.Tests.{leb-true, ltb-true, ltb-false, not-false}
 use Rattle.laws.specs.Tests.{all}
 use Rattle.laws.specs.Parts.{over}
 use Rattle.laws.proofs.Text.{over_append, over_none}
@@ -21,7 +21,11 @@ use Rattle.fields.specs.Fields.{lines_ok}
 use Rattle.fields.specs.Step.{step_from, step_of, value_start, separated, added_by, no_fields, found_in, fits_in}
 use Rattle.fields.specs.Step.{WholeFrom}
 use Rattle.fields.specs.declared.Step.{Step}
-use Rattle.fields.specs.declared.Found.{Found}
+use Rattle.fields.specs.Step.{Found}
+use Rattle.std.proofs.Common.{Option, Some, None, is_some}
+use Rattle.std.specs.Option.{option_or}
+use Rattle.std.specs.Bool.{then_some}
+use mir.Val.{bool_byte}
 use Rattle.groups.proofs.LineLaws.{line-fits, line-next, line-none, leading-all, text-line, text-broken}
 
 -- ---- going through the lines for a name
@@ -109,6 +113,16 @@ pub found_all : (name : List ℕ) (ls : List (List ℕ)) → found_after name fa
 unfolding is_absent
 found_all name ls = found-streamed name ls false false
 
+-- ---- a name that is absent has no value
+
+none-value : (vs : List (List ℕ)) → is_none vs ≡ true → comma_between vs ≡ []
+none-value [] h = refl
+none-value (v ∷ vs) h = let z : ◌≡◌ {A = Bool} false true = h in cc
+
+pub absent-value : (name : List ℕ) (ls : List (List ℕ)) → is_absent name ls ≡ true → value_for name ls ≡ []
+unfolding is_absent value_for
+absent-value name ls h = none-value (values_of name (fields_of ls)) h
+
 -- ---- a value is no longer than its lines with their ends
 
 -- the bytes of the lines with two for the end of each
@@ -116,12 +130,9 @@ abbrev sizes : List (List ℕ) → ℕ
 sizes [] = 0
 sizes (l ∷ ls) = length l + 2 + sizes ls
 
-separated-short : (b : ℕ) → length (separated b) ≤ 1
-separated-short b = short (eqb b 0)
-  where
-    short : (t : Bool) → length (cond t [] (b ∷ [])) ≤ 1
-    short true = omega arith
-    short false = omega arith
+separated-short : (b : Option ℕ) → length (separated b) ≤ 1
+separated-short None = omega arith
+separated-short (Some b) = omega arith
 
 added-short : (st : Step) (l : List ℕ) → length (added_by st l) ≤ length l + 2
 added-short st l =
@@ -213,7 +224,7 @@ left-all s name =
       found = found_all name (lines_of s);
     }
 
-not-fields : (s name : List ℕ) → lines_ok false (lines_of s) ≡ false → no_fields ≡ found_in name (lines_of s)
+pub not-fields : (s name : List ℕ) → lines_ok false (lines_of s) ≡ false → no_fields ≡ found_in name (lines_of s)
 unfolding found_in
 not-fields s name e = rw e
 
@@ -240,6 +251,18 @@ module _ {s : List ℕ} {next : ℕ} {line : List ℕ} (d : Ended s next line) w
 
 module _ {s name : List ℕ} {next : ℕ} {before mine there : Bool} {total : ℕ}
     (l : Left s name next before mine there total) where
+  -- all lines were fields
+  pub left-good : length s ≤ next → lines_ok false (lines_of s) ≡ true
+  left-good h = sym l.good ∙ ap (lines_ok before) (line-none s next h)
+
+  -- and nothing was added for a name that is absent
+  pub left-none : length s ≤ next → there ≡ false → total ≡ 0
+  left-none h t =
+      let e = line-none s next h in
+      let f : there ≡ not (is_absent name (lines_of s)) = sym (ap (found_after name mine there) e) ∙ l.found in
+      let absent = absent-value name (lines_of s) (not-false (is_absent name (lines_of s)) (sym f ∙ t)) in
+      omega (arith, ap (λ ls. length (streamed name mine there ls)) e, l.size, ap length absent)
+
   pub left_end : length s ≤ next → ◌≡◌ {A = Found} (record { good = true; there = there; length = total })
       (found_in name (lines_of s))
   unfolding found_in
@@ -254,19 +277,19 @@ module _ {s name : List ℕ} {next : ℕ} {before mine there : Bool} {total : �
   -- the text from the place on, of n bytes
   module _ (rest : List ℕ) (n : ℕ) (h : next < length s) (e : rest ≡ drop next s) (k : n ≡ leading is_text rest) where
     -- it does not end as a line does
-    pub left-broken : line_ends (drop n rest) ≡ false → no_fields ≡ found_in name (lines_of s)
+    pub left-broken : line_ends (drop n rest) ≡ false → lines_ok false (lines_of s) ≡ false
     unfolding line_at
     left-broken t =
         let u : all is_text (line_at s next) ≡ false = text-broken (drop next s) (rw (← e, ← k) t) in
-        not-fields s name (sym l.good ∙ ok_on s (line_at s next) next h refl before ∙ rw u)
+        sym l.good ∙ ok_on s (line_at s next) next h refl before ∙ rw u
 
   module _ {line : List ℕ} (d : Ended s next line) where
     lines_ok_lem : (b : Bool) → field_ok before line ≡ b → lines_ok before (lines_of (drop next s))
         ≡ (b && lines_ok true (lines_of (drop (next + length line + 2) s)))
     lines_ok_lem b v = ok_on s line next d.inside (ended-line d) before ∙ rw (ended-text d, v)
 
-    pub left-bad : field_ok before line ≡ false → no_fields ≡ found_in name (lines_of s)
-    left-bad v = not-fields s name (sym l.good ∙ lines_ok_lem false v)
+    pub left-bad : field_ok before line ≡ false → lines_ok false (lines_of s) ≡ false
+    left-bad v = sym l.good ∙ lines_ok_lem false v
 
     module _ (st : Step) (step : st ≡ step_of name mine there line) (part : List ℕ) (p : part ≡ drop st.from line)
         (b : ℕ) (q : b ≡ length (separated st.separator)) where
@@ -312,25 +335,48 @@ module _ (name l : List ℕ) (ls : List (List ℕ)) where
   unmet mine there =
       unmet-case (continues l) (same_name (name_of l) name) mine there (leading is_blank l) (value_start l) (length l) refl
 
--- the lines from place `first` on have the whole value, and those from the next on do while the name is not met
-pub record Begun (s name : List ℕ) (next : ℕ) (there : Bool) (first : ℕ) : Type 0 where
-  pub whole : WholeFrom name s first
-  pub unmet_yet : there ≡ false → WholeFrom name s next
+-- the lines from the first of the name on have the whole value, and those from the next on do while it is not met
+abbrev pub Begun : List ℕ → List ℕ → ℕ → Option ℕ → Type 0
+Begun s name next None = WholeFrom name s next
+Begun s name next (Some first) = WholeFrom name s first
 
-module _ {s name : List ℕ} {next : ℕ} {there : Bool} {first : ℕ} (b : Begun s name next there first) where
-  pub begun-on : {line : List ℕ} → Ended s next line → (mine : Bool) (st : Step) → st ≡ step_of name mine there line
-      → (to : ℕ) → to ≡ cond there first next → Begun s name (next + length line + 2) st.found to
-  begun-on {line} d mine st step to e =
-      record {
-        whole = rw e (place there b.unmet_yet);
-        unmet_yet = λ u.
-            let n = unmet name line (lines_of (drop (next + length line + 2) s)) mine there (rw step at u) in
-            n.1 ∙ ap (value_for name) (sym (next-lines s line next d.inside (ended-line d))) ∙ b.unmet_yet n.0;
-      }
-    where
-      place : (t : Bool) → (t ≡ false → WholeFrom name s next) → WholeFrom name s (cond t first next)
-      place true k = b.whole
-      place false k = k refl
+pub begun-on : (s name : List ℕ) {next : ℕ} (first : Option ℕ) → Begun s name next first → {line : List ℕ}
+    → Ended s next line → (mine : Bool) (st : Step) → st ≡ step_of name mine (is_some first) line
+    → Begun s name (next + length line + 2) (option_or first (then_some st.found next))
+begun-on s name (Some first) b d mine st step = b
+begun-on s name {next} None b {line} d mine st step = go st.found refl
+  where
+    go : (t : Bool) → st.found ≡ t → Begun s name (next + length line + 2) (option_or None (then_some t next))
+    go true e = b
+    go false e =
+        let n = unmet name line (lines_of (drop (next + length line + 2) s)) mine false (rw step at e) in
+        n.1 ∙ ap (value_for name) (sym (next-lines s line next d.inside (ended-line d))) ∙ b
+
+-- once the name was met it stays so
+stays-met : (goes_on named mine : Bool) (blanks start size : ℕ) → (step_from goes_on named mine true blanks start size).found
+    ≡ true
+unfolding step_from
+stays-met true named true blanks start size = refl
+stays-met true named false blanks start size = refl
+stays-met false true mine blanks start size = refl
+stays-met false false mine blanks start size = refl
+
+-- the name was met where its first place is known
+pub met-on : (first : Option ℕ) (next : ℕ) (name line : List ℕ) (mine : Bool) (st : Step)
+    → st ≡ step_of name mine (is_some first) line → is_some (option_or first (then_some st.found next)) ≡ st.found
+met-on (Some first) next name line mine st step =
+    sym (ap (λ (x : Step). x.found) step
+    ∙ stays-met (continues line) (same_name (name_of line) name) mine (leading is_blank line) (value_start line) (length line))
+met-on None next name line mine st step = go st.found
+  where
+    go : (t : Bool) → is_some (option_or None (then_some t next)) ≡ t
+    go true = refl
+    go false = refl
+
+-- a separator has one byte
+pub separated-count : (b : Option ℕ) (t : Bool) → t ≡ is_some b → bool_byte t ≡ length (separated b)
+separated-count None t e = rw e
+separated-count (Some b) t e = rw e
 
 -- ---- the value written line by line
 
@@ -401,12 +447,6 @@ pub over-part : (at : ℕ) (part l ys : List ℕ) (k : ℕ) → k ≡ length par
 over-part at part l ys k h y =
     ap (λ z. take at l ++ (ys ++ z)) (drop-drop k at l ∙ ap (λ j. drop (at + j) l) h)
     ∙ ap (λ x. take at l ++ (x ++ drop (at + length part) l)) y
-
-pub none-separated : (b : ℕ) → b ≡ 0 → separated b ≡ []
-none-separated b e = rw (eq-eqb b 0 e)
-
-pub some-separated : (b : ℕ) → (b ≡ 0 → ⊥) → separated b ≡ b ∷ []
-some-separated b e = rw (ne_eqb b 0 e)
 
 -- a value that fits is as long as was found, and has room
 pub found-fits : (f : Found) (name : List ℕ) (ls : List (List ℕ)) (room : ℕ) → f ≡ found_in name ls

@@ -1,64 +1,35 @@
 // The lines behind a group's first: whether they are fields, and the value of a name.
 #![tactic(auto)]
 
-ghost use Rattle.std.specs.Prelude.{◌≡◌, cond, ◌++◌, ◌+◌, ◌≤◌, length};
+ghost use Rattle.std.specs.Prelude.{◌≡◌, ◌++◌, ◌+◌, ◌≤◌, length, IfOk, IfSome};
 ghost use Rattle.laws.specs.Parts.{over};
 ghost use Rattle.ascii.specs.Text.{same_name};
+ghost use Rattle.answer.specs.Numbers.{answer_of};
 ghost use Rattle.groups.specs.Lines.{lines_of};
 ghost use Rattle.fields.specs.Fields.{continues, is_field, name_length, name_of, field_ok, value_for};
-ghost use Rattle.fields.specs.Step.{passed, value_start, step_of, separated, no_fields, found_in, fits_in, WholeFrom};
+ghost use Rattle.fields.specs.Step.{passed, value_start, step_of, separated, found_in, found_by, refused_in, lengths, WholeFrom};
 ghost use Rattle.fields.specs.Step.{written_in};
 
+use answer::Refusal;
 use ascii::{BLANK, NAME, TEXT, after, byte_at, front, is_blank, leading, same};
 use groups::lines::{line_at, line_ends};
 
-// A line that begins with a blank goes on with the value before it.
-fn continues(line: &[u8]) -> bool
-    ensures { result ≡ continues line.now }
-{
-    is_blank(byte_at(line, 0))
+// A line, and how long the name at its front is.
+#[derive(Clone, Copy)]
+struct Line<'a> {
+    text: &'a [u8],
+    name: usize,
+    ghost measured: { name ≡ name_length text.now },
 }
 
-// A name of one byte or more, and a colon right behind it. Here and below n is how long the name is.
-fn is_field(line: &[u8], n: usize) -> bool
-    requires { n ≡ name_length line.now }
-    ensures { result ≡ is_field line.now }
-{
-    let b = byte_at(line, n);
-    if n < 1 {
-        return false;
-    }
-    b == b':'
-}
-
-// The line is a field or, where a field stands before it, goes on.
-fn field_ok(before: bool, line: &[u8], n: usize) -> bool
-    requires { n ≡ name_length line.now }
-    ensures { result ≡ field_ok before line.now }
-{
-    if is_field(line, n) {
-        return true;
-    }
-    if before {
-        return continues(line);
-    }
-    false
-}
-
-// What a line adds to the value of a name: a separator, unless that is 0, and the line from a place on. `mine`: the
+// What a line adds to the value of a name: a separator, where there is one, and the line from a place on. `mine`: the
 // last field has the name; `found`: a field of the name was met.
 #[derive(Clone, Copy)]
 pub struct Step {
     pub mine: bool,
     pub found: bool,
-    pub separator: u8,
+    pub separator: Option<u8>,
     pub from: usize,
-}
-
-fn comma(found: bool) -> u8
-    ensures { result ≡ cond found 44 0 }
-{
-    if found { b',' } else { 0 }
 }
 
 // The line adds nothing.
@@ -68,210 +39,202 @@ fn passed(found: bool, length: usize) -> Step
     Step {
         mine: false,
         found,
-        separator: 0,
+        separator: None,
         from: length,
     }
 }
 
-// The line has the name.
-fn is_named(line: &[u8], n: usize, name: &[u8]) -> bool
-    requires { n ≡ name_length line.now }
-    ensures { result ≡ same_name (name_of line.now) name.now }
-{
-    same(true, front(line, n), name)
-}
-
-// Where the value of a field starts: behind the colon and the blanks.
-fn value_start(line: &[u8], n: usize) -> usize
-    requires { n ≡ name_length line.now }
-    ensures { result ≡ value_start line.now }
-{
-    let colon = n + 1;
-    colon + leading(after(line, colon), BLANK)
-}
-
-// A line that goes on adds to the value where the last field has the name, behind a space; a field of the name does,
-// behind a comma where it is not the first.
-fn line_step(name: &[u8], mine: bool, found: bool, line: &[u8], n: usize) -> Step
-    requires { n ≡ name_length line.now }
-    ensures { result ≡ step_of name.now mine found line.now }
-{
-    if continues(line) {
-        if mine {
-            return Step {
-                mine: true,
-                found,
-                separator: b' ',
-                from: leading(line, BLANK),
-            };
+impl<'a> Line<'a> {
+    fn new(text: &'a [u8]) -> Line<'a>
+        ensures { result.text.now ≡ text.now }
+    {
+        Line {
+            text,
+            name: leading(text, NAME),
         }
-        return passed(found, line.len());
     }
-    if is_named(line, n, name) {
-        return Step {
-            mine: true,
-            found: true,
-            separator: comma(found),
-            from: value_start(line, n),
-        };
+
+    // A line that begins with a blank goes on with the value before it.
+    fn continues(self) -> bool
+        ensures { result ≡ continues self.entry.text.now }
+    {
+        is_blank(byte_at(self.text, 0))
     }
-    passed(found, line.len())
+
+    // A name of one byte or more, and a colon right behind it.
+    fn is_field(self) -> bool
+        ensures { result ≡ is_field self.entry.text.now }
+    {
+        self.name > 0 && byte_at(self.text, self.name) == b':'
+    }
+
+    // The line is a field or, where a field stands before it, goes on.
+    fn field_ok(self, before: bool) -> bool
+        ensures { result ≡ field_ok before self.entry.text.now }
+    {
+        self.is_field() || before && self.continues()
+    }
+
+    // The line has the name.
+    fn is_named(self, name: &[u8]) -> bool
+        ensures { result ≡ same_name (name_of self.entry.text.now) name.now }
+    {
+        same(true, front(self.text, self.name), name)
+    }
+
+    // Where the value of a field starts: behind the colon and the blanks.
+    fn value_start(self) -> usize
+        ensures { result ≡ value_start self.entry.text.now }
+    {
+        let colon = self.name + 1;
+        colon + leading(after(self.text, colon), BLANK)
+    }
+
+    // A line that goes on adds to the value where the last field has the name, behind a space; a field of the name
+    // does, behind a comma where it is not the first.
+    #[tactic(auto, unfolding(crate::specs::Step::step_from))]
+    fn step(self, name: &[u8], mine: bool, found: bool) -> Step
+        ensures { result ≡ step_of name.now mine found self.entry.text.now }
+    {
+        if self.continues() {
+            if mine {
+                Step {
+                    mine: true,
+                    found,
+                    separator: Some(b' '),
+                    from: leading(self.text, BLANK),
+                }
+            } else {
+                passed(found, self.text.len())
+            }
+        } else if self.is_named(name) {
+            Step {
+                mine: true,
+                found: true,
+                separator: found.then_some(b','),
+                from: self.value_start(),
+            }
+        } else {
+            passed(found, self.text.len())
+        }
+    }
 }
 
-// Whether all lines are fields, each with the lines that go on with it; then whether one of the name is there, and how
-// long its value is.
+// The value of a name: how long it is, and a place from which on the lines have all of it, the first of the name.
 #[derive(Clone, Copy)]
-pub struct Found {
-    pub good: bool,
-    pub there: bool,
-    pub length: usize,
-}
-
-// What was found, and a place from which on the lines have the whole value: the first of the name, where there is one.
-#[derive(Clone, Copy)]
-struct Searched {
-    found: Found,
+struct Value {
     first: usize,
+    length: usize,
 }
 
-fn no_fields() -> Searched
-    ensures { (result.found ≡ no_fields) × (result.first ≡ 0) }
+// The value of the name, where all lines are fields, each with the lines that go on with it, and one has the name. A
+// line is looked at once: its text ends where the line does.
+fn search(s: &[u8], name: &[u8]) -> Result<Option<Value>, Refusal>
+    ensures value { found_by (lengths result) ≡ found_in name.now (lines_of s.now) }
+    ensures refused { answer_of result ≡ refused_in (lines_of s.now) }
+    ensures whole_from { IfOk result (λ found. IfSome found (λ value. WholeFrom name.now s.now value.first)) }
 {
-    Searched {
-        found: Found {
-            good: false,
-            there: false,
-            length: 0,
-        },
-        first: 0,
-    }
-}
-
-// A separator has one byte, and 0 stands for none.
-fn separator_length(separator: u8) -> usize
-    ensures { result ≡ length (separated separator) }
-{
-    if separator == 0 { 0 } else { 1 }
-}
-
-// Where the name was not met yet, its first line is no earlier than the next.
-fn first_place(there: bool, first: usize, next: usize) -> usize
-    ensures { result ≡ cond there first next }
-{
-    if there { first } else { next }
-}
-
-// A line is looked at once: its text ends where the line does.
-fn search(s: &[u8], name: &[u8]) -> Searched
-    ensures found_value { result.found ≡ found_in name.now (lines_of s.now) }
-    ensures whole_from { WholeFrom name.now s.now result.first }
-{
-    let mut next: usize = 0;
+    let mut next = 0;
     let mut before = false;
     let mut mine = false;
-    let mut there = false;
-    let mut first: usize = 0;
-    let mut total: usize = 0;
+    let mut first: Option<usize> = None;
+    let mut total = 0;
     while next < s.len() {
         let rest = after(s, next);
         let size = leading(rest, TEXT);
         if !line_ends(rest, size) {
-            return no_fields();
+            return Err(Refusal::BadHandshake);
         }
-        let line = front(rest, size);
-        let n = leading(line, NAME);
-        if !field_ok(before, line, n) {
-            return no_fields();
+        let line = Line::new(front(rest, size));
+        if !line.field_ok(before) {
+            return Err(Refusal::BadHandshake);
         }
-        first = first_place(there, first, next);
-        let added = line_step(name, mine, there, line, n);
-        let part = after(line, added.from);
-        total = total + separator_length(added.separator) + part.len();
+        let added = line.step(name, mine, first.is_some());
+        let part = after(line.text, added.from);
+        total = total + usize::from(added.separator.is_some()) + part.len();
+        first = first.or(added.found.then_some(next));
         before = true;
         mine = added.mine;
-        there = added.found;
-        next = next + line.len() + 2;
+        next = next + line.text.len() + 2;
     }
-    Searched {
-        found: Found {
-            good: true,
-            there,
-            length: total,
-        },
+    let Some(first) = first else {
+        return Ok(None);
+    };
+    Ok(Some(Value {
         first,
-    }
+        length: total,
+    }))
 }
 
-pub fn find(s: &[u8], name: &[u8]) -> Found
-    ensures { result ≡ found_in name.now (lines_of s.now) }
+// How long the value of the name is, where one of the lines has it; refused where not all lines are fields, each with
+// the lines that go on with it.
+pub fn find(s: &[u8], name: &[u8]) -> Result<Option<usize>, Refusal>
+    ensures value { found_by result ≡ found_in name.now (lines_of s.now) }
+    ensures refused { answer_of result ≡ refused_in (lines_of s.now) }
 {
-    let searched = search(s, name);
-    searched.found
+    Ok(search(s, name)?.map(|value| value.length))
 }
 
-fn fits(found: Found, room: usize) -> bool
-    ensures { result ≡ fits_in found room }
+// The part is written from place `at` on. What is handed back is the place behind it.
+fn put_part(out: &mut [u8], at: usize, part: &[u8]) -> usize
+    requires { at + length part.now ≤ length out.old }
+    ensures value { result ≡ at + length part.now }
+    ensures out_after { out.new ≡ over at part.now out.old }
 {
-    if !found.good {
-        return false;
-    }
-    if !found.there {
-        return false;
-    }
-    found.length <= room
+    out[at..at + part.len()].copy_from_slice(part);
+    at + part.len()
 }
 
 // The separator, where there is one, and the part are written from place `at` on. What is handed back is the place
 // behind them.
-fn put(out: &mut [u8], at: usize, separator: u8, part: &[u8]) -> usize
+fn put(out: &mut [u8], at: usize, separator: Option<u8>, part: &[u8]) -> usize
     requires { at + length (separated separator ++ part.now) ≤ length out.old }
     ensures value { result ≡ at + length (separated separator ++ part.now) }
     ensures out_after { out.new ≡ over at (separated separator ++ part.now) out.old }
 {
-    if separator == 0 {
-        out[at..at + part.len()].copy_from_slice(part);
-        return at + part.len();
+    match separator {
+        None => put_part(out, at, part),
+        Some(byte) => {
+            out[at] = byte;
+            put_part(out, at + 1, part)
+        }
     }
-    out[at] = separator;
-    let from = at + 1;
-    out[from..from + part.len()].copy_from_slice(part);
-    from + part.len()
 }
 
-// The value of the name, of `long` bytes, is written to the front of `out`. The lines from place `first` on have all
-// of it, and lines behind its last byte are not looked at.
-fn put_value(s: &[u8], name: &[u8], first: usize, long: usize, out: &mut [u8])
-    requires whole_from { WholeFrom name.now s.now first }
-    requires long_value { (long ≡ length (value_for name.now (lines_of s.now))) × (long ≤ length out.old) }
+// The value of the name is written to the front of `out`. The lines from its first place on have all of it, and lines
+// behind its last byte are not looked at.
+fn put_value(s: &[u8], name: &[u8], value: Value, out: &mut [u8])
+    requires whole_from { WholeFrom name.now s.now value.first }
+    requires long_value { value.length ≡ length (value_for name.now (lines_of s.now)) }
+    requires room { value.length ≤ length out.old }
     ensures { out.new ≡ over 0 (value_for name.now (lines_of s.now)) out.old }
 {
-    let mut next = first;
+    let mut next = value.first;
     let mut mine = false;
     let mut there = false;
-    let mut at: usize = 0;
-    while at < long {
-        let line = line_at(s, next);
-        let added = line_step(name, mine, there, line, leading(line, NAME));
-        let part = after(line, added.from);
-        at = put(out, at, added.separator, part);
+    let mut at = 0;
+    while at < value.length {
+        let line = Line::new(line_at(s, next));
+        let added = line.step(name, mine, there);
+        at = put(out, at, added.separator, after(line.text, added.from));
         mine = added.mine;
         there = added.found;
-        next = next + line.len() + 2;
+        next = next + line.text.len() + 2;
     }
 }
 
 // The value of the name is written to the front of `out` where the lines are fields, one of them has the name, and
-// there is room.
-pub fn write_value(s: &[u8], name: &[u8], out: &mut [u8]) -> Found
-    ensures value { result ≡ found_in name.now (lines_of s.now) }
+// there is room. What is handed back is as for `find`.
+pub fn write_value(s: &[u8], name: &[u8], out: &mut [u8]) -> Result<Option<usize>, Refusal>
+    ensures value { found_by result ≡ found_in name.now (lines_of s.now) }
+    ensures refused { answer_of result ≡ refused_in (lines_of s.now) }
     ensures out_after { out.new ≡ written_in name.now (lines_of s.now) out.old }
 {
-    let searched = search(s, name);
-    let found = searched.found;
-    let long = found.length;
-    if fits(found, out.len()) {
-        put_value(s, name, searched.first, long, out);
-        return found;
+    let Some(value) = search(s, name)? else {
+        return Ok(None);
+    };
+    if value.length <= out.len() {
+        put_value(s, name, value, out);
     }
-    found
+    Ok(Some(value.length))
 }

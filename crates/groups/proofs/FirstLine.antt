@@ -17,7 +17,7 @@ use borrow.Author.Tests.{eq-eqb, ne_eqb, eqb-true, eqb-false, le-leb, leb-true, 
 use Rattle.laws.specs.Tests.{every}
 use Rattle.laws.proofs.Refusals.{clash, and_fst, and_snd, or_split, or_left, or_right, and_intro, Each, each}
 use Rattle.groups.specs.declared.start.Version.{Version}
-use Rattle.groups.specs.declared.start.Start.{Start}
+use Rattle.groups.specs.Start.{Start}
 use Rattle.ascii.specs.Text.{is_digit, leading, compared, same, starts_with, digit_of, decimal_from, digit_count, digit_value}
 use Rattle.groups.specs.Start.{greeting_text, reply_text, one_to_three, at_least06, version_length, behind_dot}
 use Rattle.groups.specs.Start.{version_of, status_ok, is_status, no_start, greeting_from, greeting_of, reply_from}

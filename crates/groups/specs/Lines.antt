@@ -1,5 +1,5 @@
 -- A group of lines, and where it ends.
-use Rattle.std.specs.Prelude.{ℕ, zero, suc, ◌+◌, ◌-◌, min, Bool, true, cond, not, ◌&&◌, ◌||◌, List, [], ◌∷◌, leb, eqb, length, get_or, take, drop}
+use Rattle.std.specs.Prelude.{ℕ, zero, suc, Option, Some, None, ◌+◌, ◌-◌, min, Bool, true, cond, not, ◌&&◌, ◌||◌, List, [], ◌∷◌, leb, eqb, length, get_or, take, drop}
 use Rattle.ascii.specs.Text.{run, onto}
 
 -- CR and LF stand at place i
@@ -14,6 +14,10 @@ ends_at m n = pair_at m (n - 2) && (eqb n 2 || (leb 4 n && pair_at m (n - 4)))
 abbrev pub first_from : (ℕ → Bool) → ℕ → ℕ → ℕ
 first_from f zero i = 0
 first_from f (suc k) i = cond (f i) i (first_from f k (i + 1))
+
+-- a number, of which 0 stands for none
+abbrev pub unless_zero : ℕ → Option ℕ
+unless_zero n = cond (eqb n 0) None (Some n)
 
 -- how long the group is: up to and with the first empty line that ends in the first 4,096 bytes; 0 where there is none
 unfoldable pub group_length : List ℕ → ℕ

@@ -1,10 +1,18 @@
 -- The first line of a group: a greeting or a reply, with its version.
-use Rattle.std.specs.Prelude.{ℕ, ◌+◌, Bool, cond, not, ◌&&◌, ◌||◌, List, [], ◌∷◌, leb, eqb, length, get_or, drop}
+use Rattle.std.specs.Prelude.{ℕ, Option, Some, None, ◌+◌, Bool, cond, not, ◌&&◌, ◌||◌, List, [], ◌∷◌, leb, eqb, length, get_or, drop}
 use Rattle.laws.specs.Tests.{every}
 use Rattle.laws.specs.Text.{codes}
 use Rattle.groups.specs.declared.start.Version.{Version}
-use Rattle.groups.specs.declared.start.Start.{Start}
+use Rattle.groups.specs.declared.start.FirstLine.{FirstLine}
+use Rattle.groups.specs.declared.start.FirstLine.TheVariants.{Greeting, Reply}
 use Rattle.ascii.specs.Text.{starts_with, digit_count, digit_value}
+
+-- what a first line says: its kind is 0 where it is not understood, 1 for a greeting, 2 for a reply
+pub record Start : Type 0 where
+  pub kind : ℕ
+  pub major : ℕ
+  pub minor : ℕ
+  pub code : ℕ
 
 abbrev pub greeting_text : List ℕ
 greeting_text = codes "GNUTELLA CONNECT/"
@@ -38,6 +46,10 @@ version_of s = record {
   minor = digit_value (behind_dot s);
 }
 
+-- a version, of which the length 0 stands for none
+abbrev pub unless_empty : Version → Option Version
+unless_empty v = cond (eqb v.length 0) None (Some v)
+
 -- a space, three digits, and then nothing or a space and any text
 unfoldable pub status_ok : ℕ → ℕ → ℕ → ℕ → Bool
 status_ok space digits size next = every (eqb space 32 ∷ eqb digits 3 ∷ (leb size 4 || eqb next 32) ∷ [])
@@ -45,9 +57,19 @@ status_ok space digits size next = every (eqb space 32 ∷ eqb digits 3 ∷ (leb
 abbrev pub is_status : List ℕ → Bool
 is_status s = status_ok (get_or s 0 0) (digit_count (drop 1 s)) (length s) (get_or s 4 0)
 
+-- the code of a status
+abbrev pub status_in : List ℕ → Option ℕ
+status_in s = cond (is_status s) (Some (digit_value (drop 1 s))) None
+
 -- kind 0: not a first line
 abbrev pub no_start : Start
 no_start = record { kind = 0; major = 0; minor = 0; code = 0 }
+
+-- what was read of a first line, with its kind as a number
+abbrev pub start_by : Option FirstLine → Start
+start_by None = no_start
+start_by (Some (Greeting major minor)) = record { kind = 1; major = major; minor = minor; code = 0 }
+start_by (Some (Reply major minor code)) = record { kind = 2; major = major; minor = minor; code = code }
 
 -- kind 1: a greeting is its version and nothing more
 unfoldable pub greeting_from : Version → ℕ → Start

@@ -3,7 +3,7 @@
 -- these.
 use Rattle.std.specs.Prelude.{ℕ, ◌+◌, ◌-◌, ◌*◌, ◌≤◌, ◌≡◌, ◌↔◌, ◌⊎◌, List, [], ◌∷◌, ◌++◌, length, get_or}
 use Rattle.laws.specs.Text.{codes}
-use Rattle.groups.specs.declared.start.Start.{Start}
+use Rattle.groups.specs.Start.{Start}
 use Rattle.groups.specs.Start.{start_of}
 
 -- a digit: 48 to 57

@@ -1,169 +1,100 @@
 // The first line of a group.
-ghost use Rattle.std.specs.Prelude.{◌≡◌, ◌≤◌};
-ghost use Rattle.groups.specs.Start.{version_length, version_of, status_ok, is_status, no_start, greeting_from};
-ghost use Rattle.groups.specs.Start.{reply_from, greeting_of, reply_of, start_of};
+ghost use Rattle.std.specs.Prelude.{◌≡◌, ◌+◌, cond};
+ghost use Rattle.groups.specs.Start.{version_length, version_of, unless_empty, status_in, greeting_of, reply_of};
+ghost use Rattle.groups.specs.Start.{start_of, start_by};
 
-use ascii::{after, byte_at, leading_number, starts_with};
+use ascii::{Decimal, after, byte_at, leading_number, starts_with};
 
-// A version at the front of a text: how long it is, 0 where there is none, and its two numbers.
-#[derive(Clone, Copy)]
+// A version at the front of a text: how long it is, and its two numbers.
+#[derive(Clone, Copy, Debug, PartialEq, Eq)]
 pub struct Version {
     pub length: usize,
     pub major: u32,
     pub minor: u32,
 }
 
-// What a first line says: its kind is 0 where it is not understood, 1 for a greeting, 2 for a reply.
-#[repr(C)]
-#[derive(Clone, Copy)]
-pub struct Start {
-    pub kind: u8,
-    pub major: u32,
-    pub minor: u32,
-    pub code: u32,
+// What a first line that is understood says: the two numbers of its version, and the code of a reply.
+#[derive(Clone, Copy, Debug, PartialEq, Eq)]
+pub enum FirstLine {
+    Greeting { major: u32, minor: u32 },
+    Reply { major: u32, minor: u32, code: u32 },
 }
 
-// How long a version is, by its digits before and behind the dot and its numbers: 0 where it is none or below 0.6.
-fn version_length(before: usize, dot: u8, behind: usize, major: u32, minor: u32) -> usize
-    ensures { result ≡ version_length before dot behind major minor }
+// One to three digits on each side of a dot, and numbers of 0.6 or above.
+#[tactic(auto, unfolding(crate::specs::Start::version_length))]
+fn is_version(a: Decimal, dot: u8, b: Decimal) -> bool
+    ensures { version_length a.count dot b.count a.value b.value ≡ cond result (a.count + 1 + b.count) 0 }
 {
-    if before < 1 {
-        return 0;
-    }
-    if before > 3 {
-        return 0;
-    }
-    if dot != b'.' {
-        return 0;
-    }
-    if behind < 1 {
-        return 0;
-    }
-    if behind > 3 {
-        return 0;
-    }
-    if major >= 1 {
-        return before + 1 + behind;
-    }
-    if minor < 6 {
-        return 0;
-    }
-    before + 1 + behind
+    matches!(a.count, 1..=3)
+        && dot == b'.'
+        && matches!(b.count, 1..=3)
+        && (a.value >= 1 || b.value >= 6)
 }
 
-fn read_version(s: &[u8]) -> Version
-    ensures { result ≡ version_of s.now }
+fn read_version(s: &[u8]) -> Option<Version>
+    ensures { result ≡ unless_empty (version_of s.now) }
 {
     let a = leading_number(s);
-    let n = a.count;
-    let dot = byte_at(s, n);
-    let b = leading_number(after(s, n + 1));
-    Version {
-        length: version_length(n, dot, b.count, a.value, b.value),
+    let b = leading_number(after(s, a.count + 1));
+    if !is_version(a, byte_at(s, a.count), b) {
+        return None;
+    }
+    Some(Version {
+        length: a.count + 1 + b.count,
         major: a.value,
         minor: b.value,
-    }
+    })
 }
 
-// A space, three digits, and then nothing or a space and any text.
-fn status_ok(space: u8, digits: usize, length: usize, next: u8) -> bool
-    ensures { result ≡ status_ok space digits length next }
+// The code of a status: a space, three digits, and then nothing or a space and any text.
+#[tactic(auto, unfolding(crate::specs::Start::status_ok))]
+fn read_status(s: &[u8]) -> Option<u32>
+    ensures { result ≡ status_in s.now }
 {
-    if space != b' ' {
-        return false;
-    }
-    if digits != 3 {
-        return false;
-    }
-    if length <= 4 {
-        return true;
-    }
-    if next == b' ' {
-        return true;
-    }
-    false
+    let code = leading_number(after(s, 1));
+    let good = byte_at(s, 0) == b' ' && code.count == 3 && (s.len() <= 4 || byte_at(s, 4) == b' ');
+    good.then_some(code.value)
 }
 
-fn is_status(s: &[u8]) -> bool
-    ensures { result ≡ is_status s.now }
+// What stands behind `GNUTELLA CONNECT/`: a version and nothing more.
+#[tactic(auto, unfolding(crate::specs::Start::greeting_from))]
+fn read_greeting(s: &[u8]) -> Option<FirstLine>
+    ensures { start_by result ≡ greeting_of s.now }
 {
-    let d = leading_number(after(s, 1));
-    status_ok(byte_at(s, 0), d.count, s.len(), byte_at(s, 4))
-}
-
-fn no_start() -> Start
-    ensures { result ≡ no_start }
-{
-    Start {
-        kind: 0,
-        major: 0,
-        minor: 0,
-        code: 0,
+    let v = read_version(s)?;
+    if v.length != s.len() {
+        return None;
     }
-}
-
-// A greeting is a version and nothing more.
-fn greeting_from(v: Version, length: usize) -> Start
-    ensures { result ≡ greeting_from v length }
-{
-    if v.length == 0 {
-        return no_start();
-    }
-    if v.length != length {
-        return no_start();
-    }
-    Start {
-        kind: 1,
+    Some(FirstLine::Greeting {
         major: v.major,
         minor: v.minor,
-        code: 0,
-    }
+    })
 }
 
-// A reply has a status behind its version.
-fn reply_from(v: Version, ok: bool, code: u32) -> Start
-    ensures { result ≡ reply_from v ok code }
+// What stands behind `GNUTELLA/`: a version with a status behind it.
+#[tactic(auto, unfolding(crate::specs::Start::reply_from))]
+fn read_reply(s: &[u8]) -> Option<FirstLine>
+    ensures { start_by result ≡ reply_of s.now }
 {
-    if v.length == 0 {
-        return no_start();
-    }
-    if ok {
-        return Start {
-            kind: 2,
-            major: v.major,
-            minor: v.minor,
-            code,
-        };
-    }
-    no_start()
+    let v = read_version(s)?;
+    let code = read_status(after(s, v.length))?;
+    Some(FirstLine::Reply {
+        major: v.major,
+        minor: v.minor,
+        code,
+    })
 }
 
-// What stands behind `GNUTELLA CONNECT/`.
-fn read_greeting(s: &[u8]) -> Start
-    ensures { result ≡ greeting_of s.now }
-{
-    greeting_from(read_version(s), s.len())
-}
-
-// What stands behind `GNUTELLA/`.
-fn read_reply(s: &[u8]) -> Start
-    ensures { result ≡ reply_of s.now }
-{
-    let v = read_version(s);
-    let n = v.length;
-    let t = after(s, n);
-    let d = leading_number(after(t, 1));
-    reply_from(v, is_status(t), d.value)
-}
-
-pub fn read_start(line: &[u8]) -> Start
-    ensures { result ≡ start_of line.now }
+// The first line is a greeting or a reply.
+#[tactic(auto, unfolding(crate::specs::Start::start_of))]
+pub fn read_start(line: &[u8]) -> Option<FirstLine>
+    ensures { start_by result ≡ start_of line.now }
 {
     if starts_with(line, b"GNUTELLA CONNECT/") {
-        return read_greeting(after(line, 17));
+        read_greeting(after(line, 17))
+    } else if starts_with(line, b"GNUTELLA/") {
+        read_reply(after(line, 9))
+    } else {
+        None
     }
-    if starts_with(line, b"GNUTELLA/") {
-        return read_reply(after(line, 9));
-    }
-    no_start()
 }

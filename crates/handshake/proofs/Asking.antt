@@ -6,12 +6,13 @@ use mathlib.Core.List.{List, [], ◌∷◌}
 use native.Mathlib.Omega.{arith}
 use lib.Dec.{eqb}
 use lib.ListN.{length, take}
-use borrow.Author.Tests.{eqb-false, le-ltb}
+use borrow.Author.Tests.{eqb-true, eqb-false, le-ltb}
 use Rattle.laws.specs.Tests.{first_of, all}
 use Rattle.laws.specs.Parts.{over}
 use Rattle.laws.proofs.Over.{over-length, over-front}
 use Rattle.groups.specs.Lines.{group_length}
-use Rattle.fields.specs.Fields.{is_none, comma_between, fields_of, values_of, is_absent, value_for}
+use Rattle.fields.specs.Fields.{is_absent}
+use Rattle.fields.proofs.FieldLaws.{absent-value}
 use Rattle.xtry.specs.Pairs.{items_of, good_pair, pairs_from, pairs_of, read_answer, tried_of}
 use Rattle.xtry.proofs.Items.{no_items}
 use Rattle.handshake.specs.Group.{understood, read_number, fields_in, asked_from, asked_number, asked_with, ask_field}
@@ -20,18 +21,12 @@ use Rattle.handshake.specs.Groups.{try_name}
 use Rattle.handshake.specs.Tried.{try_value, group_answer, group_tried, tried_number}
 use Rattle.handshake.specs.declared.Asked.{Asked}
 use Rattle.handshake.proofs.Behind.{value-most}
-use Rattle.handshake.proofs.Order.{not-ten}
+use Rattle.std.proofs.Common.{Option, Some, None, unwrap_or}
+use Rattle.answer.specs.declared.Refusal.{Refusal}
+use Rattle.answer.specs.Numbers.{number_of}
+use Rattle.handshake.specs.Group.{asked_for}
+use Rattle.handshake.proofs.Order.{not-ten, read_answer as group-answer, read_whole}
 use Rattle.handshake.proofs.HostsBehind.{refused-hosts}
-
--- ---- an absent field has no value
-
-none-value : (vs : List (List ℕ)) → is_none vs ≡ true → comma_between vs ≡ []
-none-value [] h = refl
-none-value (v ∷ vs) h = let z : ◌≡◌ {A = ℕ} 0 1 = cc in absurd (omega arith)
-
-absent-value : (name : List ℕ) (ls : List (List ℕ)) → is_absent name ls ≡ true → value_for name ls ≡ []
-unfolding is_absent value_for
-absent-value name ls h = none-value (values_of name (fields_of ls)) h
 
 none_tried : tried_of [] ≡ record { answer = 0; pairs = pairs_from [] }
 unfolding tried_of read_answer pairs_of
@@ -105,3 +100,36 @@ module _ (m area : List ℕ) (z : length area ≡ 4096) where
   pub ask-gives : (a : Asked) (o : List ℕ) → a ≡ ask_field m try_name (length area) → o ≡ asked_out m try_name area
       → Gives a o
   ask-gives a o e f = rw (e, f) (gives (eqb (read_number m) 0) (is_absent try_name (fields_in m n)) refl refl)
+
+  -- a refusal of asking is one of reading, and the hosts are refused alike
+  pub refused_asked : (refusal : Refusal)
+      → record { answer = number_of refusal; used = 0; written = 0 } ≡ ask_field m try_name (length area)
+      → record { answer = number_of refusal; used = 0; pairs = pairs_from [] } ≡ group_tried m
+  unfolding asked_with
+  refused_asked refusal e = go (eqb (read_number m) 0) (is_absent try_name (fields_in m n)) refl refl e
+    where
+      some : eqb (read_number m) 0 ≡ true → n ≡ 0 → ⊥
+      some t z = let w = read_whole m (group-answer m ∙ eqb-true (read_number m) 0 t) in omega arith
+
+      go : (t u : Bool) → eqb (read_number m) 0 ≡ t → is_absent try_name (fields_in m n) ≡ u
+          → ◌≡◌ {A = Asked} (record { answer = number_of refusal; used = 0; written = 0 }) (asked_with number n (length value))
+          → record { answer = number_of refusal; used = 0; pairs = pairs_from [] } ≡ group_tried m
+      go true false a b k =
+          absurd (some a (sym (ap (λ (x : Asked). x.used) (rw (number_is true false a b) at k))))
+      go true true a b k = absurd (some a (sym (ap (λ (x : Asked). x.used) (rw (number_is true true a b) at k))))
+      go false u a b k =
+          let q = rw (number_is false u a b, a, not-ten n (length m) (understood m n)) at k in
+          rw (ap (λ (x : Asked). x.answer) q) (sym (refused-hosts m (eqb-false (read_number m) 0 a)))
+
+-- what was asked for, as a result of reading
+pub asked-written : (used : ℕ) (written : Option ℕ) → (asked_for used written).written ≡ unwrap_or written 0
+asked-written used (Some n) = refl
+asked-written used None = refl
+
+pub asked-used : (used : ℕ) (written : Option ℕ) → (asked_for used written).used ≡ used
+asked-used used (Some n) = refl
+asked-used used None = refl
+
+pub asked-tried : (used tried : ℕ) (written : Option ℕ) → tried_number (asked_for used written).answer tried ≡ tried
+asked-tried used tried (Some n) = refl
+asked-tried used tried None = refl

@@ -13,7 +13,7 @@ use Rattle.laws.proofs.Refusals.{and_fst, and_snd, no-refusal}
 use Rattle.ascii.specs.Text.{is_digit, is_text, is_blank, leading, lower, compared, digit_of, digit_value, pieces, filled}
 use Rattle.groups.specs.Lines.{ends_at, group_length, lines_of, first_line, other_lines}
 use Rattle.groups.specs.Start.{version_length, status_ok, greeting_from, reply_from, start_of}
-use Rattle.groups.specs.declared.start.Start.{Start}
+use Rattle.groups.specs.Start.{Start}
 use Rattle.groups.proofs.Rows.{rows, is_line, lines_rows, ends_there}
 use Rattle.fields.specs.Fields.{lines_ok, is_absent, value_for}
 use Rattle.xtry.specs.Pairs.{comma, dot, bare, items_of, good_pair, pair_in, pairs_from, pairs_of}

@@ -1,13 +1,17 @@
 -- A group read, and a field asked for: what is handed back, with the refusals in their order.
-use Rattle.std.specs.Prelude.{ℕ, ◌-◌, Bool, false, cond, not, ◌&&◌, ◌||◌, List, [], ◌∷◌, leb, ltb, eqb, length, take}
+use Rattle.std.specs.Prelude.{ℕ, Option, Some, None, Result, Ok, Err, ◌≡◌, ◌-◌, true, Bool, false, cond, not, ◌&&◌, ◌||◌, List, [], ◌∷◌, leb, ltb, eqb, length, take}
 use Rattle.laws.specs.Tests.{first_of, all}
 use Rattle.laws.specs.Parts.{over}
-use Rattle.groups.specs.declared.start.Start.{Start}
+use Rattle.answer.specs.declared.Refusal.{Refusal}
+use Rattle.answer.specs.Numbers.{number_of}
+use Rattle.handshake.specs.declared.Opening.{Opening}
+use Rattle.handshake.specs.declared.GroupRead.{GroupRead}
+use Rattle.handshake.specs.declared.FieldRead.{FieldRead}
 use Rattle.handshake.specs.declared.Group.{Group}
 use Rattle.handshake.specs.declared.Asked.{Asked}
 use Rattle.ascii.specs.Text.{is_text}
 use Rattle.groups.specs.Lines.{group_length, lines_of, first_line, other_lines}
-use Rattle.groups.specs.Start.{start_of}
+use Rattle.groups.specs.Start.{Start, start_by, start_of}
 use Rattle.fields.specs.Fields.{lines_ok, is_absent, value_for}
 
 -- ---- of the first n bytes, a group
@@ -55,6 +59,30 @@ group_from a n s =
 abbrev pub read_group : List ℕ → Group
 read_group m = group_from (read_number m) (group_length m) (start_in m (group_length m))
 
+-- what was read, as a group
+abbrev pub group_by : Result GroupRead Refusal → Group
+group_by (Ok r) = record {
+  answer = 0;
+  used = r.used;
+  kind = (start_by (Some r.start)).kind;
+  major = (start_by (Some r.start)).major;
+  minor = (start_by (Some r.start)).minor;
+  code = (start_by (Some r.start)).code;
+}
+group_by (Err refusal) = refused_group (number_of refusal)
+
+-- a group whose first line is understood, at the front of the bytes
+pub record Opened (m : List ℕ) (group : Opening) : Type 0 where
+  pub length : group.used ≡ group_length m
+  pub first : is_start (first_line (lines_in m group.used)) (start_in m group.used).kind ≡ true
+  pub start : start_by (Some group.start) ≡ start_in m group.used
+  pub fields : lines_of group.fields.now ≡ fields_in m group.used
+
+-- or the refusal where there is none
+pub record NotOpened (m : List ℕ) (refusal : Refusal) : Type 0 where
+  pub number : number_of refusal ≡ group_number (group_length m) (length m) false
+  pub not-understood : understood m (group_length m) ≡ false
+
 -- ---- asking for a field
 
 -- the value of the name
@@ -78,6 +106,15 @@ asked_with a n long = record { answer = a; used = cond (eqb a 0 || eqb a 10) n 0
 
 abbrev pub ask_field : List ℕ → List ℕ → ℕ → Asked
 ask_field m name room = asked_with (asked_number m name room) (group_length m) (length (value_in m name))
+
+-- what was read, as what was asked for: 10 where no field has the name
+abbrev pub asked_for : ℕ → Option ℕ → Asked
+asked_for used (Some long) = record { answer = 0; used = used; written = long }
+asked_for used None = record { answer = 10; used = used; written = 0 }
+
+abbrev pub asked_by : Result FieldRead Refusal → Asked
+asked_by (Ok r) = asked_for r.used r.written
+asked_by (Err refusal) = record { answer = number_of refusal; used = 0; written = 0 }
 
 -- the area afterwards: the value at its front, and as it was where the answer is not 0
 abbrev pub asked_out : List ℕ → List ℕ → List ℕ → List ℕ

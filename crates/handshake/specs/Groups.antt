@@ -1,5 +1,5 @@
 -- The three groups that the station writes (RULES 15.13, 15.14).
-use Rattle.std.specs.Prelude.{ℕ, cond, not, List, [], ◌∷◌, ◌++◌, eqb, ltb, length}
+use Rattle.std.specs.Prelude.{ℕ, Result, Ok, Err, cond, not, List, [], ◌∷◌, ◌++◌, eqb, ltb, length}
 use Rattle.laws.specs.Tests.{first_of}
 use Rattle.laws.specs.Text.{codes}
 use Rattle.laws.specs.Parts.{over}
@@ -7,6 +7,8 @@ use Rattle.xtry.specs.Writing.{pairs_text, pairs_in, can_write, led}
 use Rattle.xtry.specs.Pairs.{space}
 use Rattle.xtry.specs.declared.Pair.{Pair}
 use Rattle.xtry.specs.declared.Pairs.{Pairs}
+use Rattle.answer.specs.declared.Refusal.{Refusal}
+use Rattle.answer.specs.Numbers.{number_of}
 use Rattle.handshake.specs.declared.Wrote.{Wrote}
 
 abbrev pub crlf : List ℕ
@@ -60,6 +62,11 @@ busy_answer room pairs =
 -- the result, by the answer's number: a refusal writes nothing
 unfoldable pub wrote_of : ℕ → List ℕ → Wrote
 wrote_of answer text = record { answer = answer; written = cond (eqb answer 0) (length text) 0 }
+
+-- what was written, as a result
+abbrev pub wrote_by : Result ℕ Refusal → Wrote
+wrote_by (Ok n) = record { answer = 0; written = n }
+wrote_by (Err refusal) = record { answer = number_of refusal; written = 0 }
 
 -- the area afterwards: the text at its front, and all of it as it was after a refusal
 unfoldable pub area_of : ℕ → List ℕ → List ℕ → List ℕ

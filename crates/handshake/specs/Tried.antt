@@ -1,11 +1,14 @@
 -- The hosts to try that a group lists.
-use Rattle.std.specs.Prelude.{ℕ, Bool, cond, not, ◌||◌, List, [], ◌∷◌, eqb}
+use Rattle.std.specs.Prelude.{ℕ, Result, Ok, Err, Bool, cond, not, ◌||◌, List, [], ◌∷◌, eqb}
 use Rattle.laws.specs.Tests.{first_of, all}
 use Rattle.groups.specs.Lines.{group_length}
 use Rattle.handshake.specs.Group.{read_number, value_in}
-use Rattle.xtry.specs.Pairs.{items_of, good_pair, pairs_from, pairs_of}
+use Rattle.xtry.specs.Pairs.{items_of, good_pair, pairs_from, pairs_of, tried_by}
 use Rattle.handshake.specs.Groups.{try_name}
+use Rattle.answer.specs.declared.Refusal.{Refusal}
+use Rattle.answer.specs.Numbers.{number_of}
 use Rattle.handshake.specs.declared.TriedGroup.{TriedGroup}
+use Rattle.handshake.specs.declared.hosts.HostsRead.{HostsRead}
 
 -- the value of X-Try: empty where the group has no such field, so that there are no pairs then
 abbrev pub try_value : List ℕ → List ℕ
@@ -26,6 +29,11 @@ group_tried m =
       used = cond (eqb (group_answer m) 0 || eqb (group_answer m) 6) (group_length m) 0;
       pairs = pairs_from (cond (eqb (group_answer m) 0) (pairs_of (try_value m)) []);
     }
+
+-- what was read, as what was tried
+abbrev pub hosts_by : Result HostsRead Refusal → TriedGroup
+hosts_by (Ok r) = record { answer = (tried_by r.pairs).answer; used = r.used; pairs = (tried_by r.pairs).pairs }
+hosts_by (Err refusal) = record { answer = number_of refusal; used = 0; pairs = pairs_from [] }
 
 -- the answer, by those to asking for the field and to reading its value: an absent field counts as an empty one
 abbrev pub tried_number : ℕ → ℕ → ℕ

@@ -5,19 +5,17 @@
 pub mod hosts;
 pub mod write;
 
-ghost use Rattle.std.specs.Prelude.{◌≡◌, false, not, ◌&&◌, ◌-◌, length, take};
-ghost use Rattle.groups.specs.Lines.{lines_of};
-ghost use Rattle.fields.specs.Fields.{lines_ok};
-ghost use Rattle.handshake.specs.Group.{is_start, group_number, refused_group, group_from, read_group, asked_from};
-ghost use Rattle.handshake.specs.Group.{asked_with, ask_field, asked_out};
+ghost use Rattle.std.specs.Prelude.{◌≡◌, length, IfOk, IfErr};
+ghost use Rattle.handshake.specs.Group.{Opened, NotOpened, group_by, read_group, asked_by, ask_field, asked_out};
 
+use answer::Refusal;
 use ascii::{TEXT, after, front, leading};
 use fields::{find, write_value};
 use groups::lines::{group_length, line_at};
-use groups::start::{Start, read_start};
+use groups::start::{FirstLine, read_start};
 use xtry::Pairs;
 
-// The kinds of a group that is understood.
+// The kinds of a group that is understood, as a `Group` has them.
 pub const GREETING: u8 = 1;
 
 pub const REPLY: u8 = 2;
@@ -64,146 +62,145 @@ pub struct Wrote {
     pub written: usize,
 }
 
-// The lines of a group of n bytes, without the empty one.
-fn lines_part(m: &[u8], n: usize) -> &[u8]
-    ensures { result.now ≡ take (n - 2) m.now }
-{
-    if n < 2 { front(m, 0) } else { front(m, n - 2) }
+// A group that was understood: its length, and what its first line says.
+#[derive(Clone, Copy, Debug, PartialEq, Eq)]
+pub struct GroupRead {
+    pub used: usize,
+    pub start: FirstLine,
 }
 
-// The first line is of this kind, and of text.
-fn is_start(first: &[u8], kind: u8) -> bool
-    ensures { result ≡ is_start first.now kind }
-{
-    if leading(first, TEXT) != first.len() {
-        return false;
-    }
-    kind != 0
+// A group that was understood and asked for a field: its length, and that of the value, where one of its fields has
+// the name.
+#[derive(Clone, Copy, Debug, PartialEq, Eq)]
+pub struct FieldRead {
+    pub used: usize,
+    pub written: Option<usize>,
 }
 
-// Whether all lines are understood: the first, of this kind, and those behind it. No field is asked for here: none has
-// an empty name.
-fn is_understood(first: &[u8], kind: u8, fields: &[u8]) -> bool
-    ensures { result ≡ (is_start first.now kind && lines_ok false (lines_of fields.now)) }
-{
-    if is_start(first, kind) {
-        return find(fields, b"").good;
-    }
-    false
-}
+impl From<Result<GroupRead, Refusal>> for Group {
+    ghost from_gives = { λ read group. group ≡ group_by read };
 
-// What reading a group of n bytes is refused with, or 0; n is 0 where no end was found.
-fn group_number(n: usize, size: usize, ok: bool) -> u8
-    ensures { result ≡ group_number n size ok }
-{
-    if n == 0 {
-        if size >= 4096 {
-            return 18;
+    fn from(read: Result<GroupRead, Refusal>) -> Group {
+        match read {
+            Ok(GroupRead { used, start }) => match start {
+                FirstLine::Greeting { major, minor } => Group {
+                    answer: 0,
+                    used,
+                    kind: GREETING,
+                    major,
+                    minor,
+                    code: 0,
+                },
+                FirstLine::Reply { major, minor, code } => Group {
+                    answer: 0,
+                    used,
+                    kind: REPLY,
+                    major,
+                    minor,
+                    code,
+                },
+            },
+            Err(refusal) => Group {
+                answer: u8::from(refusal),
+                used: 0,
+                kind: 0,
+                major: 0,
+                minor: 0,
+                code: 0,
+            },
         }
-        return 4;
-    }
-    if ok { 0 } else { 17 }
-}
-
-fn refused_group(answer: u8) -> Group
-    ensures { result ≡ refused_group answer }
-{
-    Group {
-        answer,
-        used: 0,
-        kind: 0,
-        major: 0,
-        minor: 0,
-        code: 0,
     }
 }
 
-fn group_from(answer: u8, n: usize, s: Start) -> Group
-    ensures { result ≡ group_from answer n s }
-{
-    if answer == 0 {
-        return Group {
-            answer: 0,
-            used: n,
-            kind: s.kind,
-            major: s.major,
-            minor: s.minor,
-            code: s.code,
-        };
+impl From<Result<FieldRead, Refusal>> for Asked {
+    ghost from_gives = { λ read asked. asked ≡ asked_by read };
+
+    fn from(read: Result<FieldRead, Refusal>) -> Asked {
+        match read {
+            Ok(FieldRead { used, written }) => match written {
+                Some(written) => Asked {
+                    answer: 0,
+                    used,
+                    written,
+                },
+                None => Asked {
+                    answer: u8::from(Refusal::NotFound),
+                    used,
+                    written: 0,
+                },
+            },
+            Err(refusal) => Asked {
+                answer: u8::from(refusal),
+                used: 0,
+                written: 0,
+            },
+        }
     }
-    refused_group(answer)
 }
 
-// Reads the group at the front of the bytes.
-pub fn read_group(bytes: &[u8]) -> Group
-    ensures { result ≡ read_group bytes.now }
+// A group whose first line is understood: its length, what that line says, and what stands behind it.
+#[derive(Clone, Copy)]
+struct Opening<'a> {
+    used: usize,
+    start: FirstLine,
+    fields: &'a [u8],
+}
+
+// The first line of the group at the front of the bytes.
+fn open_group(bytes: &[u8]) -> Result<Opening<'_>, Refusal>
+    ensures opened { IfOk result (λ group. Opened bytes.now group) }
+    ensures refused { IfErr result (λ refusal. NotOpened bytes.now refusal) }
 {
-    let n = group_length(bytes);
-    let lines = lines_part(bytes, n);
+    let Some(used) = group_length(bytes) else {
+        return Err(if bytes.len() < 4096 {
+            Refusal::NotWhole
+        } else {
+            Refusal::NoGroupEnd
+        });
+    };
+    let lines = front(bytes, used - 2);
     let first = line_at(lines, 0);
-    let start = read_start(first);
-    let fields = after(lines, first.len() + 2);
-    let ok = is_understood(first, start.kind, fields);
-    group_from(group_number(n, bytes.len(), ok), n, start)
+    if leading(first, TEXT) != first.len() {
+        return Err(Refusal::BadHandshake);
+    }
+    let Some(start) = read_start(first) else {
+        return Err(Refusal::BadHandshake);
+    };
+    Ok(Opening {
+        used,
+        start,
+        fields: after(lines, first.len() + 2),
+    })
 }
 
-// What asking is refused with, or 0: what reading is, then 10 for an absent name, and 2 for a short area.
-fn asked_number(read: u8, there: bool, long: usize, room: usize) -> u8
-    ensures { result ≡ asked_from read (not there) long room }
+// Reads the group at the front of the bytes. No field is asked for: none has an empty name.
+pub fn read_group(bytes: &[u8]) -> Result<GroupRead, Refusal>
+    ensures { group_by result ≡ read_group bytes.now }
 {
-    if read != 0 {
-        return read;
-    }
-    if there {
-        if room < long {
-            return 2;
-        }
-        return 0;
-    }
-    10
-}
-
-fn asked_with(answer: u8, n: usize, long: usize) -> Asked
-    ensures { result ≡ asked_with answer n long }
-{
-    if answer == 0 {
-        return Asked {
-            answer,
-            used: n,
-            written: long,
-        };
-    }
-    if answer == 10 {
-        return Asked {
-            answer,
-            used: n,
-            written: 0,
-        };
-    }
-    Asked {
-        answer,
-        used: 0,
-        written: 0,
-    }
+    let group = open_group(bytes)?;
+    find(group.fields, b"")?;
+    Ok(GroupRead {
+        used: group.used,
+        start: group.start,
+    })
 }
 
 // Writes the value of a name to the front of `out`: all values of the name in the group at the front of the bytes, with
-// commas between them. `out` stays as it is where the answer is not 0.
-pub fn field(bytes: &[u8], name: &[u8], out: &mut [u8]) -> Asked
-    ensures value { result ≡ ask_field bytes.now name.now (length out.old) }
+// commas between them. `out` stays as it is where no field has the name, and after a refusal.
+pub fn field(bytes: &[u8], name: &[u8], out: &mut [u8]) -> Result<FieldRead, Refusal>
+    ensures value { asked_by result ≡ ask_field bytes.now name.now (length out.old) }
     ensures out_after { out.new ≡ asked_out bytes.now name.now out.old }
 {
-    let n = group_length(bytes);
-    let lines = lines_part(bytes, n);
-    let first = line_at(lines, 0);
-    let start = read_start(first);
-    let fields = after(lines, first.len() + 2);
-    if is_start(first, start.kind) {
-        let room = out.len();
-        let found = write_value(fields, name, out);
-        let long = found.length;
-        let read = group_number(n, bytes.len(), found.good);
-        return asked_with(asked_number(read, found.there, long, room), n, long);
+    let group = open_group(bytes)?;
+    let room = out.len();
+    let found = write_value(group.fields, name, out)?;
+    if let Some(length) = found {
+        if room < length {
+            return Err(Refusal::BadArea);
+        }
     }
-    asked_with(group_number(n, bytes.len(), false), n, 0)
+    Ok(FieldRead {
+        used: group.used,
+        written: found,
+    })
 }

@@ -3,39 +3,51 @@ ghost use Rattle.std.specs.Prelude.{◌≡◌, ◌≤◌, length};
 ghost use Rattle.laws.specs.Parts.{over};
 ghost use Rattle.xtry.specs.Writing.{pairs_in};
 ghost use Rattle.handshake.specs.Groups.{greeting_bytes, ok_bytes, busy_bytes, named_bytes, text_answer, busy_answer};
-ghost use Rattle.handshake.specs.Groups.{wrote_of, area_of};
+ghost use Rattle.handshake.specs.Groups.{wrote_by, wrote_of, area_of};
 
 use crate::Wrote;
+use answer::Refusal;
 use xtry::Pairs;
 use xtry::write::{can_write, write_pairs};
 
-// A text that is written whole, or not at all.
-fn put_whole(text: &[u8], out: &mut [u8]) -> Wrote
-    ensures value { result ≡ wrote_of (text_answer (length out.old) text.now) text.now }
+impl From<Result<usize, Refusal>> for Wrote {
+    ghost from_gives = { λ written wrote. wrote ≡ wrote_by written };
+
+    fn from(written: Result<usize, Refusal>) -> Wrote {
+        match written {
+            Ok(written) => Wrote { answer: 0, written },
+            Err(refusal) => Wrote {
+                answer: u8::from(refusal),
+                written: 0,
+            },
+        }
+    }
+}
+
+// A text that is written whole, or not at all. What is handed back, here and below, is how many bytes were written.
+fn put_whole(text: &[u8], out: &mut [u8]) -> Result<usize, Refusal>
+    ensures value { wrote_by result ≡ wrote_of (text_answer (length out.old) text.now) text.now }
     ensures out_after { out.new ≡ area_of (text_answer (length out.old) text.now) text.now out.old }
 {
-    if out.len() < text.len() {
-        return Wrote {
-            answer: 2,
-            written: 0,
-        };
-    }
     let written = text.len();
+    if out.len() < written {
+        return Err(Refusal::BadArea);
+    }
     out[..written].copy_from_slice(text);
-    Wrote { answer: 0, written }
+    Ok(written)
 }
 
 // The station's greeting.
-pub fn write_greeting(out: &mut [u8]) -> Wrote
-    ensures value { result ≡ wrote_of (text_answer (length out.old) greeting_bytes) greeting_bytes }
+pub fn write_greeting(out: &mut [u8]) -> Result<usize, Refusal>
+    ensures value { wrote_by result ≡ wrote_of (text_answer (length out.old) greeting_bytes) greeting_bytes }
     ensures out_after { out.new ≡ area_of (text_answer (length out.old) greeting_bytes) greeting_bytes out.old }
 {
     put_whole(b"GNUTELLA CONNECT/0.6\r\n\r\n", out)
 }
 
 // The reply that takes a connection.
-pub fn write_ok(out: &mut [u8]) -> Wrote
-    ensures value { result ≡ wrote_of (text_answer (length out.old) ok_bytes) ok_bytes }
+pub fn write_ok(out: &mut [u8]) -> Result<usize, Refusal>
+    ensures value { wrote_by result ≡ wrote_of (text_answer (length out.old) ok_bytes) ok_bytes }
     ensures out_after { out.new ≡ area_of (text_answer (length out.old) ok_bytes) ok_bytes out.old }
 {
     put_whole(b"GNUTELLA/0.6 200 OK\r\n\r\n", out)
@@ -55,15 +67,12 @@ fn put_busy(pairs: Pairs, out: &mut [u8]) -> usize
 }
 
 // The reply that refuses a connection, with hosts to try instead.
-pub fn write_busy(pairs: Pairs, out: &mut [u8]) -> Wrote
-    ensures value { result ≡ wrote_of (busy_answer (length out.old) pairs) (busy_bytes (pairs_in pairs)) }
+pub fn write_busy(pairs: Pairs, out: &mut [u8]) -> Result<usize, Refusal>
+    ensures value { wrote_by result ≡ wrote_of (busy_answer (length out.old) pairs) (busy_bytes (pairs_in pairs)) }
     ensures out_after { out.new ≡ area_of (busy_answer (length out.old) pairs) (busy_bytes (pairs_in pairs)) out.old }
 {
     if !can_write(pairs) {
-        return Wrote {
-            answer: 6,
-            written: 0,
-        };
+        return Err(Refusal::BadPayload);
     }
     if pairs.count == 0 {
         return put_whole(b"GNUTELLA/0.6 503 Busy\r\n\r\n", out);

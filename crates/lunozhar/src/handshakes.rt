@@ -12,7 +12,7 @@ use xtry::Pairs;
 pub fn lunozhar_read_group(bytes: &[u8]) -> Group
     ensures { result ≡ read_group bytes.now }
 {
-    handshake::read_group(bytes)
+    Group::from(handshake::read_group(bytes))
 }
 
 // The joined value of a group's field, written to the area.
@@ -20,14 +20,14 @@ pub fn lunozhar_read_field(bytes: &[u8], name: &[u8], value: &mut [u8]) -> Asked
     ensures result { result ≡ ask_field bytes.now name.now (length value.old) }
     ensures output { value.new ≡ asked_out bytes.now name.now value.old }
 {
-    handshake::field(bytes, name, value)
+    Asked::from(handshake::field(bytes, name, value))
 }
 
 // The X-Try pairs of a group.
 pub fn lunozhar_read_hosts(bytes: &[u8]) -> TriedGroup
     ensures { result ≡ group_tried bytes.now }
 {
-    handshake::hosts::try_pairs(bytes)
+    TriedGroup::from(handshake::hosts::try_pairs(bytes))
 }
 
 // The greeting.
@@ -35,7 +35,7 @@ pub fn lunozhar_write_greeting(out: &mut [u8]) -> Wrote
     ensures result { result ≡ wrote_of (text_answer (length out.old) greeting_bytes) greeting_bytes }
     ensures output { out.new ≡ area_of (text_answer (length out.old) greeting_bytes) greeting_bytes out.old }
 {
-    handshake::write::write_greeting(out)
+    Wrote::from(handshake::write::write_greeting(out))
 }
 
 // The reply that accepts.
@@ -43,7 +43,7 @@ pub fn lunozhar_write_ok(out: &mut [u8]) -> Wrote
     ensures result { result ≡ wrote_of (text_answer (length out.old) ok_bytes) ok_bytes }
     ensures output { out.new ≡ area_of (text_answer (length out.old) ok_bytes) ok_bytes out.old }
 {
-    handshake::write::write_ok(out)
+    Wrote::from(handshake::write::write_ok(out))
 }
 
 // The reply that refuses, with pairs to try.
@@ -51,5 +51,5 @@ pub fn lunozhar_write_busy(pairs: Pairs, out: &mut [u8]) -> Wrote
     ensures result { result ≡ wrote_of (busy_answer (length out.old) pairs) (busy_bytes (pairs_in pairs)) }
     ensures output { out.new ≡ area_of (busy_answer (length out.old) pairs) (busy_bytes (pairs_in pairs)) out.old }
 {
-    handshake::write::write_busy(pairs, out)
+    Wrote::from(handshake::write::write_busy(pairs, out))
 }

@@ -1,7 +1,7 @@
 // `group LABEL BYTES`, `field LABEL NAME AREA BYTES`, `try LABEL BYTES` and `written LABEL WHAT AREA PAIRS`: every use
 // of the handshake's crates.
 use crate::print;
-use handshake::{Asked, Group, Wrote};
+use handshake::{Asked, Group, TriedGroup, Wrote};
 use rows::words;
 use std::io;
 use xtry::{Pair, Pairs};
@@ -16,15 +16,15 @@ fn group_words(rt: &impl Print, g: Group) -> io::Result<()> {
 }
 
 fn group(rt: &impl Print, row: &[u8]) -> io::Result<()> {
-    group_words(rt, handshake::read_group(rows::word(row, 0, 0)))
+    group_words(rt, Group::from(handshake::read_group(rows::word(row, 0, 0))))
 }
 
 fn asked(row: &[u8], out: &mut [u8]) -> Asked {
-    handshake::field(
+    Asked::from(handshake::field(
         rows::word(row, 0, 2),
         rows::word(row, 0, 0),
         words::front(out, rows::size(row, 0, 1)),
-    )
+    ))
 }
 
 fn field(rt: &impl Print, row: &[u8], out: &mut [u8]) -> io::Result<()> {
@@ -55,7 +55,7 @@ fn pairs_words(rt: &impl Print, found: Pairs) -> io::Result<()> {
 }
 
 fn try_hosts(rt: &impl Print, row: &[u8]) -> io::Result<()> {
-    let r = handshake::hosts::try_pairs(rows::word(row, 0, 0));
+    let r = TriedGroup::from(handshake::hosts::try_pairs(rows::word(row, 0, 0)));
     print::answer(rt, r.answer, r.used)?;
     pairs_words(rt, r.pairs)
 }
@@ -84,11 +84,11 @@ fn pairs_of(bytes: &[u8]) -> Pairs {
 }
 
 fn wrote(what: usize, pairs: Pairs, out: &mut [u8]) -> Wrote {
-    match what {
+    Wrote::from(match what {
         0 => handshake::write::write_greeting(out),
         1 => handshake::write::write_ok(out),
         _ => handshake::write::write_busy(pairs, out),
-    }
+    })
 }
 
 fn written(rt: &impl Print, row: &[u8], out: &mut [u8]) -> io::Result<()> {

@@ -1,14 +1,14 @@
 -- Laws of texts cut at a separator.
-use Prim.Native.Nat.{ℕ, suc, ◌+◌, ◌≤◌, zero-le, suc-le-suc, min}
+use Prim.Native.Nat.{ℕ, suc, ◌+◌, ◌≤◌, zero-le, suc-le-suc}
 use mathlib.Core.Path.{◌≡◌, refl, sym, ap, ◌∙◌}
 use mathlib.Core.Bool.{Bool, true, false, cond}
 use mathlib.Core.List.{List, [], ◌∷◌, map}
 use native.Mathlib.Numerals.{add-one}
 use native.Mathlib.Omega.{arith}
-use lib.Dec.{eqb, leb}
-use lib.ListN.{length, take, drop, drop_of_length-le}
-use lib.Seq.{drop-length}
-use borrow.Author.Tests.{eqb-true, leb-true, leb-false}
+use lib.Dec.{eqb, ltb}
+use lib.ListN.{length, take, drop}
+use borrow.Author.Tests.{eqb-true, ltb-false}
+use Rattle.std.proofs.Common.{Option, Some, None}
 use Rattle.std.specs.List.{position_or_len}
 use Rattle.std.proofs.lemmas.List.Recursion.{is_position_or_len}
 use Rattle.ascii.specs.Text.{onto, pieces, filled}
@@ -57,23 +57,31 @@ past-suc s (b ∷ bs) = go (eqb b s) (past-suc s bs)
 pub past-drop : (s : ℕ) (text : List ℕ) → drop (length (up_to s text) + 1) text ≡ past s text
 past-drop s text = rw add-one (past-suc s text)
 
-drop_min : (n : ℕ) (xs : List ℕ) → drop (min n (length xs)) xs ≡ drop n xs
-drop_min n xs = go (leb n (length xs)) refl
+-- the place that is found is that of the first s
+pub cut-found : (s : ℕ) (text : List ℕ) (r : Option ℕ) (end : ℕ)
+    → r ≡ cond (ltb (position_or_len (λ b. eqb b s) text) (length text)) (Some (position_or_len (λ b. eqb b s) text)) None
+    → r ≡ Some end → end ≡ length (up_to s text)
+cut-found s text r end e h = go (ltb n (length text)) (sym h ∙ e) ∙ index-up_to s text
   where
-    go : (t : Bool) → leb n (length xs) ≡ t → drop (min n (length xs)) xs ≡ drop n xs
-    go true e =
-        let h = leb-true n (length xs) e in
-        let m : min n (length xs) ≡ n = omega arith in
-        rw m
-    go false e =
-        let h = leb-false n (length xs) e in
-        let m : min n (length xs) ≡ length xs = omega arith in
-        let l : length xs ≤ n = omega arith in
-        rw (m, drop-length) (sym (drop_of_length-le xs l))
+    n : ℕ
+    n = position_or_len (λ b. eqb b s) text
 
--- the same where the place after the text's end is not counted
-pub past-min : (s : ℕ) (text : List ℕ) → drop (min (length (up_to s text) + 1) (length text)) text ≡ past s text
-past-min s text = drop_min (length (up_to s text) + 1) text ∙ past-drop s text
+    go : (t : Bool) → Some end ≡ cond t (Some n) None → end ≡ n
+    go true k = cc
+    go false k = cc
+
+-- and where none is found the whole text stands before it
+pub cut-whole : (s : ℕ) (text : List ℕ) (r : Option ℕ)
+    → r ≡ cond (ltb (position_or_len (λ b. eqb b s) text) (length text)) (Some (position_or_len (λ b. eqb b s) text)) None
+    → r ≡ None → length text ≤ length (up_to s text)
+cut-whole s text r e h = go (ltb n (length text)) refl (sym h ∙ e)
+  where
+    n : ℕ
+    n = position_or_len (λ b. eqb b s) text
+
+    go : (t : Bool) → ltb n (length text) ≡ t → ◌≡◌ {A = Option ℕ} None (cond t (Some n) None) → length text ≤ length (up_to s text)
+    go true k f = cc
+    go false k f = omega (arith, ltb-false n (length text) k, index-up_to s text)
 
 -- ---- items
 

@@ -1,24 +1,23 @@
 -- Laws of the loop over a value's items: what is left to do gives what the whole value gives.
-use Prim.Native.Nat.{ℕ, suc, ◌+◌, ◌-◌, ◌≤◌, ◌<◌, zero-le}
+use Prim.Native.Nat.{ℕ, suc, ◌+◌, ◌-◌, ◌≤◌, ◌<◌}
 use mathlib.Core.Path.{◌≡◌, refl, sym, ap, ◌∙◌}
-use mathlib.Core.Bool.{Bool, true, false, cond}
+use mathlib.Core.Bool.{Bool, true, false, cond, ◌&&◌}
 use mathlib.Core.List.{List, [], ◌∷◌, ◌++◌, map, append-nil}
 use native.Mathlib.Omega.{arith}
-use lib.Dec.{leb, lit≤}
-use lib.ListN.{length, take, drop, replicate, length-append, length-drop, drop_of_length-le}
-use lib.Seq.{drop-drop, set_at, take-append-le, take_all, append_snoc, length-take-le}
+use lib.Dec.{eqb, leb, lit≤}
+use lib.ListN.{length, take, replicate, length-append, length-drop}
+use lib.Seq.{set_at, take-append-le, take_all, append_snoc}
 use borrow.Author.Tests.{lt-ltb, le-ltb, leb-true, leb-false}
 use Rattle.laws.specs.Tests.{all}
-use Rattle.laws.proofs.Parts.{part_tail}
 use Rattle.ascii.specs.Text.{pieces, filled}
 use Rattle.xtry.specs.Pairs.{comma, bare, items_of, up_to, past, good_pair, pair_in, no_pair, pairs_from, pairs_of}
-use Rattle.xtry.specs.Pairs.{read_answer, tried_of}
-use Rattle.xtry.specs.Reading.{kept, taken_of, Skips}
+use Rattle.xtry.specs.Pairs.{read_answer, Tried, tried_of}
+use Rattle.xtry.specs.Reading.{kept, parsed_of}
 use Rattle.xtry.specs.declared.Pair.{Pair}
 use Rattle.xtry.specs.declared.Pairs.{Pairs}
-use Rattle.xtry.specs.declared.Tried.{Tried}
-use Rattle.xtry.specs.declared.read.Taken.{Taken}
-use Rattle.xtry.proofs.Cuts.{item_onto, items_step, up_to-take, up_to_le}
+use Rattle.std.proofs.Common.{Some, None}
+use Rattle.xtry.proofs.Parsing.{parsed-is}
+use Rattle.xtry.proofs.Cuts.{item_onto, items_step, past-drop}
 
 -- the pairs of these, one after the other, among those that are kept
 abbrev pub fill : Pairs → List Pair → Pairs
@@ -58,109 +57,109 @@ fill-first ps (x ∷ xs) h = go (leb 32 (length ps)) refl (fill-first ps xs h)
         let k = leb-false 32 (length ps) e in
         rw (keep-next ps x k) (next (omega arith) ∙ rw (append_snoc ps x xs))
 
+-- ---- lengths
+
+empty_is : (xs : List ℕ) → length xs ≡ 0 → xs ≡ []
+empty_is [] h = refl
+empty_is (x ∷ xs) h = absurd (omega arith)
+
+bare-short : (text : List ℕ) → length (bare text) ≤ length text
+unfolding bare
+bare-short [] = omega arith
+bare-short (b ∷ bs) = go (eqb b 32)
+  where
+    go : (t : Bool) → length (cond t bs (b ∷ bs)) ≤ length (b ∷ bs)
+    go true = omega arith
+    go false = omega arith
+
+past-short : (text : List ℕ) → 0 < length text → length (past comma text) < length text
+past-short text h =
+    omega (arith, ap length (past-drop comma text), length-drop (length (up_to comma text) + 1) text)
+
 -- ---- a turn
 
-pub record Left (value : List ℕ) (at : ℕ) (pairs : Pairs) : Type 0 where
-  pub within : at ≤ length value
-  pub good : all good_pair (items_of value) ≡ all good_pair (items_of (drop at value))
-  pub kept : fill (pairs_from []) (map pair_in (items_of value)) ≡ fill pairs (map pair_in (items_of (drop at value)))
+-- the pairs kept and what is left of the value give what the whole value gives
+pub record Left (value rest : List ℕ) (pairs : Pairs) : Type 0 where
+  pub good : all good_pair (items_of value) ≡ all good_pair (items_of rest)
+  pub kept : fill (pairs_from []) (map pair_in (items_of value)) ≡ fill pairs (map pair_in (items_of rest))
 
 pub no_items : items_of [] ≡ []
 unfolding items_of pieces filled
 no_items = refl
 
-pub left-all : (value : List ℕ) (ps : Pairs) → ps ≡ pairs_from [] → Left value 0 ps
-left-all value ps e = record { within = zero-le; good = refl; kept = rw e }
+pub left-all : (value : List ℕ) (ps : Pairs) → ps ≡ pairs_from [] → Left value value ps
+left-all value ps e = record { good = refl; kept = rw e }
 
--- an item of a text, and those after it
-module _ (ps : Pairs) where
-  good-is : (b : ℕ) (bs : List ℕ) → (taken_of ps (b ∷ bs)).good ≡ good_pair (b ∷ bs)
-  unfolding taken_of
-  good-is b bs = go (good_pair (b ∷ bs))
-    where
-      go : (t : Bool) → ◌≡◌ {A = Bool} (cond {A = Taken} t (record { good = true; pairs = kept ps (pair_in (b ∷ bs)) })
-          (record { good = false; pairs = ps })).good t
-      go true = refl
-      go false = refl
+-- an item that was read, and those after it
+item-good : (item : List ℕ) (items : List (List ℕ)) (p : Pair) → parsed_of item ≡ Some p → all good_pair
+    (item_onto item items) ≡ all good_pair items
+item-good [] items p h = refl
+item-good (b ∷ bs) items p h = go (good_pair (b ∷ bs)) (rw parsed-is at h)
+  where
+    go : (t : Bool) → cond t (Some (pair_in (b ∷ bs))) None ≡ Some p → (t && all good_pair items) ≡ all good_pair items
+    go true e = refl
+    go false e = cc
 
-  item-good : (item : List ℕ) (items : List (List ℕ)) → (taken_of ps item).good ≡ true → all good_pair
-      (item_onto item items) ≡ all good_pair items
-  unfolding taken_of
-  item-good [] items h = refl
-  item-good (b ∷ bs) items h = rw (sym (good-is b bs) ∙ h)
+item-bad : (item : List ℕ) (items : List (List ℕ)) → 0 < length item → parsed_of item ≡ None → all good_pair
+    (item_onto item items) ≡ false
+item-bad [] items n h = absurd (omega arith)
+item-bad (b ∷ bs) items n h = go (good_pair (b ∷ bs)) (rw parsed-is at h)
+  where
+    go : (t : Bool) → cond t (Some (pair_in (b ∷ bs))) None ≡ None → (t && all good_pair items) ≡ false
+    go true e = cc
+    go false e = refl
 
-  item-bad : (item : List ℕ) (items : List (List ℕ)) → (taken_of ps item).good ≡ false → all good_pair
-      (item_onto item items) ≡ false
-  unfolding taken_of
-  item-bad [] items h = let z : ◌≡◌ {A = ℕ} 0 1 = cc in absurd (omega arith)
-  item-bad (b ∷ bs) items h = rw (sym (good-is b bs) ∙ h)
+item-pair : (item : List ℕ) (p : Pair) → parsed_of item ≡ Some p → pair_in item ≡ p
+item-pair item p h = go (good_pair item) (rw parsed-is at h)
+  where
+    go : (t : Bool) → cond t (Some (pair_in item)) None ≡ Some p → pair_in item ≡ p
+    go true e = cc
+    go false e = cc
 
-  item-kept : (item : List ℕ) (items : List (List ℕ)) → (taken_of ps item).good ≡ true → fill ps
-      (map pair_in (item_onto item items)) ≡ fill (taken_of ps item).pairs (map pair_in items)
-  unfolding taken_of
-  item-kept [] items h = refl
-  item-kept (b ∷ bs) items h = rw (sym (good-is b bs) ∙ h)
+item-kept : (ps : Pairs) (item : List ℕ) (items : List (List ℕ)) (p : Pair) → 0 < length item → pair_in item ≡ p
+    → fill ps (map pair_in (item_onto item items)) ≡ fill (kept ps p) (map pair_in items)
+item-kept ps [] items p n e = absurd (omega arith)
+item-kept ps (b ∷ bs) items p n e = rw e
 
-module _ (value : List ℕ) (at : ℕ) (ps : Pairs) (l : Left value at ps) where
-  abbrev here : List ℕ
-  here = up_to comma (drop at value)
+module _ {value rest : List ℕ} {ps : Pairs} (l : Left value rest ps) (item behind : List ℕ)
+    (is_item : item ≡ up_to comma rest) (is_behind : behind ≡ past comma rest) where
+  -- the items from this one on
+  step : items_of rest ≡ item_onto item (items_of (bare behind))
+  step = rw (is_item, is_behind) (items_step rest)
 
-  abbrev later : List (List ℕ)
-  later = items_of (bare (past comma (drop at value)))
+  pub left-empty : length item ≡ 0 → Left value (bare behind) ps
+  left-empty h =
+      let e : items_of rest ≡ items_of (bare behind) = step ∙ ap (λ x. item_onto x (items_of (bare behind)))
+      (empty_is item h) in
+      record { good = l.good ∙ ap (all good_pair) e; kept = l.kept ∙ ap (λ x. fill ps (map pair_in x)) e }
 
-  pub left-on : (k : ℕ) → (taken_of ps here).good ≡ true → Skips (drop at value) k → Left value (at + k)
-      (taken_of ps here).pairs
-  left-on k h s =
-      let e : items_of (bare (past comma (drop at value))) ≡ items_of (drop (at + k) value) =
-      ap items_of (sym s.left ∙ drop-drop k at value) in
+  pub left-on : 0 < length item → (p : Pair) → parsed_of item ≡ Some p → Left value (bare behind) (kept ps p)
+  left-on n p h =
       record {
-        within = omega (arith, s.within, length-drop at value, l.within);
-        good = l.good ∙ ap (all good_pair) (items_step (drop at value)) ∙ item-good ps here later h
-            ∙ ap (all good_pair) e;
+        good = l.good ∙ ap (all good_pair) step ∙ item-good item (items_of (bare behind)) p h;
         kept =
-            l.kept
-            ∙ ap (λ x. fill ps (map pair_in x)) (items_step (drop at value))
-            ∙ item-kept ps here later h
-            ∙ ap (λ x. fill (taken_of ps here).pairs (map pair_in x)) e;
+            l.kept ∙ ap (λ x. fill ps (map pair_in x)) step
+            ∙ item-kept ps item (items_of (bare behind)) p n (item-pair item p h);
       }
 
-  pub left-bad : (taken_of ps here).good ≡ false → ◌≡◌ {A = Tried} (record { answer = 6; pairs = pairs_from [] })
+  pub left-bad : 0 < length item → parsed_of item ≡ None → ◌≡◌ {A = Tried} (record { answer = 6; pairs = pairs_from [] })
       (tried_of value)
   unfolding tried_of read_answer
-  left-bad h =
-      let f : all good_pair (items_of value) ≡ false = l.good ∙ ap (all good_pair) (items_step (drop at value))
-      ∙ item-bad ps here later h in
+  left-bad n h =
+      let f : all good_pair (items_of value) ≡ false = l.good ∙ ap (all good_pair) step
+      ∙ item-bad item (items_of (bare behind)) n h in
       rw f
 
-  pub left_end : length value ≤ at → ◌≡◌ {A = Tried} (record { answer = 0; pairs = ps }) (tried_of value)
-  unfolding tried_of read_answer pairs_of
-  left_end h =
-      let n : items_of (drop at value) ≡ [] = ap items_of (drop_of_length-le value h) ∙ no_items in
-      let f : all good_pair (items_of value) ≡ true = l.good ∙ ap (all good_pair) n in
-      let k : fill (pairs_from []) (map pair_in (items_of value)) ≡ ps = l.kept ∙ ap (λ x. fill ps (map pair_in x)) n in
-      rw f (ap (λ x. record { answer = 0; pairs = x }) (sym k ∙ fill-first [] (map pair_in (items_of value)) (lit≤ tt)))
+-- nothing is left
+pub left_end : (value rest : List ℕ) (ps : Pairs) → Left value rest ps → length rest ≡ 0
+    → ◌≡◌ {A = Tried} (record { answer = 0; pairs = ps }) (tried_of value)
+unfolding tried_of read_answer pairs_of
+left_end value rest ps l h =
+    let n : items_of rest ≡ [] = ap items_of (empty_is rest h) ∙ no_items in
+    let f : all good_pair (items_of value) ≡ true = l.good ∙ ap (all good_pair) n in
+    let k : fill (pairs_from []) (map pair_in (items_of value)) ≡ ps = l.kept ∙ ap (λ x. fill ps (map pair_in x)) n in
+    rw f (ap (λ x. record { answer = 0; pairs = x }) (sym k ∙ fill-first [] (map pair_in (items_of value)) (lit≤ tt)))
 
-pub rest-length : (value : List ℕ) (at : ℕ) → length (take (length value - at) (drop at value)) ≡ length value - at
-rest-length value at = ap length (part_tail at value) ∙ length-drop at value
-
--- a turn of the loop, with the parts that the code lends
-module _ (value : List ℕ) (at : ℕ) (ps : Pairs) (l : Left value at ps) (end : ℕ)
-    (e : end ≡ length (up_to comma (take (length value - at) (drop at value)))) where
-  abbrev rest : List ℕ
-  rest = take (length value - at) (drop at value)
-
-  pub turn-count : end ≡ length (take end rest)
-  turn-count = sym (length-take-le end rest (omega (arith, up_to_le comma rest)))
-
-  item-is : take end rest ≡ up_to comma (drop at value)
-  item-is = ap (λ k. take k rest) e ∙ sym (up_to-take comma rest) ∙ ap (up_to comma) (part_tail at value)
-
-  module _ (t : Taken) (h : t ≡ taken_of ps (take end rest)) where
-    taken_is : t ≡ taken_of ps (up_to comma (drop at value))
-    taken_is = h ∙ ap (taken_of ps) item-is
-
-    pub turn_on : (k : ℕ) → t.good ≡ true → Skips rest k → Left value (at + k) t.pairs
-    turn_on k g s = rw taken_is (left-on value at ps l k (rw taken_is at g) (rw (part_tail at value) at s))
-
-    pub turn-bad : t.good ≡ false → ◌≡◌ {A = Tried} (record { answer = 6; pairs = pairs_from [] }) (tried_of value)
-    turn-bad g = left-bad value at ps l (rw taken_is at g)
+-- a turn leaves less
+pub less-left : (text : List ℕ) → 0 < length text → length (bare (past comma text)) < length text
+less-left text h = omega (arith, bare-short (past comma text), past-short text h)

@@ -1,10 +1,11 @@
 -- X-Try's pairs in the value of a field (RULES 15.11, 15.12).
-use Rattle.std.specs.Prelude.{ℕ, ◌-◌, Bool, cond, not, ◌&&◌, List, [], ◌∷◌, ◌++◌, map, eqb, leb, length, take, get_or, replicate}
+use Rattle.std.specs.Prelude.{ℕ, Result, Ok, Err, ◌-◌, Bool, cond, not, ◌&&◌, List, [], ◌∷◌, ◌++◌, map, eqb, leb, length, take, get_or, replicate}
 use Rattle.laws.specs.Tests.{first_of, every, all}
 use Rattle.ascii.specs.Text.{is_digit, decimal_from, pieces, filled}
 use Rattle.xtry.specs.declared.Pair.{Pair}
 use Rattle.xtry.specs.declared.Pairs.{Pairs}
-use Rattle.xtry.specs.declared.Tried.{Tried}
+use Rattle.answer.specs.declared.Refusal.{Refusal}
+use Rattle.answer.specs.Numbers.{number_of}
 
 abbrev pub comma : ℕ
 comma = 0x2C
@@ -99,7 +100,16 @@ pairs_of value = take 32 (map pair_in (items_of value))
 unfoldable pub read_answer : List ℕ → ℕ
 read_answer value = first_of ((not (all good_pair (items_of value)), 6) ∷ [])
 
--- what reading a value gives
+-- what reading a value gives: the answer (RULES 2.1), and the pairs, none where it is not 0
+pub record Tried : Type 0 where
+  pub answer : ℕ
+  pub pairs : Pairs
+
 unfoldable pub tried_of : List ℕ → Tried
 tried_of value =
     record { answer = read_answer value; pairs = pairs_from (cond (eqb (read_answer value) 0) (pairs_of value) []) }
+
+-- what was read, with its answer
+abbrev pub tried_by : Result Pairs Refusal → Tried
+tried_by (Ok pairs) = record { answer = 0; pairs = pairs }
+tried_by (Err refusal) = record { answer = number_of refusal; pairs = pairs_from [] }

@@ -2,6 +2,9 @@
 // as one.
 #![tactic(auto)]
 
+ghost use Rattle.std.specs.Prelude.{◌≡◌, []};
+ghost use Rattle.xtry.specs.Pairs.{pairs_from};
+
 pub mod read;
 pub mod write;
 
@@ -21,10 +24,19 @@ pub struct Pairs {
     pub pairs: [Pair; 32],
 }
 
-// What reading a value gives: the answer (RULES 2.1), and the pairs (none where it is not 0).
-#[repr(C)]
-#[derive(Clone, Copy)]
-pub struct Tried {
-    pub answer: u8,
-    pub pairs: Pairs,
+// No pairs at all.
+impl Default for Pairs {
+    ghost is_default = { λ pairs. pairs ≡ pairs_from [] };
+
+    #[tactic(auto, unfolding(crate::specs::Pairs::pairs_from))]
+    fn default() -> Pairs {
+        let none = Pair {
+            address: [0; 4],
+            port: 0,
+        };
+        Pairs {
+            count: 0,
+            pairs: [none; 32],
+        }
+    }
 }

@@ -6,7 +6,7 @@ use Rattle.fields.proofs.put_value.Given as goal
 
 abbrev pub invariant-loop-at : goal.invariant-loop-at
 invariant-loop-at l =
-    Writing l.s l.name l.long l.initial.out l.next l.mine l.there l.at l.out
+    Writing l.s l.name l.value.length l.initial.out l.next l.mine l.there l.at l.out
 
 abbrev pub decreases-loop-at : goal.decreases-loop-at
 decreases-loop-at l = length l.s - l.next

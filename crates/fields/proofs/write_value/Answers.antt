@@ -1,38 +1,31 @@
 -- What was found is what the lines have; a value that fits is written whole, from the first line of the name on.
 use Prim.Native.Nat.{ℕ}
-use mathlib.Core.Path.{◌≡◌, sym, ap, ◌∙◌}
-use mathlib.Core.Bool.{Bool}
+use mathlib.Core.Path.{◌≡◌, ap, ◌∙◌}
+use mathlib.Core.Bool.{Bool, true, false, cond, not}
+use mathlib.Core.List.{List}
 use lib.ListN.{length}
+use Rattle.std.proofs.Common.{Option, Result, Some, Ok}
+use Rattle.answer.specs.declared.Refusal.{Refusal}
 use Rattle.groups.specs.Lines.{lines_of}
-use Rattle.fields.specs.Step.{fits_in}
-use Rattle.fields.specs.declared.Found.{Found}
-use Rattle.fields.proofs.FieldLaws.{found-fits}
+use Rattle.fields.specs.Fields.{lines_ok, is_absent, value_for}
+use Rattle.fields.specs.Step.{Found, found_in, found_by, lengths}
+use Rattle.fields.specs.declared.Value.{Value}
 use Rattle.fields.proofs.write_value.Goals as goal
 
--- whether what was found fits is whether the whole does
-test : {f g : Found} (room : ℕ) {b t : Bool} → b ≡ fits_in f room → f ≡ g → b ≡ t → fits_in g room ≡ t
-test room h e k = sym (h ∙ ap (λ (x : Found). fits_in x room) e) ∙ k
+-- a value that was found is that of the name
+long : (name : List ℕ) (ls : List (List ℕ)) (r : Result (Option Value) Refusal) (v : Value) → r ≡ Ok (Some v)
+    → found_by (lengths r) ≡ found_in name ls → v.length ≡ length (value_for name ls)
+unfolding found_in
+long name ls r v e h = go (lines_ok false ls) (rw e at h)
+  where
+    go : (t : Bool) → ◌≡◌ {A = Found} (record { good = true; there = true; length = v.length })
+        (cond t (record { good = true; there = not (is_absent name ls); length = length (value_for name ls) })
+        (record { good = false; there = false; length = 0 })) → v.length ≡ length (value_for name ls)
+    go true k = ap (λ (f : Found). f.length) k
+    go false k = let z : ◌≡◌ {A = Bool} true false = ap (λ (f : Found). f.good) k in cc
 
-pub put_value-requires : goal.put_value-requires
-put_value-requires c =
-    let x = c.args in record {
-      whole_from = c.search-searched.ensures.whole_from;
-      long_value = found-fits c.search-searched.result.found x.name.now (lines_of x.s.now) (length x.out.now)
-          c.search-searched.ensures.found_value (sym c.fits.ensures ∙ c.if-fits.true);
-    }
-
-pub returns-then-fits : goal.returns-then-fits
-returns-then-fits c =
-    record {
-      value = c.search-searched.ensures.found_value;
-      out_after = rw (test (length c.args.out.now) c.fits.ensures
-          c.search-searched.ensures.found_value c.if-fits.true) c.put_value.ensures;
-    }
-
-pub returns : goal.returns
-returns c =
-    record {
-      value = c.search-searched.ensures.found_value;
-      out_after = rw (test (length c.args.out.now) c.fits.ensures
-          c.search-searched.ensures.found_value c.if-fits.false);
-    }
+pub put_value-requires-clause-long_value : goal.put_value-requires-clause-long_value
+put_value-requires-clause-long_value c =
+    let x = c.args in
+    long x.name.now (lines_of x.s.now) c.search.result c.in-Some.value (c.in_ok-value.was ∙ ap Ok c.in-Some.is)
+    c.search.ensures.value

@@ -1,6 +1,8 @@
 -- What is passed and what is left of the line are the whole line.
-use mathlib.Core.Path.{sym, ap, ◌∙◌}
+use native.Mathlib.Omega.{arith}
+use mathlib.Core.Path.{◌≡◌, sym, ap, ◌∙◌}
 use mathlib.Core.Bool.{not}
+use lib.ListN.{length}
 use native.Mathlib.Nat.{zero-add}
 use Rattle.groups.specs.Lines.{in_line}
 use Rattle.ascii.proofs.TextLaws.{run_on, run-stop, run_end}
@@ -27,4 +29,5 @@ loop-i-preserved c =
 
 pub returns : goal.returns
 returns c =
-    run_end in_line c.args.s.now c.loop-i.i _ (search rules) c.loop-i.invariant.1
+    let e : c.loop-i.i ≡ length c.args.s.now = omega arith in
+    sym e ∙ run_end in_line c.args.s.now c.loop-i.i _ (search rules) c.loop-i.invariant.1

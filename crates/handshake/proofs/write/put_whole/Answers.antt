@@ -7,10 +7,10 @@ use Rattle.handshake.proofs.Busy.{whole-short, whole-put}
 use borrow.Author.Rules.{rules}
 use Rattle.handshake.proofs.write.put_whole.Goals as goal
 
-pub returns-then-out-text : goal.returns-then-out-text
-returns-then-out-text c =
+pub returns-then-out-written : goal.returns-then-out-written
+returns-then-out-written c =
     let x = c.args in
-    let h = whole-short x.text.now x.out.now c.if-out-text.true in
+    let h = whole-short x.text.now x.out.now c.if-out-written.true in
     record { value = h.0; out_after = h.1 }
 
 pub returns : goal.returns

@@ -1,11 +1,10 @@
--- The pairs kept so far and the items from `at` on give the answer of the whole value; a bad item refuses it.
-use Rattle.xtry.proofs.Items.{Left}
+-- The pairs kept so far and the items that are left give the answer of the whole value.
 use lib.ListN.{length}
-use Prim.Native.Nat.{◌-◌}
+use Rattle.xtry.proofs.Items.{Left}
 use Rattle.xtry.proofs.read.read_pairs.Given as goal
 
-abbrev pub invariant-loop-at : goal.invariant-loop-at
-invariant-loop-at l = Left l.value l.at l.pairs
+abbrev pub invariant-loop-rest : goal.invariant-loop-rest
+invariant-loop-rest l = Left l.value l.rest l.pairs
 
-abbrev pub decreases-loop-at : goal.decreases-loop-at
-decreases-loop-at l = length l.value - l.at
+abbrev pub decreases-loop-rest : goal.decreases-loop-rest
+decreases-loop-rest l = length l.rest

@@ -5,22 +5,19 @@ use native.Mathlib.Omega.{arith}
 use lib.ListN.{get_or, drop, length-drop}
 use Rattle.ascii.specs.Text.{is_blank, is_name, leading}
 use Rattle.ascii.proofs.TextLaws.{run_length}
-use Rattle.fields.proofs.value_start.Goals as goal
+use Rattle.fields.proofs.Line.value_start.Goals as goal
 
 pub overflow_add-colon : goal.overflow_add-colon
-overflow_add-colon c = omega (arith, c.requires, run_length (λ t. is_name (get_or t 0 0)) c.args.line.now)
+overflow_add-colon c = omega (arith, c.args.self.measured, run_length (λ t. is_name (get_or t 0 0)) c.args.self.text.now)
 
 pub overflow_add-result : goal.overflow_add-result
 overflow_add-result c =
-    let x = c.args in
+    let x = c.args.self in
     omega (
       arith,
-      c.requires,
-      run_length (λ t. is_name (get_or t 0 0)) x.line.now,
+      x.measured,
+      run_length (λ t. is_name (get_or t 0 0)) x.text.now,
       c.leading.ensures ∙ ap (leading is_blank) c.after.ensures,
-      run_length (λ t. is_blank (get_or t 0 0)) (drop (x.n + 1) x.line.now),
-      length-drop (x.n + 1) x.line.now,
+      run_length (λ t. is_blank (get_or t 0 0)) (drop (x.name + 1) x.text.now),
+      length-drop (x.name + 1) x.text.now,
     )
-
-pub returns : goal.returns
-returns c = rw (c.leading.ensures, c.after.ensures, c.requires)
