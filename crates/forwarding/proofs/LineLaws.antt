@@ -2,20 +2,20 @@
 -- what passes; and of the lines that a query goes on to.
 use Prim.Native.Nat.{ℕ, ◌+◌, ◌*◌, ◌-◌, ◌≤◌, ◌<◌, min}
 use mathlib.Core.Path.{◌≡◌, refl, sym, ap, ap₂, ◌∙◌}
-use mathlib.Core.Bool.{Bool, false, not, ◌&&◌, and-true, and-false, and_assoc}
-use mathlib.Core.List.{List, ◌++◌, map}
+use mathlib.Core.Bool.{Bool, false, not, ◌&&◌, ◌||◌, and-true, and-false, and_assoc}
+use mathlib.Core.List.{List, [], ◌∷◌, ◌++◌, map}
 use native.Mathlib.Omega.{arith}
 use lib.ListN.{length, get_or, set, take, drop}
 use lib.Seq.{ext_get_or}
 use borrow.Author.Tests.{le-leb, lt-leb}
 use Rattle.laws.proofs.Rings.{map-get_or}
-use Rattle.keywords.specs.declared.cut.Cut.{Cut}
-use Rattle.keywords.specs.Keywords.{keywords_of, cut_of}
+use Rattle.keywords.specs.Keywords.{lower, words_of}
 use Rattle.keywords.specs.Hash.{hash_of}
+use Rattle.keywords.proofs.CutLaws.{keywords_words}
+use Rattle.keywords.proofs.HashLaws.{hash-lower}
 use Rattle.tables.specs.declared.Table.{Table}
 use Rattle.tables.specs.Tables.{Held, held_in, no_table}
 use Rattle.tables.specs.Admission.{stops, withholds}
-use Rattle.tables.proofs.AdmissionLaws.{withholds-end, withholds-on}
 use Rattle.protocol.specs.Lines.{line_numbers, each_line, is_other}
 use Rattle.protocol.specs.Outcomes.{nobody}
 use Rattle.protocol.proofs.Outcomes.{numbers-at, each_line-at}
@@ -48,39 +48,36 @@ flags-are f l n h = ext_get_or false (each_line f) l (sym n) (λ k b. flag_of f 
 pub each_same : (f g : ℕ → Bool) → ((k : ℕ) → k < 8 → f k ≡ g k) → each_line f ≡ each_line g
 each_same f g h = flags-are f (each_line g) refl (λ k b. h k b ∙ sym (flag_of g k b))
 
--- ---- one table
-
-module _ (h : Held) (ttl : ℕ) (b : Bool) (text : List ℕ) (c : Cut) (e : c ≡ cut_of text) where
-  -- a keyword that is cut is tested before those behind it
-  passes_on : c.start < c.end → (hash : ℕ) → hash ≡ hash_of (take (c.end - c.start) (drop c.start text))
-      → passes b h text ttl
-      ≡ passes (b && not (stops h ttl hash)) h (take (length text - c.end) (drop c.end text)) ttl
-  passes_on s hash eh =
-      ap (λ w. b && not w) (withholds-on h ttl text c e s hash (stops h ttl hash) eh refl)
-      ∙ and_neither b (stops h ttl hash)
-      (withholds h (keywords_of (take (length text - c.end) (drop c.end text))) ttl)
-
-  passes-end : c.end ≤ c.start → passes b h text ttl ≡ b
-  passes-end s = ap (λ w. b && not w) (withholds-end h ttl text c e s) ∙ and-true b
-
 -- ---- eight lines, each with its table
 
-module _ (flags : List Bool) (tables : ℕ → Held) (ttl : ℕ) where
-  module _ (text : List ℕ) (c : Cut) (e : c ≡ cut_of text) where
-    pub passing-on : c.start < c.end → (hash : ℕ) → hash ≡ hash_of (take (c.end - c.start) (drop c.start text))
-        → (left : List Bool) → left ≡ left_by flags tables ttl hash
-        → own_to ttl (λ k. get_or left k false) tables (take (length text - c.end) (drop c.end text))
-        ≡ own_to ttl (λ k. get_or flags k false) tables text
-    unfolding left_by
-    passing-on s hash eh left el =
-        rw el
-        (each_same _ _
-        (λ k b. ap (λ f. passes f (tables k) (take (length text - c.end) (drop c.end text)) ttl)
-        (flag_of (λ j. get_or flags j false && not (stops (tables j) ttl hash)) k b)
-        ∙ sym (passes_on (tables k) ttl (get_or flags k false) text c e s hash eh)))
+-- the flags that are left when the tables have been asked for these keywords too
+abbrev pub passing_left : List Bool → (ℕ → Held) → ℕ → List (List ℕ) → List Bool
+passing_left flags tables ttl words =
+    each_line (λ k. get_or flags k false && not (withholds (tables k) (map (map lower) words) ttl))
 
-    pub passing-end : length flags ≡ 8 → c.end ≤ c.start → own_to ttl (λ k. get_or flags k false) tables text ≡ flags
-    passing-end n s = flags-are _ flags n (λ k b. passes-end (tables k) ttl (get_or flags k false) text c e s)
+module _ (flags : List Bool) (tables : ℕ → Held) (ttl : ℕ) where
+  pub passing-all : (text : List ℕ) → passing_left flags tables ttl (words_of text)
+      ≡ own_to ttl (λ k. get_or flags k false) tables text
+  passing-all text =
+      ap (λ ks. each_line (λ k. get_or flags k false && not (withholds (tables k) ks ttl))) (sym (keywords_words text))
+
+  -- a keyword is tested before those behind it
+  pub passing-on : (word : List ℕ) (words : List (List ℕ)) (hash : ℕ) → hash ≡ hash_of word → (left : List Bool)
+      → left ≡ left_by flags tables ttl hash
+      → passing_left left tables ttl words ≡ passing_left flags tables ttl (word ∷ words)
+  unfolding left_by withholds
+  passing-on word words hash eh left el =
+      rw el
+      (each_same _ _
+      (λ k b. ap (λ f. f && not (withholds (tables k) (map (map lower) words) ttl))
+      (flag_of (λ j. get_or flags j false && not (stops (tables j) ttl hash)) k b)
+      ∙ sym (and_neither (get_or flags k false) (stops (tables k) ttl hash) (withholds (tables k) (map (map lower) words) ttl))
+      ∙ ap (λ h. get_or flags k false && not (stops (tables k) ttl h || withholds (tables k) (map (map lower) words) ttl))
+      (eh ∙ sym (hash-lower word))))
+
+  pub passing-end : length flags ≡ 8 → passing_left flags tables ttl [] ≡ flags
+  unfolding withholds
+  passing-end n = flags-are _ flags n (λ k b. and-true (get_or flags k false))
 
   pub left-length : (hash : ℕ) → length (left_by flags tables ttl hash) ≡ 8
   unfolding left_by

@@ -7,7 +7,7 @@ ghost use Rattle.protocol.specs.Lines.{is_other, each_line};
 ghost use Rattle.protocol.specs.Queries.{own_to, query_to};
 ghost use Rattle.forwarding.specs.Passing.{held_of, left_by};
 
-use keywords::cut::first_keyword;
+use keywords::cut::keywords;
 use keywords::hash::hash;
 use protocol::lines::is_other;
 use tablereader::held::Held;
@@ -77,19 +77,11 @@ pub fn passing(
     ensures { result ≡ own_to ttl (λ k. get_or live k false) (held_of tables room route.now) text.now }
 {
     let mut flags = live;
-    let mut rest = text;
-    loop {
-        let cut = first_keyword(rest);
-        let start = cut.start;
-        let end = cut.end;
-        if end <= start {
-            return flags;
-        }
-        let number = hash(&rest[start..end]);
-        let left = left_by(flags, tables, room, route, ttl, number);
+    for keyword in keywords(text) {
+        let left = left_by(flags, tables, room, route, ttl, hash(keyword));
         flags = left;
-        rest = &rest[end..];
     }
+    flags
 }
 
 // Line k is open, and another than this one.

@@ -50,7 +50,14 @@ pub fn own_query(number: [u8; 16], limit: u8, text: &[u8], out: &mut [u8]) -> us
     if out.len() < 26 + n {
         return 0;
     }
-    put_header(number, Kind::Query.into(), limit, 0, (n + 3) as u32, &mut *out);
+    put_header(
+        number,
+        Kind::Query.into(),
+        limit,
+        0,
+        (n + 3) as u32,
+        &mut *out,
+    );
     out[23] = 0;
     out[24] = 0;
     copy_onto(text, &mut out[25..]);

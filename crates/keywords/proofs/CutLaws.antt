@@ -1,6 +1,6 @@
 -- Laws of the cutter: the first piece that is not empty, and what is left of the text, are all the pieces. Over any
 -- test of a separator.
-use mathlib.Core.Path.{◌≡◌, refl, sym, ap, ap₂, ◌∙◌}
+use mathlib.Core.Path.{◌≡◌, refl, sym, ap, ap₂, subst, ◌∙◌}
 use mathlib.Core.Bool.{Bool, true, false, cond, not, ◌||◌, ◌&&◌, beq}
 use mathlib.Core.List.{List, [], ◌∷◌, map}
 use mathlib.Core.Logic.{◌↔◌}
@@ -12,6 +12,8 @@ use lib.Dec.{ltb}
 use lib.ListN.{length, get_or, take, drop, length-take, length-drop, drop_of_length-le}
 use lib.Seq.{take-nil, length-take-le, drop-cons, drop-drop}
 use borrow.Author.Tests.{lt-ltb, le-ltb}
+use Rattle.std.specs.Prelude.{Option, Some, None, IfSome}
+use Rattle.std.specs.Bool.{then_some}
 use Rattle.laws.specs.Tests.{any, all}
 use Rattle.laws.proofs.Parts.{part_tail}
 use Rattle.laws.proofs.Refusals.{and_fst, and_snd}
@@ -20,7 +22,7 @@ use Rattle.ascii.specs.Text.{lower, onto}
 use Rattle.ascii.proofs.TextLaws.{run_length}
 use Rattle.keywords.specs.Keywords.{is_separator, filled, leading, matching, pieces, start_by, end_by, keywords_of}
 use Rattle.keywords.specs.Keywords.{cut_start, cut_end}
-use Rattle.keywords.specs.Keywords.{cut_of, keyword_at, text_behind}
+use Rattle.keywords.specs.Keywords.{cut_of, cut_told, keyword_at, text_behind, words_of}
 use Rattle.keywords.specs.Blocks.{near, Reaching}
 use Rattle.keywords.specs.Hash.{hash_of}
 use Rattle.keywords.proofs.HashLaws.{hash-lower}
@@ -223,6 +225,20 @@ module _ (s : ℕ → Bool) where
 
 -- ---- the keywords of a text
 
+-- as the text has them, and in lower case
+pub words_cut : (text : List ℕ) → cut_start text < cut_end text → words_of text ≡ keyword_at text
+    ∷ words_of (text_behind text)
+unfolding words_of
+words_cut = pieces-cut is_separator
+
+pub words_none : (text : List ℕ) → cut_start text ≡ cut_end text → words_of text ≡ []
+unfolding words_of
+words_none = pieces_none is_separator
+
+pub keywords_words : (text : List ℕ) → keywords_of text ≡ map (map lower) (words_of text)
+unfolding keywords_of words_of
+keywords_words text = refl
+
 pub keywords_cut : (text : List ℕ) → cut_start text < cut_end text → keywords_of text ≡ map lower (keyword_at text)
     ∷ keywords_of (text_behind text)
 unfolding keywords_of
@@ -357,3 +373,44 @@ matching-is false s b e = ap not (sym e) ∙ by s
     by : (t : Bool) → not t ≡ beq t false
     by true = refl
     by false = refl
+
+-- a cut is told where it is not empty
+module _ (text : List ℕ) (cut : Cut) (r : Option Cut) (is : cut ≡ cut_of text)
+    (told : r ≡ then_some (ltb cut.start cut.end) cut) where
+  abbrev Told : Type 0
+  Told = (cut_told text r ≡ cut_of text) × IfSome r (λ x. (x.start < x.end) × (x.end ≤ length text))
+
+  pub cut-told : Told
+  cut-told = by (dec_le (suc (cut_start text)) (cut_end text))
+    where
+      start : cut.start ≡ cut_start text
+      start = ap (λ x. x.start) is
+
+      end : cut.end ≡ cut_end text
+      end = ap (λ x. x.end) is
+
+      by : Dec (cut_start text < cut_end text) → Told
+      by (yes h) =
+          let some : r ≡ Some cut = told ∙ ap (λ b. then_some b cut) (lt-ltb cut.start cut.end (omega (arith, start, end))) in
+          let e = cut-within text in
+          (ap (cut_told text) some ∙ is, rw some (omega (arith, start, end), omega (arith, end, e.1)))
+      by (no h) =
+          let none : r ≡ None = told ∙ ap (λ b. then_some b cut) (le-ltb cut.start cut.end (omega (arith, start, end))) in
+          let e = cut-within text in
+          let size = cut-end text (omega arith) in
+          let start-size : length text ≡ cut_start text = omega arith in
+          let end-size : length text ≡ cut_end text = omega arith in
+          (ap (cut_told text) none ∙ ap₂ {C = Cut} (λ x y. record { start = x; end = y }) start-size end-size, rw none tt)
+
+-- what an iterator over the keywords gives, where a cut is told, and where none is
+pub words-next : (text : List ℕ) (cut : Cut) → cut ≡ cut_of text → cut.start < cut.end
+    → words_of text ≡ take (cut.end - cut.start) (drop cut.start text)
+    ∷ words_of (take (length text - cut.end) (drop cut.end text))
+words-next text cut is h =
+    let some : cut_start text < cut_end text = subst (λ (k : Cut). k.start < k.end) is h in
+    words_cut text some
+    ∙ ap (λ (k : Cut). take (k.end - k.start) (drop k.start text) ∷ words_of (drop k.end text)) (sym is)
+    ∙ ap (λ t. take (cut.end - cut.start) (drop cut.start text) ∷ words_of t) (sym (part_tail cut.end text))
+
+pub words-over : (text : List ℕ) → cut_told text None ≡ cut_of text → words_of text ≡ []
+words-over text is = words_none text (sym (ap (λ (k : Cut). k.start) is) ∙ ap (λ (k : Cut). k.end) is)

@@ -1,6 +1,8 @@
 -- Keywords of a text (RULES 11.1, 11.2).
-use Rattle.std.specs.Prelude.{ℕ, ◌+◌, ◌-◌, Bool, true, false, not, ◌&&◌, ◌||◌, List, map, leb, take, drop}
+use Rattle.std.specs.Prelude.{ℕ, ◌+◌, ◌-◌, Bool, true, false, not, ◌&&◌, ◌||◌, List, map, leb, length, take, drop}
+use Rattle.std.specs.Prelude.{Option, Some, None}
 use Rattle.keywords.specs.declared.cut.Cut.{Cut}
+use Rattle.keywords.specs.declared.words.Keywords.{Keywords}
 -- letters A to Z in lower case, every other byte as it is (RULES 11.2); a text cut into pieces, of which empty ones
 -- vanish; how many bytes at the front meet a test
 unfoldable pub use Rattle.ascii.specs.Text.{lower, pieces, filled}
@@ -48,3 +50,15 @@ keyword_at text = take (cut_end text - cut_start text) (drop (cut_start text) te
 
 abbrev pub text_behind : List ℕ → List ℕ
 text_behind text = drop (cut_end text) text
+
+-- the cut that is told of a text: both its length where none is told
+abbrev pub cut_told : List ℕ → Option Cut → Cut
+cut_told text (Some cut) = cut
+cut_told text None = record { start = length text; end = length text }
+
+-- the keywords as the text has them, upper case and all, in order; and those that an iterator over them has left
+unfoldable pub words_of : List ℕ → List (List ℕ)
+words_of text = filled (pieces is_separator text)
+
+abbrev pub words_left : Keywords → List (List ℕ)
+words_left keywords = words_of keywords.rest.now

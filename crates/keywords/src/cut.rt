@@ -1,9 +1,10 @@
 // The first keyword of a text.
-ghost use Rattle.std.specs.Prelude.{◌+◌, ◌≡◌, not};
+ghost use Rattle.std.specs.Prelude.{◌+◌, ◌≡◌, ◌≤◌, ◌<◌, not, length, IfSome};
 ghost use Rattle.laws.specs.Tests.{all};
-ghost use Rattle.keywords.specs.Keywords.{within, is_separator, leading, matching, cut_of};
+ghost use Rattle.keywords.specs.Keywords.{within, is_separator, leading, matching, cut_of, cut_told, words_of, words_left};
 ghost use Rattle.keywords.specs.Blocks.{Reaching};
 
+use crate::words::Keywords;
 use ascii::front;
 
 // How many bytes of a text are looked at byte by byte, and how many at once behind them.
@@ -97,19 +98,29 @@ fn long_keyword(text: &[u8], start: usize) -> Cut
     }
 }
 
-// The first keyword of a text; start and end are the text's length where it has none. A caller goes on behind `end`.
-// Most keywords end soon, and are found byte by byte among the text's first bytes.
-pub fn first_keyword(text: &[u8]) -> Cut
-    ensures { result ≡ cut_of text.now }
+// The first keyword of a text, if it has one. A caller goes on behind `end`. Most keywords end soon, and are found byte
+// by byte among the text's first bytes.
+pub fn first_keyword(text: &[u8]) -> Option<Cut>
+    ensures cut { cut_told text.now result ≡ cut_of text.now }
+    ensures inside { IfSome result (λ cut. (cut.start < cut.end) × (cut.end ≤ length text.now)) }
 {
     let near = front(text, NEAR);
     let start = run(near, true);
     let size = run(&near[start..], false);
-    if start + size < NEAR {
-        return Cut {
+    let cut = if start + size < NEAR {
+        Cut {
             start,
             end: start + size,
-        };
-    }
-    long_keyword(text, start)
+        }
+    } else {
+        long_keyword(text, start)
+    };
+    (cut.start < cut.end).then_some(cut)
+}
+
+// The keywords of a text, in order: `for keyword in keywords(text)`.
+pub fn keywords(text: &[u8]) -> Keywords<'_>
+    ensures { words_left result ≡ words_of text.now }
+{
+    Keywords { rest: text }
 }

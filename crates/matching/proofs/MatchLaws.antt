@@ -1,5 +1,5 @@
 -- Marks at the places of kept keywords, and what they tell of a name.
-use Prim.Native.Nat.{ℕ, zero, suc, min, ◌+◌, ◌-◌, ◌≤◌, ◌<◌}
+use Prim.Native.Nat.{ℕ, zero, suc, min, ◌+◌, ◌≤◌, ◌<◌}
 use mathlib.Core.Path.{◌≡◌, refl, sym, ap, ◌∙◌}
 use mathlib.Core.Bool.{Bool, true, false, ◌&&◌, ◌||◌, and-false, or-true, or-false, or_assoc}
 use mathlib.Core.Logic.{◌↔◌}
@@ -7,7 +7,7 @@ use mathlib.Core.List.{List, [], ◌∷◌, ◌++◌, map}
 use native.Mathlib.Decide.{dec_le}
 use native.Mathlib.Omega.{arith}
 use lib.Dec.{leb, ltb, eqb}
-use lib.ListN.{length, get_or, set, take, drop, replicate, length-set, length-take}
+use lib.ListN.{length, get_or, set, take, replicate, length-set, length-take}
 use lib.Seq.{get_or-set_same, get_or-set_other, get_or-take, ext_get_or}
 use borrow.Author.Count.{below_more}
 use borrow.Author.Tests.{eqb-true, eqb-false, le-leb, lt-leb, lt-ltb, le-ltb}
@@ -18,9 +18,8 @@ use Rattle.laws.proofs.Refusals.{clash}
 use Rattle.laws.proofs.Words.{refuted}
 use Rattle.laws.proofs.Ranks.{each_at}
 use Rattle.ascii.specs.Text.{lower, same}
-use Rattle.keywords.specs.declared.cut.Cut.{Cut}
-use Rattle.keywords.specs.Keywords.{keywords_of, cut_of}
-use Rattle.keywords.proofs.CutLaws.{cut-found, cut-done}
+use Rattle.keywords.specs.Keywords.{keywords_of, words_of}
+use Rattle.keywords.proofs.CutLaws.{keywords_words}
 use Rattle.namearea.specs.Area.{count_in, name_at}
 use Rattle.namearea.proofs.GoodLaws.{same-is, is_same}
 use Rattle.matching.specs.Matching.{is_among, has_each, matches, matching_places}
@@ -65,40 +64,50 @@ module _ (key : ℕ → List ℕ) (count : ℕ) (x : List ℕ) (rising : Rising 
 
 -- ---- the keywords of a name
 
--- with what is left of the name, the marks tell what they told with all of it
-pub record Marking (key : ℕ → List ℕ) (count : ℕ) (name : List ℕ) (marks₀ : List Bool) (rest : List ℕ)
+-- with the keywords that are left of the name, the marks tell what they told with all of them
+pub record Marking (key : ℕ → List ℕ) (count : ℕ) (name : List ℕ) (marks₀ : List Bool) (words : List (List ℕ))
     (marks : List Bool) : Type 0 where
   pub size : length marks ≡ length marks₀
-  pub each : (i : ℕ) → i < count → (get_or marks i false || is_among (key i) (keywords_of rest))
+  pub each : (i : ℕ) → i < count → (get_or marks i false || is_among (key i) (map (map lower) words))
       ≡ (get_or marks₀ i false || is_among (key i) (keywords_of name))
 
-module _ (key : ℕ → List ℕ) (count : ℕ) (name : List ℕ) (marks₀ : List Bool) (rest : List ℕ) (marks : List Bool)
-    (m : Marking key count name marks₀ rest marks) (c : Cut) (e : c ≡ cut_of rest) where
-  pub name-more : c.start < c.end → (after : List Bool)
-      → Marked (λ k. same false k (map lower (take (c.end - c.start) (drop c.start rest)))) key count marks after
-      → Marking key count name marks₀ (take (length rest - c.end) (drop c.end rest)) after
-  name-more h after a = record { size = a.size ∙ m.size; each = each }
-    where
-      each : (i : ℕ) → i < count
-          → (get_or after i false || is_among (key i) (keywords_of (take (length rest - c.end) (drop c.end rest))))
-          ≡ (get_or marks₀ i false || is_among (key i) (keywords_of name))
-      each i l =
-          let x = map lower (take (c.end - c.start) (drop c.start rest)) in
-          let more = keywords_of (take (length rest - c.end) (drop c.end rest)) in
-          ap (λ b. b || is_among (key i) more) (a.each i l)
-          ∙ or_assoc (get_or marks i false) (same false (key i) x) (is_among (key i) more)
-          ∙ ap (λ ks. get_or marks i false || is_among (key i) ks) (sym (cut-found rest c e h))
-          ∙ m.each i l
-
-  pub name-end : c.end ≤ c.start → Marked (λ k. is_among k (keywords_of name)) key count marks₀ marks
-  name-end h =
+module _ (key : ℕ → List ℕ) (count : ℕ) (name : List ℕ) (marks₀ : List Bool) where
+  pub name-all : (words : List (List ℕ)) → words ≡ words_of name → Marking key count name marks₀ words marks₀
+  name-all words e =
       record {
-        size = m.size;
-        each = λ i l.
-            sym (or-false (get_or marks i false))
-            ∙ ap (λ ks. get_or marks i false || is_among (key i) ks) (sym (cut-done rest c e h))
-            ∙ m.each i l;
+        size = refl;
+        each = λ i h.
+            ap (λ ks. get_or marks₀ i false || is_among (key i) ks) (ap (map (map lower)) e ∙ sym (keywords_words name));
       }
+
+  module _ (marks : List Bool) where
+    pub name-more : (left words : List (List ℕ)) (word : List ℕ) → left ≡ word ∷ words
+        → Marking key count name marks₀ left marks → (after : List Bool)
+        → Marked (λ k. same false k (map lower word)) key count marks after
+        → Marking key count name marks₀ words after
+    name-more left words word e m after a = record { size = a.size ∙ m.size; each = each }
+      where
+        each : (i : ℕ) → i < count
+            → (get_or after i false || is_among (key i) (map (map lower) words))
+            ≡ (get_or marks₀ i false || is_among (key i) (keywords_of name))
+        each i l =
+            let x = map lower word in
+            let more = map (map lower) words in
+            ap (λ b. b || is_among (key i) more) (a.each i l)
+            ∙ or_assoc (get_or marks i false) (same false (key i) x) (is_among (key i) more)
+            ∙ ap (λ ws. get_or marks i false || is_among (key i) (map (map lower) ws)) (sym e)
+            ∙ m.each i l
+
+    pub name-end : (left : List (List ℕ)) → left ≡ [] → Marking key count name marks₀ left marks
+        → Marked (λ k. is_among k (keywords_of name)) key count marks₀ marks
+    name-end left e m =
+        record {
+          size = m.size;
+          each = λ i l.
+              sym (or-false (get_or marks i false))
+              ∙ ap (λ ws. get_or marks i false || is_among (key i) (map (map lower) ws)) (sym e)
+              ∙ m.each i l;
+        }
 
 -- ---- all marks
 

@@ -77,13 +77,10 @@ impl<'a> Kept<'a> {
             count: 0,
         };
         let mut at = 0;
-        loop {
-            let cut = first_keyword(&text[at..]);
-            if cut.end <= cut.start {
-                return kept;
-            }
+        while let Some(cut) = first_keyword(&text[at..]) {
             kept.add(at + cut.start, cut.end - cut.start);
             at += cut.end;
         }
+        kept
     }
 }

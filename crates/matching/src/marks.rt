@@ -5,7 +5,7 @@ ghost use Rattle.matching.specs.Matching.{is_among, matches};
 ghost use Rattle.matching.specs.Kept.{key_at, Gathered, Marked};
 
 use crate::kept::{Kept, LONGEST_TEXT};
-use keywords::cut::first_keyword;
+use keywords::cut::keywords;
 
 impl Kept<'_> {
     // Marks the place of each keyword of a name that is kept. Each is cut and looked up once.
@@ -13,18 +13,10 @@ impl Kept<'_> {
         ensures { Marked (λ k. is_among k (keywords_of name.now))
             (key_at self.now.text.now self.now.spans) self.now.count marks.old marks.new }
     {
-        let mut rest = name;
-        loop {
-            let cut = first_keyword(rest);
-            let start = cut.start;
-            let end = cut.end;
-            if end <= start {
-                return;
-            }
-            if let Ok(place) = self.find(&rest[start..end]) {
+        for keyword in keywords(name) {
+            if let Ok(place) = self.find(keyword) {
                 marks[place] = true;
             }
-            rest = &rest[end..];
         }
     }
 

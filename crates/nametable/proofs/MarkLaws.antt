@@ -1,12 +1,11 @@
 -- Entries marked one keyword, and one name, after another; and the whole output after a call.
-use Prim.Native.Nat.{ℕ, ◌+◌, ◌-◌, ◌≤◌, ◌<◌}
+use Prim.Native.Nat.{ℕ, ◌+◌, ◌≤◌, ◌<◌}
 use mathlib.Core.Path.{◌≡◌, refl, sym, ap, ◌∙◌}
 use mathlib.Core.List.{List, [], ◌∷◌, ◌++◌, map}
-use lib.ListN.{length, set, take, drop, length-set}
-use Rattle.keywords.specs.declared.cut.Cut.{Cut}
-use Rattle.keywords.specs.Keywords.{cut_of}
+use lib.ListN.{length, set, length-set}
+use Rattle.keywords.specs.Keywords.{lower, words_of}
 use Rattle.keywords.specs.Hash.{hash_of, scaled, place_in}
-use Rattle.keywords.proofs.CutLaws.{cut-found, cut-done}
+use Rattle.keywords.proofs.CutLaws.{keywords_words}
 use Rattle.keywords.proofs.HashLaws.{hash-lower}
 use Rattle.namearea.specs.Area.{name_of, name_at, names_of}
 use Rattle.namearea.proofs.SpanLaws.{left, left-all, left-next, left_end}
@@ -22,23 +21,22 @@ unfolding with_ones
 ones_after [] qs es = refl
 ones_after (p ∷ ps) qs es = ones_after ps qs _
 
--- a loop at a text whose first cut is c: the keyword cut is marked before those behind it, or none is left
-module _ (size : ℕ) (text : List ℕ) (c : Cut) (e : c ≡ cut_of text) (es : List ℕ) where
-  pub text-on : c.start < c.end → (hash place : ℕ) → hash ≡ hash_of (take (c.end - c.start) (drop c.start text))
-      → place ≡ scaled size hash
-      → with_ones (places_of size text) es
-      ≡ with_ones (places_of size (take (length text - c.end) (drop c.end text))) (set es place 1)
-  unfolding with_ones
-  text-on s hash place eh ep =
-      let k = take (c.end - c.start) (drop c.start text) in
-      let rest = take (length text - c.end) (drop c.end text) in
-      ap (λ ks. with_ones (map (place_in size) ks) es) (cut-found text c e s)
-      ∙ ap (λ h. with_ones (places_of size rest) (set es (scaled size h) 1)) (hash-lower k ∙ sym eh)
-      ∙ ap (λ p. with_ones (places_of size rest) (set es p 1)) (sym ep)
+-- the places of keywords as a text has them
+abbrev pub word_places : ℕ → List (List ℕ) → List ℕ
+word_places size words = map (place_in size) (map (map lower) words)
 
-  pub text-end : c.end ≤ c.start → with_ones (places_of size text) es ≡ es
+-- a loop over the keywords of a text: one is marked before those behind it, or none is left
+module _ (size : ℕ) where
+  pub text-all : (text : List ℕ) → word_places size (words_of text) ≡ places_of size text
+  text-all text = ap (map (place_in size)) (sym (keywords_words text))
+
+  pub text-on : (es word : List ℕ) (words : List (List ℕ)) (hash place : ℕ) → hash ≡ hash_of word
+      → place ≡ scaled size hash
+      → with_ones (word_places size (word ∷ words)) es ≡ with_ones (word_places size words) (set es place 1)
   unfolding with_ones
-  text-end s = ap (λ ks. with_ones (map (place_in size) ks) es) (cut-done text c e s)
+  text-on es word words hash place eh ep =
+      ap (λ h. with_ones (word_places size words) (set es (scaled size h) 1)) (hash-lower word ∙ sym eh)
+      ∙ ap (λ p. with_ones (word_places size words) (set es p 1)) (sym ep)
 
 -- the places of the names from pair i on, of the first `count`
 abbrev pub places_left : ℕ → ℕ → List ℕ → ℕ → List ℕ

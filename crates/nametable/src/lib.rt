@@ -7,7 +7,7 @@ ghost use Rattle.namearea.specs.Area.{names_of};
 ghost use Rattle.nametable.specs.Table.{places_of, own_places, with_ones, table_answer, table_out};
 
 use answer::Refusal;
-use keywords::cut::first_keyword;
+use keywords::cut::keywords;
 use keywords::hash::{hash, scaled_place};
 use namearea::{count_in, name_of, span_at};
 use names::search::list_answer;
@@ -27,17 +27,8 @@ fn mark(place: usize, entries: &mut [u8])
 fn mark_text(text: &[u8], size: u32, entries: &mut [u8])
     ensures { entries.new ≡ with_ones (places_of size text.now) entries.old }
 {
-    let mut rest = text;
-    loop {
-        let cut = first_keyword(rest);
-        let start = cut.start;
-        let end = cut.end;
-        if end <= start {
-            return;
-        }
-        let number = hash(&rest[start..end]);
-        mark(scaled_place(number, size) as usize, entries);
-        rest = &rest[end..];
+    for keyword in keywords(text) {
+        mark(scaled_place(hash(keyword), size) as usize, entries);
     }
 }
 

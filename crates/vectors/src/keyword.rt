@@ -9,13 +9,13 @@ pub(crate) fn place(rt: &impl Print, keyword: &[u8], bits: u32) -> io::Result<()
     print::number(rt, u64::from(n))
 }
 
-// The first keyword from a place on.
-fn next(text: &[u8], at: usize) -> Cut {
-    let cut = keywords::cut::first_keyword(words::part(text, at, text.len()));
-    Cut {
+// The first keyword from a place on, if there is one.
+fn next(text: &[u8], at: usize) -> Option<Cut> {
+    let cut = keywords::cut::first_keyword(words::part(text, at, text.len()))?;
+    Some(Cut {
         start: at % 4096 + cut.start % 4096,
         end: at % 4096 + cut.end % 4096,
-    }
+    })
 }
 
 // Where each keyword of the text starts, as a byte of the area; how many there are.
@@ -23,13 +23,10 @@ fn starts(text: &[u8], area: &mut [u8]) -> usize {
     let mut count: usize = 0;
     let mut at: usize = 0;
     for _ in 0..256 {
-        let cut = next(text, at);
-        count = print::noted(
-            cut.start < cut.end,
-            &mut *area,
-            count,
-            (cut.start % 256) as u8,
-        );
+        let Some(cut) = next(text, at) else {
+            return count;
+        };
+        count = print::noted(true, &mut *area, count, (cut.start % 256) as u8);
         at = cut.end;
     }
     count

@@ -31,13 +31,13 @@ returns-then-not-good_length c =
     let x = c.args in
     let d : Gives x.area.now x.size x.infinity x.out.now 14 x.out.now =
     elim c.then-not-good_length.branch [
-      then-not-good_length-via-then-not-good_length w ↦
-      length_refuses x.area.now x.size x.infinity x.out.now c.in_ok-list_answer.ensures
-      (sym c.good_length.ensures ∙ w.if-not-good_length.true)
-    | then-not-good_length-via-else-not-good_length+then-not-good_infinity w ↦
-      infinity_refuses x.area.now x.size x.infinity x.out.now c.in_ok-list_answer.ensures
-      (sym c.good_length.ensures ∙ w.if-not-good_length.false)
-      (sym w.good_infinity.ensures ∙ w.if-not-good_infinity.true)
+      | then-not-good_length-via-then-not-good_length w ↦
+          length_refuses x.area.now x.size x.infinity x.out.now c.in_ok-list_answer.ensures
+          (sym c.good_length.ensures ∙ w.if-not-good_length.true)
+      | then-not-good_length-via-else-not-good_length+then-not-good_infinity w ↦
+          infinity_refuses x.area.now x.size x.infinity x.out.now c.in_ok-list_answer.ensures
+          (sym c.good_length.ensures ∙ w.if-not-good_length.false)
+          (sym w.good_infinity.ensures ∙ w.if-not-good_infinity.true)
     ] in
     record {
       answer = d.0;

@@ -1,70 +1,33 @@
 -- The flags at hand, with the keywords that are left, give what the open lines gave with all of them.
-use Prim.Native.Nat.{◌≤◌}
-use mathlib.Core.Path.{refl, sym, ap, ◌∙◌}
-use native.Mathlib.Omega.{arith}
-use lib.ListN.{length}
-use Rattle.laws.proofs.Over.{tail_shorter}
-use Rattle.keywords.proofs.CutLaws.{cut-bounds}
+use Rattle.std.proofs.Common.{arith, ap, sym, ◌∙◌, length}
+use Rattle.keywords.specs.Keywords.{words_left}
 use Rattle.forwarding.specs.Passing.{held_of}
-use Rattle.forwarding.proofs.LineLaws.{left-length, passing-on, passing-end}
-use borrow.Author.Rules.{rules}
-use Rattle.forwarding.proofs.lines.passing.Goals.{After-first_keyword-cut}
+use Rattle.forwarding.proofs.LineLaws.{passing_left, passing-all, passing-on, passing-end, left-length}
 use Rattle.forwarding.proofs.lines.passing.Goals as goal
 
-pub loop-rest-init : goal.loop-rest-init
-loop-rest-init c = (omega arith, refl)
-
--- the keyword at hand lies in what is left of the text
-bounds : (c : After-first_keyword-cut)
-    → (c.first_keyword-cut.result.start ≤ c.first_keyword-cut.result.end)
-    × (c.first_keyword-cut.result.end ≤ length c.loop-rest.rest.now)
-bounds c = cut-bounds c.loop-rest.rest.now c.first_keyword-cut.result c.first_keyword-cut.ensures
-
-pub returns-then-end-start : goal.returns-then-end-start
-returns-then-end-start c =
+pub loop-keyword-init : goal.loop-keyword-init
+loop-keyword-init c =
     let x = c.args in
-    let l = c.loop-rest in
-    let cut = c.first_keyword-cut in
-    sym
-    (passing-end l.flags (held_of x.tables x.room x.route.now) x.ttl l.rest.now cut.result
-    cut.ensures l.invariant.0 c.if-end-start.true)
-    ∙ l.invariant.1
+    let held = held_of x.tables x.room x.route.now in
+    (omega arith, ap (passing_left x.live held x.ttl) (ap words_left c.into_iter-keyword-iterator.ensures.into_iter_gives ∙ c.keywords-keyword-items.ensures) ∙ passing-all x.live held x.ttl x.text.now)
 
-pub slice_bounds-hash-start : goal.slice_bounds-hash-start
-slice_bounds-hash-start c =
-    let h = bounds (goal.at.slice_bounds-hash-start c).After-first_keyword-cut in
-    search rules
-
-pub slice_bounds-hash-end : goal.slice_bounds-hash-end
-slice_bounds-hash-end c =
-    let h = bounds (goal.at.slice_bounds-hash-end c).After-first_keyword-cut in
-    search rules
-
-pub slice_bounds-rest-count : goal.slice_bounds-rest-count
-slice_bounds-rest-count c =
-    let h = bounds (goal.at.slice_bounds-rest-count c).After-first_keyword-cut in
-    search rules
-
-pub slice_bounds-rest-start : goal.slice_bounds-rest-start
-slice_bounds-rest-start c =
-    let h = bounds (goal.at.slice_bounds-rest-start c).After-first_keyword-cut in
-    search rules
-
-pub loop-rest-smaller : goal.loop-rest-smaller
-loop-rest-smaller c =
-    let some = c.if-end-start.false in
-    tail_shorter c.first_keyword-cut.result.end c.loop-rest.rest.now (omega arith) (bounds (goal.at.loop-rest-smaller c).After-first_keyword-cut).1
-
-pub loop-rest-preserved : goal.loop-rest-preserved
-loop-rest-preserved c =
+pub loop-keyword-preserved : goal.loop-keyword-preserved
+loop-keyword-preserved c =
     let x = c.args in
-    let l = c.loop-rest in
-    let cut = c.first_keyword-cut in
-    let number = c.hash-number in
+    let l = c.loop-keyword in
     let left = c.left_by-left in
     let held = held_of x.tables x.room x.route.now in (
-      ap length left.ensures ∙ left-length l.flags held x.ttl number.result,
-      passing-on l.flags held x.ttl l.rest.now cut.result cut.ensures
-          c.if-end-start.false number.result number.ensures left.result left.ensures
+      ap length left.ensures ∙ left-length l.flags held x.ttl c.hash.result,
+      passing-on l.flags held x.ttl c.in-Some.keyword.now (words_left c.next.new.self) c.hash.result c.hash.ensures
+          left.result left.ensures
+          ∙ ap (passing_left l.flags held x.ttl) (sym c.in-Some.ensures.steps)
           ∙ l.invariant.1,
     )
+
+pub returns : goal.returns
+returns c =
+    let x = c.args in
+    let l = c.loop-keyword in
+    let held = held_of x.tables x.room x.route.now in
+    sym (ap (passing_left l.flags held x.ttl) c.in-None.ensures.steps.0 ∙ passing-end l.flags held x.ttl l.invariant.0)
+    ∙ l.invariant.1

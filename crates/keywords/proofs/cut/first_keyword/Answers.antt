@@ -8,8 +8,9 @@ use borrow.Author.Rules.{rules}
 use Rattle.keywords.specs.declared.cut.Cut.{Cut}
 use Rattle.keywords.specs.Keywords.{matching, is_separator, cut_start, cut_end, cut_of}
 use Rattle.keywords.specs.Blocks.{near}
-use Rattle.keywords.proofs.CutLaws.{leading-within, end-within, cut-front, runs-end, runs-cut}
-use Rattle.keywords.proofs.cut.first_keyword.Goals.{After-run-size, After-run-start}
+use Rattle.keywords.proofs.CutLaws.{leading-within, end-within, cut-front, runs-end, runs-cut, cut-told}
+use Rattle.keywords.proofs.cut.first_keyword.Goals.{After-run-size, After-run-start, After-then_some}
+use Rattle.keywords.proofs.cut.first_keyword.Goals.{then-start-size-lt-NEAR, else-start-size-lt-NEAR}
 use Rattle.keywords.proofs.cut.first_keyword.Goals as goal
 
 -- the first keyword starts within these bytes
@@ -32,21 +33,31 @@ ends c =
 pub overflow_add-start : goal.overflow_add-start
 overflow_add-start c = omega (arith, ends c, end-within is_separator c.front-near.result.now)
 
-pub returns-then-start-size-lt-NEAR : goal.returns-then-start-size-lt-NEAR
-returns-then-start-size-lt-NEAR c =
+pub long_keyword-cut-requires : goal.long_keyword-cut-requires
+long_keyword-cut-requires c =
+    let is = c.front-near.ensures in
+    (c.run-start.ensures ∙ ap cut_start is, omega (arith, ends (goal.at.long_keyword-cut-requires c).After-run-size, ap cut_end is, c.if-start-size-lt-NEAR.false))
+
+is : (c : After-then_some) → c.if-start-size-lt-NEAR.cut ≡ cut_of c.args.text.now
+is c =
     let text = c.args.text.now in
     let first = c.front-near.result.now in
     let is = c.front-near.ensures in
-    let soon : cut_end (take near text) < near = omega (arith, ends (goal.at.returns-then-start-size-lt-NEAR c).After-run-size, ap cut_end is, c.if-start-size-lt-NEAR.true) in
-    let same = cut-front is_separator near text soon in
-    runs-cut first c.run-start.result c.run-size.result c.run-start.ensures c.run-size.ensures
-    ∙ ap cut_of is
-    ∙ ap₂ {C = Cut} (λ x y. record { start = x; end = y }) same.0 same.1
+    elim c.if-start-size-lt-NEAR.branch [
+      | then-start-size-lt-NEAR w ↦
+          let soon : cut_end (take near text) < near = omega (arith, ends (goal.at.After-then_some c).After-run-size, ap cut_end is, w.if-start-size-lt-NEAR.true) in
+          let same = cut-front is_separator near text soon in
+          w.cut-is
+          ∙ runs-cut first c.run-start.result c.run-size.result c.run-start.ensures c.run-size.ensures
+          ∙ ap cut_of is
+          ∙ ap₂ {C = Cut} (λ x y. record { start = x; end = y }) same.0 same.1
+      | else-start-size-lt-NEAR w ↦ w.cut-is ∙ w.long_keyword-cut.ensures
+    ]
 
-pub long_keyword-requires : goal.long_keyword-requires
-long_keyword-requires c =
-    let is = c.front-near.ensures in
-    (c.run-start.ensures ∙ ap cut_start is, omega (arith, ends (goal.at.long_keyword-requires c).After-run-size, ap cut_end is, c.if-start-size-lt-NEAR.false))
+pub returns-clause-cut : goal.returns-clause-cut
+returns-clause-cut c =
+    (cut-told c.args.text.now c.if-start-size-lt-NEAR.cut c.then_some.result (is c) c.then_some.ensures).0
 
-pub returns : goal.returns
-returns c = c.long_keyword.ensures
+pub returns-clause-inside : goal.returns-clause-inside
+returns-clause-inside c =
+    (cut-told c.args.text.now c.if-start-size-lt-NEAR.cut c.then_some.result (is c) c.then_some.ensures).1
