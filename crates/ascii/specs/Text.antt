@@ -1,5 +1,7 @@
 -- Bytes as text: classes of bytes, runs, numbers, and texts that are equal but for the case of letters.
 use Rattle.std.specs.Prelude.{ℕ, suc, ◌+◌, ◌-◌, ◌*◌, Bool, true, false, cond, not, ◌&&◌, ◌||◌, List, [], ◌∷◌, leb, eqb, length, get_or, take}
+use Rattle.ascii.specs.declared.Class.{Class}
+use Rattle.ascii.specs.declared.Class.TheVariants.{Blank, Name, Text, Digit}
 use Rattle.ascii.specs.declared.Decimal.{Decimal}
 
 -- a blank: space or tab
@@ -17,9 +19,12 @@ is_text b = not (eqb b 13 || eqb b 10)
 abbrev pub is_digit : ℕ → Bool
 is_digit b = leb 48 b && leb b 57
 
--- the classes by the numbers that the code gives them
-abbrev pub in_class : ℕ → ℕ → Bool
-in_class k b = cond (eqb k 0) (is_blank b) (cond (eqb k 1) (is_name b) (cond (eqb k 2) (is_text b) (is_digit b)))
+-- the classes by name
+abbrev pub in_class : Class → ℕ → Bool
+in_class Blank b = is_blank b
+in_class Name b = is_name b
+in_class Text b = is_text b
+in_class Digit b = is_digit b
 
 -- how many bytes stand before the first place from which the test fails
 abbrev pub run : (List ℕ → Bool) → List ℕ → ℕ

@@ -1,16 +1,16 @@
--- Below the digit 0 and above the digit 9 the value is 0; between them the difference stays in range.
+-- A byte from 0 to 9 has its number; every other has none.
 use Rattle.ascii.specs.Text.{digit_of}
 use Rattle.ascii.proofs.Tests.{tests}
 use Rattle.ascii.proofs.digit.Goals as goal
 
-pub returns-then-b-lt48 : goal.returns-then-b-lt48
+pub returns-in-48-to-57 : goal.returns-in-48-to-57
 unfolding digit_of
-returns-then-b-lt48 c = search tests
+returns-in-48-to-57 c = search tests
 
-pub returns-then-b-gt57 : goal.returns-then-b-gt57
+pub returns-in_default : goal.returns-in_default
 unfolding digit_of
-returns-then-b-gt57 c = search tests
+returns-in_default c = search tests
 
-pub returns : goal.returns
+pub returns-in_default-2 : goal.returns-in_default-2
 unfolding digit_of
-returns c = search tests
+returns-in_default-2 c = search tests

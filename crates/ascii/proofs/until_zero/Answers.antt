@@ -1,24 +1,19 @@
--- What was passed and what is left before a zero byte are all that stands before one.
-use mathlib.Core.Path.{ap}
-use native.Mathlib.Omega.{arith}
-use lib.ListN.{length, drop_of_length-le}
-use borrow.Author.Rules.{rules}
-use Rattle.laws.specs.Text.{until_zero}
-use Rattle.laws.proofs.UntilZero.{until_here, until_on}
+-- The bytes that are taken are counted.
+use mathlib.Core.Path.{ap, ◌∙◌}
+use mathlib.Core.Bool.{not}
+use lib.Dec.{eqb}
+use lib.ListN.{length}
+use Rattle.std.proofs.Common.{rules, tests}
+use Rattle.std.proofs.lemmas.Iterator.{YieldsList-from_slice}
+use Rattle.std.proofs.lemmas.Iterator.Consumers.{count_from_yields_List}
+use Rattle.std.proofs.lemmas.Iterator.Search.{YieldsList-from_take_while}
+use Rattle.ascii.proofs.Library.{until-taken}
 use Rattle.ascii.proofs.until_zero.Goals as goal
 
-pub returns-then-part-i-eq0 : goal.returns-then-part-i-eq0
-returns-then-part-i-eq0 c =
-    let z = ap length (until_here c.args.part.now c.loop-i.i (search rules) c.if-part-i-eq0.true) in
-    omega arith
-
-pub loop-i-preserved : goal.loop-i-preserved
-loop-i-preserved c =
-    let z = ap length (until_on c.args.part.now c.loop-i.i (search rules) c.if-part-i-eq0.false) in
-    (search rules, omega arith)
-
 pub returns : goal.returns
-unfolding until_zero
 returns c =
-    let h = rw (drop_of_length-le c.args.part.now c.loop-i-test.false) at c.loop-i.invariant.1 in
-    omega arith
+    let s = c.args.part.now in
+    count_from_yields_List _ _ c.count.ensures.ran
+    (YieldsList-from_take_while _ (λ b. not (eqb b 0)) (YieldsList-from_slice s cc) c.take_while.ensures.closure c.take_while.ensures.done
+    (λ x b q k. search (rules, tests)))
+    ∙ ap length (until-taken s)
