@@ -11,6 +11,7 @@ use Rattle.laws.specs.Text.{until_zero}
 use lib.ListN.{length, take}
 use borrow.Author.Tests.{eq-eqb, eqb-true}
 use Rattle.laws.proofs.Refusals.{and_fst, and_snd}
+use Rattle.std.specs.Prelude.{◌↔◌}
 use Rattle.std.specs.Char.{to_ascii_lowercase}
 use Rattle.std.specs.Cmp.Lexicographic.{pointwise}
 use Rattle.std.specs.List.{prefix_len, take_while, starts_with}
@@ -56,13 +57,12 @@ cased (x ∷ a) (y ∷ b) e =
     ap₂ (λ z c. z ∷ c) h (cased a b (and_snd (eqb (lower x) (lower y)) (same_name a b) e))
 
 -- so the library's comparison of them is ours
-pub equal_names : (a b : List ℕ) (r : Bool) → (r ≡ true → map to_ascii_lowercase a ≡ map to_ascii_lowercase b)
-    → (map to_ascii_lowercase a ≡ map to_ascii_lowercase b → r ≡ true) → r ≡ same_name a b
-equal_names a b true f g = sym (letters a b (f refl))
-equal_names a b false f g = by (same_name a b) refl
+pub equal_names : (a b : List ℕ) (r : Bool) → (r ≡ true) ↔ (map to_ascii_lowercase a ≡ map to_ascii_lowercase b) → r ≡ same_name a b
+equal_names a b true h = sym (letters a b (h.0 refl))
+equal_names a b false h = by (same_name a b) refl
   where
     by : (t : Bool) → same_name a b ≡ t → false ≡ t
-    by true e = g (cased a b e)
+    by true e = h.1 (cased a b e)
     by false e = refl
 
 -- a text that starts with another

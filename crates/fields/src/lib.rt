@@ -11,7 +11,7 @@ ghost use Rattle.fields.specs.Step.{passed, value_start, step_of, separated, fou
 ghost use Rattle.fields.specs.Step.{written_in};
 
 use answer::Refusal;
-use ascii::{BLANK, NAME, TEXT, after, byte_at, front, is_blank, leading, same};
+use ascii::{Class, after, byte_at, front, is_blank, leading};
 use groups::lines::{line_at, line_ends};
 
 // A line, and how long the name at its front is.
@@ -50,7 +50,7 @@ impl<'a> Line<'a> {
     {
         Line {
             text,
-            name: leading(text, NAME),
+            name: leading(text, Class::Name),
         }
     }
 
@@ -79,7 +79,7 @@ impl<'a> Line<'a> {
     fn is_named(self, name: &[u8]) -> bool
         ensures { result ≡ same_name (name_of self.entry.text.now) name.now }
     {
-        same(true, front(self.text, self.name), name)
+        front(self.text, self.name).eq_ignore_ascii_case(name)
     }
 
     // Where the value of a field starts: behind the colon and the blanks.
@@ -87,7 +87,7 @@ impl<'a> Line<'a> {
         ensures { result ≡ value_start self.entry.text.now }
     {
         let colon = self.name + 1;
-        colon + leading(after(self.text, colon), BLANK)
+        colon + leading(after(self.text, colon), Class::Blank)
     }
 
     // A line that goes on adds to the value where the last field has the name, behind a space; a field of the name
@@ -102,7 +102,7 @@ impl<'a> Line<'a> {
                     mine: true,
                     found,
                     separator: Some(b' '),
-                    from: leading(self.text, BLANK),
+                    from: leading(self.text, Class::Blank),
                 }
             } else {
                 passed(found, self.text.len())
@@ -141,7 +141,7 @@ fn search(s: &[u8], name: &[u8]) -> Result<Option<Value>, Refusal>
     let mut total = 0;
     while next < s.len() {
         let rest = after(s, next);
-        let size = leading(rest, TEXT);
+        let size = leading(rest, Class::Text);
         if !line_ends(rest, size) {
             return Err(Refusal::BadHandshake);
         }

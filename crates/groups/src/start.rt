@@ -3,7 +3,7 @@ ghost use Rattle.std.specs.Prelude.{◌≡◌, ◌+◌, cond};
 ghost use Rattle.groups.specs.Start.{version_length, version_of, unless_empty, status_in, greeting_of, reply_of};
 ghost use Rattle.groups.specs.Start.{start_of, start_by};
 
-use ascii::{Decimal, after, byte_at, leading_number, starts_with};
+use ascii::{Decimal, after, byte_at, leading_number};
 
 // A version at the front of a text: how long it is, and its two numbers.
 #[derive(Clone, Copy, Debug, PartialEq, Eq)]
@@ -86,13 +86,12 @@ fn read_reply(s: &[u8]) -> Option<FirstLine>
 }
 
 // The first line is a greeting or a reply.
-#[tactic(auto, unfolding(crate::specs::Start::start_of))]
 pub fn read_start(line: &[u8]) -> Option<FirstLine>
     ensures { start_by result ≡ start_of line.now }
 {
-    if starts_with(line, b"GNUTELLA CONNECT/") {
+    if line.starts_with(b"GNUTELLA CONNECT/") {
         read_greeting(after(line, 17))
-    } else if starts_with(line, b"GNUTELLA/") {
+    } else if line.starts_with(b"GNUTELLA/") {
         read_reply(after(line, 9))
     } else {
         None

@@ -9,7 +9,7 @@ ghost use Rattle.std.specs.Prelude.{◌≡◌, length, IfOk, IfErr};
 ghost use Rattle.handshake.specs.Group.{Opened, NotOpened, group_by, read_group, asked_by, ask_field, asked_out};
 
 use answer::Refusal;
-use ascii::{TEXT, after, front, leading};
+use ascii::{Class, after, front, leading};
 use fields::{find, write_value};
 use groups::lines::{group_length, line_at};
 use groups::start::{FirstLine, read_start};
@@ -160,7 +160,7 @@ fn open_group(bytes: &[u8]) -> Result<Opening<'_>, Refusal>
     };
     let lines = front(bytes, used - 2);
     let first = line_at(lines, 0);
-    if leading(first, TEXT) != first.len() {
+    if leading(first, Class::Text) != first.len() {
         return Err(Refusal::BadHandshake);
     }
     let Some(start) = read_start(first) else {

@@ -4,7 +4,6 @@ ghost use Rattle.std.specs.Ordering.{nat_cmp};
 ghost use Rattle.std.specs.Cmp.Lexicographic.{slice_cmp};
 ghost use Rattle.ascii.specs.Text.{lower};
 
-use ascii::lower;
 use std::cmp::Ordering;
 
 // Letters count as in lower case, and the first bytes that differ decide. A keyword stands before every longer one that
@@ -12,5 +11,7 @@ use std::cmp::Ordering;
 pub(crate) fn order(a: &[u8], b: &[u8]) -> Ordering
     ensures { result ≡ slice_cmp nat_cmp (map lower a.now) (map lower b.now) }
 {
-    a.iter().map(|x| lower(*x)).cmp(b.iter().map(|y| lower(*y)))
+    a.iter()
+        .map(|x| x.to_ascii_lowercase())
+        .cmp(b.iter().map(|y| y.to_ascii_lowercase()))
 }

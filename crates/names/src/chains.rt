@@ -8,7 +8,7 @@ ghost use Rattle.namearea.specs.Good.{same_text};
 ghost use Rattle.names.specs.Chains.{word_of, spread, mixed, twin_of, last_twin, key_of, hash_of, bucket_in, tag_in};
 ghost use Rattle.names.specs.Chains.{Chained, Comparable, Walkable, Walked, ToldApart};
 
-use ascii::{after, same};
+use ascii::after;
 use namearea::{name_of, pair_at};
 use wire::little4;
 
@@ -120,7 +120,7 @@ fn is_at(area: &[u8], tags: &[u16; 512], place: usize, name: &[u8], tag: u16) ->
     if tags[place] != tag {
         return false;
     }
-    same(false, name, name_of(area, pair_at(area, place)))
+    name == name_of(area, pair_at(area, place))
 }
 
 // One more than the place of this name, which has this tag, in the chain that begins at `from`; 0 where it is not in

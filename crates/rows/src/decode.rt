@@ -141,7 +141,7 @@ fn text(word: &[u8], area: &mut [u8], at: usize) -> usize {
 }
 
 pub(crate) fn bytes(word: &[u8], area: &mut [u8], at: usize) -> usize {
-    if ascii::same(false, word, b"-") {
+    if word == b"-".as_slice() {
         return at;
     }
     text(word, area, at)

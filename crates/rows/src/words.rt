@@ -33,7 +33,7 @@ pub fn index(names: &[u8], text: &[u8]) -> usize
     let mut at: usize = 0;
     while at < names.len() {
         let end = find(names, at, b' ');
-        if ascii::same(false, &names[at..end], text) {
+        if &names[at..end] == text {
             return n;
         }
         n += 1;

@@ -94,7 +94,7 @@ fn row(rt: &impl Print, kind: usize, line: &[u8], one: usize) -> io::Result<()> 
 
 // A line of no kind is shown, unless it is empty or begins with `#`.
 fn unread(rt: &impl Print, line: &[u8]) -> io::Result<()> {
-    if ascii::same(false, words::part(line, 0, 1), b"#") {
+    if line.starts_with(b"#") {
         return Ok(());
     }
     if line.len() == 0 {

@@ -79,7 +79,7 @@ fn changed(rt: &impl Print, kind: usize, area: &mut [u8], name: &[u8]) -> io::Re
     wire::copy_onto(area, &mut room);
     let answer = change(kind, &mut *area, name);
     print::number(rt, u64::from(answer))?;
-    if ascii::same(false, words::part(&room, 0, area.len()), area) {
+    if words::part(&room, 0, area.len()) == &*area {
         print::mark(rt, b'=')?;
     }
     Ok(())
