@@ -3,3 +3,4 @@ pub mod LineLaws
 pub mod Ends
 pub mod FirstLine
 pub mod Rows
+pub mod Prefix

@@ -89,10 +89,10 @@ fn read_reply(s: &[u8]) -> Option<FirstLine>
 pub fn read_start(line: &[u8]) -> Option<FirstLine>
     ensures { start_by result ≡ start_of line.now }
 {
-    if line.starts_with(b"GNUTELLA CONNECT/") {
-        read_greeting(after(line, 17))
-    } else if line.starts_with(b"GNUTELLA/") {
-        read_reply(after(line, 9))
+    if let Some(rest) = line.strip_prefix(b"GNUTELLA CONNECT/") {
+        read_greeting(rest)
+    } else if let Some(rest) = line.strip_prefix(b"GNUTELLA/") {
+        read_reply(rest)
     } else {
         None
     }

@@ -1,14 +1,15 @@
 -- Laws of the loops over the pairs in use.
-use Prim.Native.Nat.{ℕ, suc, ◌+◌, ◌*◌, ◌≤◌, ◌<◌, min}
+use Prim.Native.Nat.{ℕ, ◌+◌, ◌*◌, ◌≤◌, ◌<◌, min}
 use mathlib.Core.Path.{◌≡◌, refl, sym, ap, ◌∙◌}
-use mathlib.Core.Bool.{true, false}
+use mathlib.Core.Bool.{Bool, true, false}
 use mathlib.Core.List.{List, [], ◌∷◌, ◌++◌, append-nil}
 use native.Mathlib.Numerals.{add-one}
 use native.Mathlib.Omega.{arith}
-use borrow.Author.Tests.{eq-eqb, ne_eqb, le-leb, lt-leb, leb-true}
+use borrow.Author.Tests.{le-leb, lt-leb, leb-true, leb-false}
 use lib.Dec.{leb}
-use lib.ListN.{length, get_or, drop, length-append, length-take, drop_of_length-le}
-use lib.Seq.{drop-cons, get_or-take}
+use lib.ListN.{length, get_or, take, drop, length-append, drop_of_length-le}
+use lib.Seq.{take_all, drop-cons}
+use Rattle.std.specs.List.{list_all}
 use Rattle.laws.specs.Tests.{all}
 use Rattle.laws.specs.Parts.{over, Put}
 use Rattle.laws.proofs.Refusals.{and_fst}
@@ -17,6 +18,11 @@ use Rattle.xtry.specs.Pairs.{comma}
 use Rattle.xtry.specs.Writing.{pair_text, pairs_text, pairs_in, has_port, can_write, led, led_size, led_over}
 use Rattle.xtry.specs.declared.Pair.{Pair}
 use Rattle.xtry.specs.declared.Pairs.{Pairs}
+
+-- the library's test of all is ours
+pub all-is : (f : Pair → Bool) (ps : List Pair) → all f ps ≡ list_all f ps
+all-is f [] = refl
+all-is f (p ∷ ps) = rw (all-is f ps)
 
 -- ---- pairs behind a byte
 
@@ -30,114 +36,85 @@ pub can-few : (pairs : Pairs) → can_write pairs ≡ true → pairs.count ≤ 3
 unfolding can_write
 can-few pairs h = leb-true pairs.count 32 (and_fst (leb pairs.count 32) (all has_port (pairs_in pairs)) h)
 
-pub too_many : (pairs : Pairs) → 32 < pairs.count → false ≡ can_write pairs
-unfolding can_write
-too_many pairs h = sym (rw (lt-leb pairs.count 32 h))
+-- ---- the loop over the pairs in use
 
--- ---- the records that the loops keep
-
--- the pairs up to the i-th have a port
-pub record Ported (pairs : Pairs) (n i : ℕ) : Type 0 where
-  pub within : i ≤ n
-  pub ports : all has_port (pairs_in pairs) ≡ all has_port (drop i (pairs_in pairs))
-
--- they are written, the first behind s, up to place `to`, and the next one stands behind `lead`
-pub record Listing (pairs : Pairs) (s : ℕ) (before : List ℕ) (n : ℕ) (area : List ℕ) (to lead i : ℕ) : Type 0 where
-  pub within : i ≤ n
-  pub small : to ≤ 30 * i
-  pub size : length area ≡ length before
-  pub place : to + length (led lead (drop i (pairs_in pairs))) ≡ length (led s (pairs_in pairs))
-  pub left : over to (led lead (drop i (pairs_in pairs))) area ≡ over 0 (led s (pairs_in pairs)) before
-
-pub listing_start : (pairs : Pairs) (s : ℕ) (area : List ℕ) (n : ℕ) → Listing pairs s area n area 0 s 0
-listing_start pairs s area n =
-    record { within = omega arith; small = omega arith; size = refl; place = omega arith; left = refl }
-
--- ---- a turn: n pairs are in use
-
--- of the 32 places for pairs
-pub record InUse (pairs : Pairs) (n : ℕ) : Type 0 where
-  pub places : length pairs.pairs ≡ 32
-  pub count : n ≡ min pairs.count 32
+-- all but the first 32 places are none
+pub in_use : (pairs : Pairs) → length pairs.pairs ≡ 32 → take (min pairs.count 32) pairs.pairs ≡ pairs_in pairs
+in_use pairs e = go (leb pairs.count 32) refl
+  where
+    go : (t : Bool) → leb pairs.count 32 ≡ t → take (min pairs.count 32) pairs.pairs ≡ pairs_in pairs
+    go true k =
+        let h = leb-true pairs.count 32 k in
+        let m : min pairs.count 32 ≡ pairs.count = omega arith in
+        rw m
+    go false k =
+        let h = leb-false pairs.count 32 k in
+        let m : min pairs.count 32 ≡ 32 = omega arith in
+        rw (m, take_all 32 pairs.pairs (omega arith), take_all pairs.count pairs.pairs (omega arith))
 
 -- what is read behind the last place
 abbrev pub no_pair : Pair
 no_pair = record { address = []; port = 0 }
 
-module _ {pairs : Pairs} {n : ℕ} (u : InUse pairs n) where
-  abbrev pair_at : ℕ → Pair
-  pair_at i = get_or pairs.pairs i no_pair
+-- the next pair, and those after it
+pub next-pair : (ps : List Pair) (i : ℕ) → i < length ps → drop i ps ≡ get_or ps i no_pair ∷ drop (i + 1) ps
+next-pair ps i h =
+    drop-cons ps i no_pair h ∙ ap (λ m. get_or ps i no_pair ∷ drop m ps) (sym (add-one i))
 
-  in_use : length (pairs_in pairs) ≡ n
-  in_use = omega (arith, u.places, u.count, length-take pairs.count pairs.pairs)
+-- the pairs before the i-th are written, the first behind s, up to place `to`, and the next one stands behind `lead`
+pub record Listing (ps : List Pair) (s : ℕ) (before area : List ℕ) (to lead i : ℕ) : Type 0 where
+  pub small : to ≤ 30 * i
+  pub size : length area ≡ length before
+  pub place : to + length (led lead (drop i ps)) ≡ length (led s ps)
+  pub left : over to (led lead (drop i ps)) area ≡ over 0 (led s ps) before
 
-  -- the next pair, and those after it
-  next-pair : (i : ℕ) → i < n → drop i (pairs_in pairs) ≡ pair_at i ∷ drop (i + 1) (pairs_in pairs)
-  next-pair i h =
-      let l : i < length (pairs_in pairs) = omega (arith, in_use) in
-      let c : i < pairs.count = omega (arith, u.count) in
-      drop-cons (pairs_in pairs) i no_pair l
-      ∙ ap (λ x. x ∷ drop (suc i) (pairs_in pairs)) (get_or-take pairs.count pairs.pairs i no_pair c)
-      ∙ ap (λ m. pair_at i ∷ drop m (pairs_in pairs)) (sym (add-one i))
+pub listing_start : (ps : List Pair) (s : ℕ) (area : List ℕ) → Listing ps s area area 0 s 0
+listing_start ps s area = record { small = omega arith; size = refl; place = omega arith; left = refl }
 
-  no_more : (i : ℕ) → n ≤ i → drop i (pairs_in pairs) ≡ []
-  no_more i h = drop_of_length-le (pairs_in pairs) {i = i} (omega (arith, in_use))
+module _ {ps : List Pair} {s : ℕ} {before area : List ℕ} {to lead i : ℕ} (l : Listing ps s before area to lead i)
+    (few : length ps ≤ 32) (room : 960 ≤ length before) where
+  pub listing_end : (pairs : Pairs) → ps ≡ pairs_in pairs → i ≡ length ps
+      → (to ≡ led_size s pairs (length before)) × ((area ≡ led_over s pairs before) × (to ≤ 960))
+  unfolding led
+  listing_end pairs e h =
+      let z : led lead (drop i ps) ≡ [] = ap (led lead) (drop_of_length-le ps {i = i} (omega arith)) in
+      let most = le-leb 960 (length before) room in
+      let written = sym (over_none to area) ∙ ap (λ x. over to x area) (sym z) ∙ l.left in
+      rw (← e) (
+        rw most (omega (arith, ap length z, l.place)),
+        (rw most written, omega (arith, l.small)),
+      )
 
-  module _ {i : ℕ} (few : pairs.count ≤ 32) (p : Ported pairs n i) where
-    pub ported_end : n ≤ i → true ≡ can_write pairs
-    unfolding can_write
-    ported_end h = sym (rw (le-leb pairs.count 32 few, p.ports, no_more i h))
+  -- the next pair has room
+  pub listing_room : i < length ps → to + 30 ≤ length area
+  listing_room h = omega (arith, l.small, l.size)
 
-    pub ported_not : i < n → (pair_at i).port ≡ 0 → false ≡ can_write pairs
-    unfolding can_write
-    ported_not h z = sym (rw (le-leb pairs.count 32 few, p.ports, next-pair i h, eq-eqb (pair_at i).port 0 z))
+  module _ (h : i < length ps) (p : Pair) (is : drop i ps ≡ p ∷ drop (i + 1) ps) where
+    abbrev text : List ℕ
+    text = lead ∷ pair_text p
 
-    pub ported_on : i < n → ((pair_at i).port ≡ 0 → ⊥) → Ported pairs n (i + 1)
-    ported_on h z = record { within = omega arith; ports = p.ports ∙ rw (next-pair i h, ne_eqb (pair_at i).port 0 z) }
+    abbrev rest : List ℕ
+    rest = led comma (drop (i + 1) ps)
 
-  module _ {s : ℕ} {before area : List ℕ} {to lead i : ℕ} (l : Listing pairs s before n area to lead i)
-      (room : 960 ≤ length before) where
-    pub listing_end : n ≤ i → (to ≡ led_size s pairs (length before)) × ((area ≡ led_over s pairs before) × (to ≤ 960))
+    more : led lead (drop i ps) ≡ text ++ rest
     unfolding led
-    listing_end h =
-        let z : led lead (drop i (pairs_in pairs)) ≡ [] = ap (led lead) (no_more i h) in
-        let most = le-leb 960 (length before) room in
-        let written = sym (over_none to area) ∙ ap (λ x. over to x area) (sym z) ∙ l.left in (
-          rw most (omega (arith, ap length z, l.place)),
-          (rw most written, omega (arith, u.count, l.small, l.within)),
-        )
+    more = rw is
 
-    -- the next pair has room
-    pub listing_room : i < n → to + 30 ≤ length area
-    listing_room h = omega (arith, u.count, l.small, l.size)
-
-    module _ (h : i < n) where
-      abbrev text : List ℕ
-      text = lead ∷ pair_text (pair_at i)
-
-      abbrev rest : List ℕ
-      rest = led comma (drop (i + 1) (pairs_in pairs))
-
-      more : led lead (drop i (pairs_in pairs)) ≡ text ++ rest
-      unfolding led
-      more = rw (next-pair i h)
-
-      pub listing_on : {after : List ℕ} {next : ℕ} → length after ≡ length area → Put to text area after next
-          → next ≤ to + 30
-          → Listing pairs s before n after next 44 (i + 1)
-      listing_on {after} {next} z p b =
-          record {
-            within = omega arith;
-            small = omega (arith, l.small);
-            size = z ∙ l.size;
-            place = omega (arith, p.moved, l.place, ap length more, length-append text rest);
-            left =
-                ap (λ m. over m rest after) p.moved
-                ∙ ap (λ a. over (to + length text) rest a) p.written
-                ∙ over_append to text rest area (omega (arith, listing_room h, p.moved))
-                ∙ ap (λ x. over to x area) (sym more)
-                ∙ l.left;
-          }
+    pub listing_on : {after : List ℕ} {next : ℕ} → length after ≡ length area → Put to text area after next
+        → next ≤ to + 30
+        → Listing ps s before after next 44 (i + 1)
+    listing_on {after} {next} z q b =
+        record {
+          small = omega (arith, l.small);
+          size = z ∙ l.size;
+          place = omega (arith, q.moved, l.place, ap length more, length-append text rest);
+          left =
+              ap (λ m. over m rest after) q.moved
+              ∙ ap (λ a. over (to + length text) rest a) q.written
+              ∙ over_append to text rest area (omega (arith, listing_room h, q.moved))
+              ∙ ap (λ x. over to x area) (sym more)
+              ∙ l.left;
+        }
 
 -- no room
 pub led-none : (pairs : Pairs) (s : ℕ) (area : List ℕ) → length area < 960 → (0 ≡ led_size s pairs (length area))

@@ -1,8 +1,8 @@
 // Pairs written as text.
-ghost use Rattle.std.specs.Prelude.{◌≡◌, ◌∷◌, ◌+◌, ◌≤◌, min, length};
+ghost use Rattle.std.specs.Prelude.{◌≡◌, ◌∷◌, ◌+◌, ◌≤◌, length};
 ghost use Rattle.laws.specs.Parts.{Put};
 ghost use Rattle.digits.specs.Decimal.{decimal};
-ghost use Rattle.xtry.specs.Writing.{pair_text, can_write, led_size, led_over};
+ghost use Rattle.xtry.specs.Writing.{pair_text, pairs_in, can_write, led_size, led_over};
 
 use crate::{Pair, Pairs};
 
@@ -25,53 +25,34 @@ fn put_number(out: &mut [u8], at: usize, lead: u8, n: u16) -> usize
     from + size
 }
 
-// The byte `lead` and an octet in decimal.
-fn put_octet(out: &mut [u8], at: usize, lead: u8, b: u8) -> usize
-    requires { at + 6 ≤ length out.old }
-    ensures put { Put at (lead ∷ decimal b) out.old out.new result }
-    ensures upper_bound { result ≤ at + 6 }
-{
-    put_number(out, at, lead, b as u16)
-}
-
 // The byte `lead` and a pair.
 fn put_pair(out: &mut [u8], at: usize, lead: u8, p: Pair) -> usize
     requires { at + 30 ≤ length out.old }
     ensures put { Put at (lead ∷ pair_text p) out.old out.new result }
     ensures upper_bound { result ≤ at + 30 }
 {
-    let a = p.address;
-    let i = put_octet(out, at, lead, a[0]);
-    let j = put_octet(out, i, b'.', a[1]);
-    let k = put_octet(out, j, b'.', a[2]);
-    let l = put_octet(out, k, b'.', a[3]);
+    let [a, b, c, d] = p.address;
+    let i = put_number(out, at, lead, u16::from(a));
+    let j = put_number(out, i, b'.', u16::from(b));
+    let k = put_number(out, j, b'.', u16::from(c));
+    let l = put_number(out, k, b'.', u16::from(d));
     put_number(out, l, b':', p.port)
 }
 
+// The pairs in use.
+fn in_use(pairs: &Pairs) -> &[Pair]
+    ensures value { result.now ≡ pairs_in pairs.now }
+    ensures few { length result.now ≤ 32 }
+{
+    &pairs.pairs[..pairs.count.min(32)]
+}
+
 // At most 32 pairs, and each has a port.
+#[tactic(auto, unfolding(crate::specs::Writing::can_write))]
 pub fn can_write(pairs: Pairs) -> bool
     ensures { result ≡ can_write pairs }
 {
-    let n = pairs.count;
-    if n > 32 {
-        return false;
-    }
-    let mut i: usize = 0;
-    while i < n {
-        let p = pairs.pairs[i];
-        if p.port == 0 {
-            return false;
-        }
-        i += 1;
-    }
-    true
-}
-
-// How many pairs are in use.
-fn used(count: usize) -> usize
-    ensures { result ≡ min count 32 }
-{
-    if count < 32 { count } else { 32 }
+    pairs.count <= 32 && in_use(&pairs).iter().all(|p| p.port != 0)
 }
 
 // The pairs at the front of an area, the first behind `first` and the others behind a comma. Answers how many bytes it
@@ -84,15 +65,12 @@ pub fn write_pairs(pairs: Pairs, first: u8, out: &mut [u8]) -> usize
     if out.len() < MOST {
         return 0;
     }
-    let n = used(pairs.count);
-    let mut to: usize = 0;
+    let listed = in_use(&pairs);
+    let mut to = 0;
     let mut lead = first;
-    let mut i: usize = 0;
-    while i < n {
-        let p = pairs.pairs[i];
-        to = put_pair(out, to, lead, p);
+    for p in listed {
+        to = put_pair(out, to, lead, *p);
         lead = b',';
-        i += 1;
     }
     to
 }

@@ -1,28 +1,28 @@
 -- Three cases, by the words the line starts with: a greeting, a reply, and neither.
 use mathlib.Core.Path.{sym, ap, ◌∙◌}
-use Rattle.ascii.proofs.Library.{starting}
 use Rattle.groups.specs.Start.{greeting_text, reply_text, start_of, greeting_of, reply_of}
+use Rattle.groups.proofs.Prefix.{starting}
 use Rattle.groups.proofs.start.read_start.Goals as goal
 
-pub returns-then-starts_with : goal.returns-then-starts_with
+pub returns-in-Some : goal.returns-in-Some
 unfolding start_of
-returns-then-starts_with c =
-    rw (sym (c.starts_with.ensures.value ∙ starting c.args.line.now greeting_text) ∙ c.if-starts_with.true)
-    (c.read_greeting.ensures ∙ ap greeting_of c.after.ensures)
+returns-in-Some c =
+    let h = c.in-Some.ensures.cases in
+    rw (sym (starting greeting_text c.args.line.now) ∙ h.0) (c.read_greeting.ensures ∙ ap greeting_of h.1)
 
-pub returns-then-starts_with-2 : goal.returns-then-starts_with-2
+pub returns-in-Some-strip_prefix : goal.returns-in-Some-strip_prefix
 unfolding start_of
-returns-then-starts_with-2 c =
+returns-in-Some-strip_prefix c =
+    let h = c.in-Some-strip_prefix.ensures.cases in
     rw (
-      sym (c.starts_with.ensures.value ∙ starting c.args.line.now greeting_text) ∙ c.if-starts_with.false,
-      sym (c.starts_with-else-starts_with.ensures.value ∙ starting c.args.line.now reply_text) ∙ c.if-starts_with-2.true,
-    )
-    (c.read_reply.ensures ∙ ap reply_of c.after-then-starts_with-2.ensures)
+      sym (starting greeting_text c.args.line.now) ∙ c.in_default.ensures.cases,
+      sym (starting reply_text c.args.line.now) ∙ h.0,
+    ) (c.read_reply.ensures ∙ ap reply_of h.1)
 
-pub returns-else-starts_with-2 : goal.returns-else-starts_with-2
+pub returns-in_default-strip_prefix : goal.returns-in_default-strip_prefix
 unfolding start_of
-returns-else-starts_with-2 c =
+returns-in_default-strip_prefix c =
     rw (
-      sym (c.starts_with.ensures.value ∙ starting c.args.line.now greeting_text) ∙ c.if-starts_with.false,
-      sym (c.starts_with-else-starts_with.ensures.value ∙ starting c.args.line.now reply_text) ∙ c.if-starts_with-2.false,
+      sym (starting greeting_text c.args.line.now) ∙ c.in_default.ensures.cases,
+      sym (starting reply_text c.args.line.now) ∙ c.in_default-strip_prefix.ensures.cases,
     )

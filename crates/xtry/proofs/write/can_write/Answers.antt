@@ -1,33 +1,20 @@
--- The pairs gone through have a port; those left decide.
-use native.Mathlib.Omega.{arith}
-use mathlib.Core.Path.{refl}
-use Rattle.xtry.proofs.Listing.{InUse, too_many, ported_end, ported_not, ported_on}
+-- At most 32 pairs are all in use, and the library's test of them is the definition's.
+use mathlib.Core.Path.{◌∙◌, sym, ap}
 use borrow.Author.Rules.{rules}
-use Rattle.xtry.proofs.write.can_write.Goals.{Else-n-gt32}
+use borrow.Author.Tests.{le-leb}
+use Rattle.std.proofs.Common.{tests}
+use Rattle.std.proofs.lemmas.Iterator.{YieldsList-from_slice}
+use Rattle.std.proofs.lemmas.Iterator.Search.{all_from_yields_List}
+use Rattle.laws.specs.Tests.{all}
+use Rattle.xtry.specs.Writing.{has_port, can_write}
+use Rattle.xtry.proofs.Listing.{all-is}
 use Rattle.xtry.proofs.write.can_write.Goals as goal
 
-pub returns-then-n-gt32 : goal.returns-then-n-gt32
-returns-then-n-gt32 c = too_many c.args.pairs c.if-n-gt32.true
-
-pub loop-i-init : goal.loop-i-init
-loop-i-init c = record { within = search rules; ports = refl }
-
--- the pairs in use are as many as they say
-in_use : (e : Else-n-gt32) → InUse e.args.pairs e.args.pairs.count
-in_use e =
-    record {
-      places = e.well_formed.0.1.1.1.0.1.0.1;
-      count = omega (arith, e.if-n-gt32.false);
-    }
-
-pub returns-then-p-eq0 : goal.returns-then-p-eq0
-returns-then-p-eq0 c =
-    ported_not (in_use (goal.at.returns-then-p-eq0 c).Else-n-gt32) c.if-n-gt32.false c.loop-i.invariant (search rules) c.if-p-eq0.true
-
-pub loop-i-preserved : goal.loop-i-preserved
-loop-i-preserved c =
-    ported_on (in_use (goal.at.loop-i-preserved c).Else-n-gt32) c.if-n-gt32.false c.loop-i.invariant (search rules) c.if-p-eq0.false
-
-pub returns : goal.returns
-returns c =
-    ported_end (in_use (goal.at.returns c).Else-n-gt32) c.if-n-gt32.false c.loop-i.invariant (search rules)
+pub returns-then-pairs-le32 : goal.returns-then-pairs-le32
+unfolding can_write
+returns-then-pairs-le32 c =
+    let h =
+    all_from_yields_List has_port _ _ c.all.result c.all.ensures.ran (YieldsList-from_slice c.in_use.result.now cc)
+    (λ y b q k. search (rules, tests)) in
+    rw (le-leb c.args.pairs.count 32 c.if-pairs-le32.true)
+    (h ∙ sym (all-is has_port c.in_use.result.now) ∙ ap (all has_port) c.in_use.ensures.value)
