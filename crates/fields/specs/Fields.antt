@@ -1,6 +1,7 @@
 -- The fields of a group: lines of a name, a colon and a value, with the lines that go on with a value, and the value of
 -- a name.
-use Rattle.std.specs.Prelude.{ℕ, ◌+◌, Bool, true, false, cond, ◌&&◌, ◌||◌, List, [], ◌∷◌, ◌++◌, ltb, eqb, get_or, take, drop}
+use Rattle.std.specs.Prelude.{ℕ, ◌+◌, Bool, true, false, cond, ◌&&◌, ◌||◌, List, [], ◌∷◌, ◌++◌, ltb, eqb, get_or, take}
+use Rattle.std.specs.Prelude.{drop}
 use Rattle.laws.specs.Tests.{all}
 use Rattle.ascii.specs.Text.{is_blank, is_name, is_text, leading, same_name}
 

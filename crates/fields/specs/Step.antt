@@ -1,5 +1,6 @@
 -- What a line adds to the value of a name, when lines are gone through one after the other.
-use Rattle.std.specs.Prelude.{ℕ, Option, Some, None, Result, Ok, Err, ◌+◌, ◌≡◌, Bool, true, false, cond, not, ◌&&◌, List, [], ◌∷◌, ◌++◌, leb, length, drop}
+use Rattle.std.specs.Prelude.{ℕ, Option, Some, None, Result, Ok, Err, ◌+◌, ◌≡◌, Bool, true, false, cond, not, ◌&&◌}
+use Rattle.std.specs.Prelude.{List, [], ◌∷◌, ◌++◌, leb, length, drop}
 use Rattle.laws.specs.Parts.{over}
 use Rattle.fields.specs.declared.Step.{Step}
 use Rattle.fields.specs.declared.Value.{Value}

@@ -7,8 +7,8 @@ ghost use Rattle.ascii.specs.Text.{same_name};
 ghost use Rattle.answer.specs.Numbers.{answer_of};
 ghost use Rattle.groups.specs.Lines.{lines_of};
 ghost use Rattle.fields.specs.Fields.{continues, is_field, name_length, name_of, field_ok, value_for};
-ghost use Rattle.fields.specs.Step.{passed, value_start, step_of, separated, found_in, found_by, refused_in, lengths, WholeFrom};
-ghost use Rattle.fields.specs.Step.{written_in};
+ghost use Rattle.fields.specs.Step.{passed, value_start, step_of, separated, found_in, found_by, refused_in, lengths};
+ghost use Rattle.fields.specs.Step.{WholeFrom, written_in};
 
 use answer::Refusal;
 use ascii::{Class, after, byte_at, front, is_blank, leading};

@@ -11,14 +11,16 @@ use native.Mathlib.Numerals.{add-one}
 use lib.Dec.{eqb, leb}
 use lib.ListN.{length, get_or, take, drop, take-append-drop, length-append, length-take, drop_of_length-le}
 use lib.ListN.{get_or-eq_default}
-use lib.Seq.{length-take-le, get_or-append-add, take_all, take-suc, take-add, get_or-take, get_or-drop, get_or-append_seam}
+use lib.Seq.{length-take-le, get_or-append-add, take_all, take-suc, take-add, get_or-take, get_or-drop}
+use lib.Seq.{get_or-append_seam}
 use lib.Seq.{drop-append-add, drop-append_seam}
 use borrow.Author.Tests.{eq-eqb, ne_eqb, eqb-true, eqb-false, le-leb, leb-true, not-true}
 use Rattle.laws.specs.Tests.{every}
 use Rattle.laws.proofs.Refusals.{clash, and_fst, and_snd, or_split, or_left, or_right, and_intro, Each, each}
 use Rattle.groups.specs.declared.start.Version.{Version}
 use Rattle.groups.specs.Start.{Start}
-use Rattle.ascii.specs.Text.{is_digit, leading, compared, same, starts_with, digit_of, decimal_from, digit_count, digit_value}
+use Rattle.ascii.specs.Text.{is_digit, leading, compared, same, starts_with, digit_of, decimal_from, digit_count}
+use Rattle.ascii.specs.Text.{digit_value}
 use Rattle.groups.specs.Start.{greeting_text, reply_text, one_to_three, at_least06, version_length, behind_dot}
 use Rattle.groups.specs.Start.{version_of, status_ok, is_status, no_start, greeting_from, greeting_of, reply_from}
 use Rattle.groups.specs.Start.{behind_version, reply_of, start_of}

@@ -1,5 +1,6 @@
 -- A group of lines, and where it ends.
-use Rattle.std.specs.Prelude.{ℕ, zero, suc, Option, Some, None, ◌+◌, ◌-◌, min, Bool, true, cond, not, ◌&&◌, ◌||◌, List, [], ◌∷◌, leb, eqb, length, get_or, take, drop}
+use Rattle.std.specs.Prelude.{ℕ, zero, suc, Option, Some, None, ◌+◌, ◌-◌, min, Bool, true, cond, not, ◌&&◌, ◌||◌, List}
+use Rattle.std.specs.Prelude.{[], ◌∷◌, leb, eqb, length, get_or, take, drop}
 use Rattle.ascii.specs.Text.{run, onto}
 
 -- CR and LF stand at place i

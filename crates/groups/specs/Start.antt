@@ -1,5 +1,6 @@
 -- The first line of a group: a greeting or a reply, with its version.
-use Rattle.std.specs.Prelude.{ℕ, Option, Some, None, ◌+◌, Bool, cond, not, ◌&&◌, ◌||◌, List, [], ◌∷◌, leb, eqb, length, get_or, drop}
+use Rattle.std.specs.Prelude.{ℕ, Option, Some, None, ◌+◌, Bool, cond, not, ◌&&◌, ◌||◌, List, [], ◌∷◌, leb, eqb, length}
+use Rattle.std.specs.Prelude.{get_or, drop}
 use Rattle.laws.specs.Tests.{every}
 use Rattle.laws.specs.Text.{codes}
 use Rattle.groups.specs.declared.start.Version.{Version}

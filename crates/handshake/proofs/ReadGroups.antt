@@ -10,7 +10,8 @@ use lib.Seq.{take_all, take-append_seam}
 use borrow.Author.Tests.{le-leb, ne_eqb, not-true, not-false}
 use Rattle.laws.specs.Tests.{all}
 use Rattle.laws.proofs.Refusals.{and_fst, and_snd, no-refusal}
-use Rattle.ascii.specs.Text.{is_digit, is_text, is_blank, leading, lower, compared, digit_of, digit_value, pieces, filled}
+use Rattle.ascii.specs.Text.{is_digit, is_text, is_blank, leading, lower, compared, digit_of, digit_value, pieces}
+use Rattle.ascii.specs.Text.{filled}
 use Rattle.groups.specs.Lines.{ends_at, group_length, lines_of, first_line, other_lines}
 use Rattle.groups.specs.Start.{version_length, status_ok, greeting_from, reply_from, start_of}
 use Rattle.groups.specs.Start.{Start}

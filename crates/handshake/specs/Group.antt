@@ -1,5 +1,6 @@
 -- A group read, and a field asked for: what is handed back, with the refusals in their order.
-use Rattle.std.specs.Prelude.{ℕ, Option, Some, None, Result, Ok, Err, ◌≡◌, ◌-◌, true, Bool, false, cond, not, ◌&&◌, ◌||◌, List, [], ◌∷◌, leb, ltb, eqb, length, take}
+use Rattle.std.specs.Prelude.{ℕ, Option, Some, None, Result, Ok, Err, ◌≡◌, ◌-◌, true, Bool, false, cond, not, ◌&&◌}
+use Rattle.std.specs.Prelude.{◌||◌, List, [], ◌∷◌, leb, ltb, eqb, length, take}
 use Rattle.laws.specs.Tests.{first_of, all}
 use Rattle.laws.specs.Parts.{over}
 use Rattle.answer.specs.declared.Refusal.{Refusal}

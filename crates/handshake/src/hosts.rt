@@ -22,7 +22,7 @@ impl From<Result<HostsRead, Refusal>> for TriedGroup {
             Ok(HostsRead { used, pairs }) => TriedGroup {
                 answer: answer(pairs),
                 used,
-                pairs: pairs.unwrap_or(Pairs::default()),
+                pairs: pairs.unwrap_or_default(),
             },
             Err(refusal) => TriedGroup {
                 answer: u8::from(refusal),

@@ -15,14 +15,13 @@ use groups::lines::{group_length, line_at};
 use groups::start::{FirstLine, read_start};
 use xtry::Pairs;
 
-// The kinds of a group that is understood, as a `Group` has them.
+// The kinds of a group that is understood, as numbers of lunozhar_group of the C interface.
 pub const GREETING: u8 = 1;
 
 pub const REPLY: u8 = 2;
 
-// A group that was read. The answer is 0, or 4 (not whole), 17 (not understood) or 18 (no end in 4,096 bytes), with all
-// else 0 then.
-// `used` is the group's length; `code` is 0 for a greeting.
+// A group that was read, lunozhar_group of the C interface. The answer is 0, or 4 (not whole), 17 (not understood) or
+// 18 (no end in 4,096 bytes), with all else 0 then. `used` is the group's length; `code` is 0 for a greeting.
 #[repr(C)]
 #[derive(Clone, Copy)]
 pub struct Group {
@@ -34,9 +33,8 @@ pub struct Group {
     pub code: u32,
 }
 
-// A field that was asked for. The answer is as for reading, or 10 (absent) or 2 (the area is short). `used` is the
-// group's length for
-// 0 and 10; `written` is the value's length for 0.
+// A field that was asked for, lunozhar_asked of the C interface. The answer is as for reading, or 10 (absent) or 2 (the
+// area is short). `used` is the group's length for 0 and 10; `written` is the value's length for 0.
 #[repr(C)]
 #[derive(Clone, Copy)]
 pub struct Asked {
@@ -45,7 +43,8 @@ pub struct Asked {
     pub written: usize,
 }
 
-// What asking a group for its hosts gives: `used` is the group's length where the group was understood.
+// What asking a group for its hosts gives, lunozhar_hosts of the C interface: `used` is the group's length where the
+// group was understood.
 #[repr(C)]
 #[derive(Clone, Copy)]
 pub struct TriedGroup {
@@ -54,7 +53,8 @@ pub struct TriedGroup {
     pub pairs: Pairs,
 }
 
-// What writing a group gives: the answer (RULES 2.1), and how many bytes were written (none where it is not 0).
+// What writing a group gives, lunozhar_written of the C interface: the answer (RULES 2.1), and how many bytes were
+// written (none where it is not 0).
 #[repr(C)]
 #[derive(Clone, Copy)]
 pub struct Wrote {

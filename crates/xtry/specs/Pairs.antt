@@ -1,5 +1,6 @@
 -- X-Try's pairs in the value of a field (RULES 15.11, 15.12).
-use Rattle.std.specs.Prelude.{ℕ, Result, Ok, Err, ◌-◌, Bool, cond, not, ◌&&◌, List, [], ◌∷◌, ◌++◌, map, eqb, leb, length, take, get_or, replicate}
+use Rattle.std.specs.Prelude.{ℕ, Result, Ok, Err, ◌-◌, Bool, cond, not, ◌&&◌, List, [], ◌∷◌, ◌++◌, map, eqb, leb}
+use Rattle.std.specs.Prelude.{length, take, get_or, replicate}
 use Rattle.laws.specs.Tests.{first_of, every, all}
 use Rattle.ascii.specs.Text.{is_digit, decimal_from, pieces, filled}
 use Rattle.xtry.specs.declared.Pair.{Pair}

@@ -16,7 +16,8 @@ pub struct Pair {
     pub port: u16,
 }
 
-// Up to 32 pairs: the first `count` places are in use, the others are zero when read.
+// Up to 32 pairs: the first `count` places are in use, the others are zero when read. A count beside an array, since
+// lunozhar_pairs of the C interface is one.
 #[repr(C)]
 #[derive(Clone, Copy)]
 pub struct Pairs {

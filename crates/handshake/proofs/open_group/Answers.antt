@@ -6,7 +6,8 @@ use Rattle.ascii.specs.Text.{is_text}
 use Rattle.ascii.proofs.TextLaws.{all-run, not-all-run}
 use Rattle.groups.specs.Lines.{group_length}
 use Rattle.handshake.proofs.Behind.{length_in}
-use Rattle.handshake.proofs.GroupLaws.{length-some, some-length, length-none, no-end-long, no-end-short, first-no-text, first-no-start}
+use Rattle.handshake.proofs.GroupLaws.{length-some, some-length, length-none, no-end-long, no-end-short, first-no-text}
+use Rattle.handshake.proofs.GroupLaws.{first-no-start}
 use Rattle.handshake.proofs.GroupLaws.{first-opened}
 use Rattle.handshake.proofs.open_group.Goals.{In-Some, then-bytes-lt4096, else-bytes-lt4096}
 use Rattle.handshake.proofs.open_group.Goals as goal

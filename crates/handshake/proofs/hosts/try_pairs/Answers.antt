@@ -17,8 +17,8 @@ returns-in_err-field c =
     c.in_err-field.ensures.value)
 
 gives : (c : After-unwrap_or-n)
-    → Gives c.args.bytes.now (replicate 4096 0) (length-replicate {A = ℕ} 4096 0) (asked_for c.in_ok-field.field.used c.in_ok-field.field.written)
-    c.field.new.out
+    → Gives c.args.bytes.now (replicate 4096 0) (length-replicate {A = ℕ} 4096 0)
+    (asked_for c.in_ok-field.field.used c.in_ok-field.field.written) c.field.new.out
 gives c =
     ask-gives c.args.bytes.now (replicate 4096 0) (length-replicate {A = ℕ} 4096 0) _ c.field.new.out
     c.in_ok-field.ensures.value c.field.ensures.out_after
