@@ -3,6 +3,7 @@
 #![tactic(auto)]
 
 mod calls;
+mod events;
 mod set;
 
 ghost use Rattle.std.specs.Prelude.{◌≤◌, ◌≡◌, ◌⊎◌, eqb};
@@ -10,38 +11,74 @@ ghost use Rattle.protocol.specs.Calls.{unfound};
 ghost use Rattle.protocol.specs.Queries.{usual_limit, infinity_written};
 ghost use Rattle.relaying.specs.Calls.{told_by};
 
-use crate::calls::Held;
+use crate::calls::{Bringing, Held};
+use crate::events::Event;
+use lunozhar::Number;
 use protocol::{Finding, Report};
 use relaying::Made;
 use rows::words;
 
-// Whether the last call brought bytes; then how many are held of its line after all, whether that is shut, and whether
-// the message that was taken stands in the held area.
+// Of a line that brought bytes: how many are held of it, whether it is shut, and whether the message that was taken
+// stands in the held area.
 #[derive(Clone, Copy)]
 pub struct Brought {
-    pub brings: bool,
     pub held: u16,
     pub shut: bool,
     pub within: bool,
 }
 
-// What a row's calls told: the answers of the first 256, and how many these are; the whole report of the last call;
-// the mark of line 1's table after all; and what there is to tell of a line that brought bytes.
+// The answers of a row's first 256 calls, at the front, and how many these are.
 #[derive(Clone, Copy)]
-pub struct Told {
-    pub answers: [u8; 256],
+pub struct Answers {
+    pub bytes: [u8; 256],
     pub count: usize,
-    pub report: Report,
-    pub mark: u8,
-    pub brought: Brought,
+    ghost within: { count ≤ 256 },
 }
 
-// What a row's events came to: the answers as above, and the station after all of them.
+impl Answers {
+    fn none() -> Answers {
+        Answers {
+            bytes: [0; 256],
+            count: 0,
+        }
+    }
+
+    // One answer more, while there is room for it.
+    fn note(&mut self, answer: u8) {
+        if self.count < 256 {
+            self.bytes[self.count] = answer;
+            self.count += 1;
+        }
+    }
+
+    pub fn as_slice(&self) -> &[u8] {
+        &self.bytes[..self.count]
+    }
+}
+
+// What a row's calls told: their answers; the whole report of the last call; the mark of line 1's table after all; and
+// what there is to tell of a line that the last call brought bytes by.
+#[derive(Clone, Copy)]
+pub struct Told {
+    pub answers: Answers,
+    pub report: Report,
+    pub mark: u8,
+    pub brought: Option<Brought>,
+}
+
+// What a row's events came to: the answers, and the station after all of them.
 #[derive(Clone, Copy)]
 struct Done {
-    answers: [u8; 256],
-    count: usize,
+    answers: Answers,
     station: Held,
+}
+
+// How much of the output and of the route area is lent, and whether the station takes calls.
+#[derive(Clone, Copy)]
+struct Terms {
+    output: usize,
+    route: usize,
+    calls: bool,
 }
 
 // Whether this is what stands where the answer would be of a call that waits: the number itself, as a caller knows it.
@@ -51,104 +88,58 @@ pub fn waits(answer: u8) -> bool
     answer == 255
 }
 
-// Which event a word names.
-fn kind_of(row: &[u8], k: usize) -> usize {
-    words::index(
-        b"open close message ask feed terms kept line fill pending held room table hits",
-        rows::word(row, k, 0),
-    )
-}
-
-// How many words an event of this kind takes, its own name with them.
-fn width(kind: usize) -> usize
-    ensures { (1 ≤ result) × (result ≤ 14) }
-{
-    match kind {
-        0 | 1 | 8 | 10 | 11 => 2,
-        2 | 4 | 5 | 9 => 4,
-        3 | 13 => 3,
-        6 | 12 => 6,
-        7 => 14,
-        _ => 1,
-    }
-}
-
-// The first 16 bytes, and zeros for those that are not there.
-fn number(bytes: &[u8]) -> [u8; 16] {
+// The number that a word is: its first 16 bytes, and zeros for those that are not there.
+fn number(bytes: &[u8]) -> Number {
     let mut number = [0u8; 16];
     wire::copy_onto(bytes, &mut number);
-    number
+    Number { bytes: number }
 }
 
 // The held area of a line, counted modulo eight, as much of it as is lent.
 fn held_by(held: &mut [u8], line: u32, lent: usize) -> &mut [u8] {
-    let at = (line % 8) as usize * wire::LARGEST_MESSAGE;
-    let n = if lent < wire::LARGEST_MESSAGE {
-        lent
-    } else {
-        wire::LARGEST_MESSAGE
-    };
+    let at = line as usize % 8 * wire::LARGEST_MESSAGE;
+    let n = lent.min(wire::LARGEST_MESSAGE);
     if at < held.len() {
-        return words::front(&mut held[at..], n);
+        words::front(&mut held[at..], n)
+    } else {
+        words::front(held, n)
     }
-    words::front(held, n)
 }
 
-// `open LINE`, `close LINE`, `message LINE CLOCK BYTES`, `ask NUMBER TEXT`, `feed LINE CLOCK BYTES`, or one that sets
-// the station by hand
-fn event(
-    w: Held,
-    kind: usize,
+// The event at word k.
+fn act(
+    w: &mut Held,
+    event: Event,
     row: &[u8],
     k: usize,
     held: &mut [u8],
     out: &mut [u8],
     route: &mut [u8],
-) -> Held {
-    match kind {
-        0 => calls::opened(w, rows::number(row, k, 1)),
-        1 => calls::closed(w, rows::number(row, k, 1)),
-        2 => {
-            let line = rows::number(row, k, 1);
-            let clock = rows::number(row, k, 2);
-            calls::message(w, line, clock, rows::word(row, k, 3), out, route)
-        }
-        3 => {
-            let number = number(rows::word(row, k, 1));
-            calls::asked(w, number, rows::word(row, k, 2), out, route)
-        }
-        4 => {
-            let line = rows::number(row, k, 1);
-            let clock = rows::number(row, k, 2);
+) {
+    let line = rows::number(row, k, 1);
+    let clock = rows::number(row, k, 2);
+    match event {
+        Event::Open => w.open(line),
+        Event::Close => w.close(line),
+        Event::Message => w.message(line, clock, rows::word(row, k, 3), out, route),
+        Event::Feed => {
             let area = held_by(held, line, w.lent);
-            calls::brought(w, line, clock, rows::word(row, k, 3), area, out, route)
+            w.feed(line, clock, rows::word(row, k, 3), area, out, route)
         }
-        12 => set::tabled(w, row, k, route),
-        _ => set::by_hand(w, kind, row, k),
+        Event::Ask => w.ask(
+            number(rows::word(row, k, 1)),
+            rows::word(row, k, 2),
+            out,
+            route,
+        ),
+        _ => set::by_hand(w, event, row, k, route),
     }
 }
 
-// One answer more, where the event is a call; how many there are then.
-fn noted(answers: &mut [u8; 256], count: usize, kind: usize, answer: u8) -> usize
-    ensures { result ≤ 256 }
-{
-    if 255 < count {
-        return 256;
-    }
-    if 4 < kind {
-        return count;
-    }
-    answers[count] = answer;
-    count + 1
-}
-
-// What is told of the line that the last call brought bytes by.
-fn told_of_line(w: Held) -> Brought {
-    let b = w.bringing;
-    let x = calls::record(w, b.line);
-    let pending = x.pending;
+// What is told of a line that bytes came by.
+fn told_of_line(w: &Held, b: Bringing) -> Brought {
+    let pending = w.station.line(b.line).pending;
     Brought {
-        brings: b.brings,
         held: pending.count,
         shut: pending.shut,
         within: b.within,
@@ -157,69 +148,69 @@ fn told_of_line(w: Held) -> Brought {
 
 // The events from word k on.
 fn run(
-    mut w: Held,
+    w: &mut Held,
     row: &[u8],
     mut k: usize,
     held: &mut [u8],
     out: &mut [u8],
     route: &mut [u8],
-) -> Done
+) -> Answers
     requires { k ≤ 5 }
-    ensures { result.count ≤ 256 }
 {
-    let mut answers = [0u8; 256];
-    let mut count: usize = 0;
+    let mut answers = Answers::none();
     while k < rows::count(row) {
-        let kind = kind_of(row, k);
-        w = event(w, kind, row, k, held, out, route);
-        count = noted(&mut answers, count, kind, w.report.answer);
-        k += width(kind);
+        match Event::named(rows::word(row, k, 0)) {
+            Some(event) => {
+                act(w, event, row, k, held, out, route);
+                if event.is_call() {
+                    answers.note(w.report.answer);
+                }
+                k += event.width();
+            }
+            None => k += 1,
+        }
     }
-    Done {
-        answers,
-        count,
-        station: w,
-    }
+    answers
 }
 
-// A number of `terms OUTPUT ROUTE CALLS`, if that is the event at word k: how much of the two areas is lent, and
-// whether the station takes calls.
-fn term(row: &[u8], k: usize, j: usize, usual: usize) -> usize {
-    if kind_of(row, k) == 5 {
-        return rows::size(row, k, j);
+// `terms OUTPUT ROUTE CALLS`, if that is the event at word k, or the usual terms.
+fn terms_at(row: &[u8], k: usize) -> Terms {
+    match Event::named(rows::word(row, k, 0)) {
+        Some(Event::Terms) => Terms {
+            output: rows::size(row, k, 1),
+            route: rows::size(row, k, 2),
+            calls: rows::size(row, k, 3) != 0,
+        },
+        _ => Terms {
+            output: wire::LARGEST_MESSAGE,
+            route: 32,
+            calls: true,
+        },
     }
-    usual
 }
 
 // The events from word k on, over these areas.
 fn ran(row: &[u8], k: usize, held: &mut [u8], out: &mut [u8], route: &mut [u8]) -> Done
     requires { k ≤ 5 }
-    ensures { result.count ≤ 256 }
 {
-    run(
-        calls::started(term(row, k, 3, 1) != 0),
-        row,
-        k,
-        held,
-        words::front(out, term(row, k, 1, wire::LARGEST_MESSAGE)),
-        words::front(route, term(row, k, 2, 32)),
-    )
+    let terms = terms_at(row, k);
+    let mut station = Held::started(terms.calls);
+    let out = words::front(out, terms.output);
+    let route = words::front(route, terms.route);
+    let answers = run(&mut station, row, k, held, out, route);
+    Done { answers, station }
 }
 
 // What the row's events tell, over these areas; the held ones stand one behind the other.
 pub fn replayed(row: &[u8], held: &mut [u8], out: &mut [u8], route: &mut [u8]) -> Told
-    ensures { result.count ≤ 256 }
+    ensures { result.answers.count ≤ 256 }
 {
-    let done = ran(row, 0, held, out, route);
-    let answers = done.answers;
-    let w = done.station;
-    let report = w.report;
+    let Done { answers, station } = ran(row, 0, held, out, route);
     Told {
         answers,
-        count: done.count,
-        report,
-        mark: calls::mark(w),
-        brought: told_of_line(w),
+        report: station.report,
+        mark: station.station.line(1).table.mark,
+        brought: station.bringing.map(|b| told_of_line(&station, b)),
     }
 }
 
@@ -236,15 +227,10 @@ pub fn relayed(
     ensures { result ≡ told_by result.answer (infinity_written usual_limit) }
 {
     let done = ran(row, 5, held, out, &mut *route);
-    let lent = words::front(route, term(row, 5, 2, 32));
-    calls::made(
-        done.station,
-        rows::number(row, 0, 0),
-        names,
-        rows::number(row, 0, 1),
-        made,
-        lent,
-    )
+    let lent = words::front(route, terms_at(row, 5).route);
+    let line = rows::number(row, 0, 0);
+    let size = rows::number(row, 0, 1);
+    done.station.table_for(line, names, size, made, lent)
 }
 
 // What the look-up of the number that is the row's first word tells after the events that follow it; refused, of nobody
@@ -253,5 +239,5 @@ pub fn looked_up(row: &[u8], held: &mut [u8], out: &mut [u8], route: &mut [u8]) 
     ensures { (result.answer ≡ 0) ⊎ (result ≡ unfound result.answer) }
 {
     let done = ran(row, 1, held, out, route);
-    calls::looked_up(done.station, number(rows::word(row, 0, 0)))
+    done.station.look_up(number(rows::word(row, 0, 0)))
 }

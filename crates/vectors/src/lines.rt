@@ -1,103 +1,145 @@
 // A row for each line of the input: its first word says which kind.
-ghost use Rattle.std.specs.Prelude.{◌≡◌, length};
-
 use crate::{calls, keyword, lists, pairs, print, sessions, updates};
 use rows::words;
 use std::io;
 
 // Room for the input, and for the bytes of a row.
-pub(crate) fn room() -> [u8; 98304]
-    ensures { 98304 ≡ length result }
-{
-    [0; 98304]
-}
+pub(crate) const ROOM: usize = 98304;
 
 // Room for what is written, which is a session's text at the longest.
-fn text_room() -> [u8; 118784]
-    ensures { 118784 ≡ length result }
-{
-    [0; 118784]
+const TEXT_ROOM: usize = 118784;
+
+// The kinds of rows, by the words that they begin with.
+#[derive(Clone, Copy, Debug, PartialEq, Eq)]
+enum Kind {
+    Place,
+    Keywords,
+    Casehash,
+    Update,
+    Withheld,
+    Table,
+    Run,
+    Group,
+    Field,
+    Try,
+    Written,
+    Case,
+    Session,
+    File,
+    Calls,
+    Order,
+    Look,
+    Names,
+    Relay,
 }
 
-// Where the word behind the space at this place ends.
-fn after(line: &[u8], at: usize) -> usize {
-    if at < line.len() {
-        return words::find(line, at + 1, b' ');
+impl Kind {
+    // The kind that a word names, if it names one.
+    fn named(word: &[u8]) -> Option<Kind> {
+        match word {
+            b"place" => Some(Kind::Place),
+            b"keywords" => Some(Kind::Keywords),
+            b"casehash" => Some(Kind::Casehash),
+            b"update" => Some(Kind::Update),
+            b"withheld" => Some(Kind::Withheld),
+            b"table" => Some(Kind::Table),
+            b"run" => Some(Kind::Run),
+            b"group" => Some(Kind::Group),
+            b"field" => Some(Kind::Field),
+            b"try" => Some(Kind::Try),
+            b"written" => Some(Kind::Written),
+            b"case" => Some(Kind::Case),
+            b"session" => Some(Kind::Session),
+            b"file" => Some(Kind::File),
+            b"calls" => Some(Kind::Calls),
+            b"order" => Some(Kind::Order),
+            b"look" => Some(Kind::Look),
+            b"names" => Some(Kind::Names),
+            b"relay" => Some(Kind::Relay),
+            _ => None,
+        }
     }
-    line.len()
+
+    // How many words of the line a row begins with: its kind, its label, and words that are shown again.
+    fn shown(self) -> usize {
+        match self {
+            Kind::Place | Kind::Field => 3,
+            Kind::Withheld | Kind::Run => 4,
+            _ => 2,
+        }
+    }
+
+    // How many words of the line stand before the values.
+    fn skipped(self) -> usize {
+        match self {
+            Kind::Place | Kind::Keywords => 1,
+            Kind::Run => 4,
+            _ => 2,
+        }
+    }
 }
 
-// Where the words end that a row begins with: two, three or four.
-fn shown(kind: usize, two: usize, three: usize, four: usize) -> usize {
-    match kind {
-        0 | 7 => three,
-        3 | 5 => four,
-        _ => two,
+// Where the first n words of the line end, of which there is one at least.
+fn end_of(line: &[u8], n: usize) -> usize {
+    let mut end = words::find(line, 0, b' ');
+    for _ in 1..n {
+        if end < line.len() {
+            end = words::find(line, end + 1, b' ');
+        }
     }
-}
-
-// Where the words end that stand before the values: one, two or four.
-fn skipped(kind: usize, one: usize, two: usize, four: usize) -> usize {
-    match kind {
-        0 | 1 => one,
-        5 => four,
-        _ => two,
-    }
+    end
 }
 
 // What a row begins with: its kind, which is `case` for `casehash` and `session` for `file`, its label, and words that
 // are shown again.
-fn head(rt: &impl Print, kind: usize, line: &[u8], one: usize, end: usize) -> io::Result<()> {
+fn head(rt: &impl Print, kind: Kind, line: &[u8]) -> io::Result<()> {
+    let one = end_of(line, 1);
     match kind {
-        11 => rt.write_all(b"case")?,
-        13 => rt.write_all(b"session")?,
+        Kind::Casehash => rt.write_all(b"case")?,
+        Kind::File => rt.write_all(b"session")?,
         _ => rt.write_all(words::part(line, 0, one))?,
     }
-    rt.write_all(words::part(line, one, end))
+    rt.write_all(words::part(line, one, end_of(line, kind.shown())))
 }
 
-fn values(
-    rt: &impl Print,
-    kind: usize,
-    label: &[u8],
-    row: &[u8],
-    out: &mut [u8],
-) -> io::Result<()> {
+fn values(rt: &impl Print, kind: Kind, label: &[u8], row: &[u8], out: &mut [u8]) -> io::Result<()> {
     match kind {
-        0 | 1 | 11 => keyword::values(rt, kind, row),
-        2 | 3 | 4 | 5 => updates::values(rt, kind, row, out),
-        6 | 7 | 8 | 9 => pairs::values(rt, kind, row, out),
-        12 | 13 => sessions::values(rt, kind, label, row, out),
-        16 => calls::look(rt, row, out),
-        17 => lists::values(rt, row),
-        18 => calls::relay(rt, row, out),
-        _ => calls::values(rt, kind, row, out),
+        Kind::Place => keyword::place(rt, rows::word(row, 0, 1), rows::number(row, 0, 0)),
+        Kind::Keywords => keyword::cuts(rt, rows::word(row, 0, 0)),
+        Kind::Casehash => keyword::place(rt, rows::word(row, 0, 0), 13),
+        Kind::Update => updates::update(rt, row),
+        Kind::Withheld => updates::withheld(rt, row),
+        Kind::Table => updates::table(rt, row, out),
+        Kind::Run => updates::run(rt, row, out),
+        Kind::Group => pairs::group(rt, row),
+        Kind::Field => pairs::field(rt, row, out),
+        Kind::Try => pairs::try_hosts(rt, row),
+        Kind::Written => pairs::written(rt, row, out),
+        Kind::Case => calls::case(rt, row, out),
+        Kind::Session => sessions::values(rt, label, row, out),
+        Kind::File => sessions::values(rt, label, rows::word(row, 0, 0), out),
+        Kind::Calls => calls::calls(rt, row, out),
+        Kind::Order => calls::order(rt, row, out),
+        Kind::Look => calls::look(rt, row, out),
+        Kind::Names => lists::values(rt, row),
+        Kind::Relay => calls::relay(rt, row, out),
     }
 }
 
-fn read(rt: &impl Print, kind: usize, label: &[u8], text: &[u8]) -> io::Result<()> {
-    let mut area = room();
+fn row(rt: &impl Print, kind: Kind, line: &[u8]) -> io::Result<()> {
+    let mut area = [0u8; ROOM];
+    let mut out = [0u8; TEXT_ROOM];
+    head(rt, kind, line)?;
+    let text = words::part(line, end_of(line, kind.skipped()), line.len());
     let n = rows::read(text, &mut area);
-    let mut out = text_room();
-    values(rt, kind, label, words::part(&area, 0, n), &mut out)
-}
-
-fn row(rt: &impl Print, kind: usize, line: &[u8], one: usize) -> io::Result<()> {
-    let two = after(line, one);
-    let three = after(line, two);
-    let four = after(line, three);
-    head(rt, kind, line, one, shown(kind, two, three, four))?;
-    let text = words::part(line, skipped(kind, one, two, four), line.len());
-    read(rt, kind, words::part(line, one, two), text)?;
+    let label = words::part(line, end_of(line, 1), end_of(line, 2));
+    values(rt, kind, label, words::part(&area, 0, n), &mut out)?;
     print::mark(rt, b'\n')
 }
 
 // A line of no kind is shown, unless it is empty or begins with `#`.
 fn unread(rt: &impl Print, line: &[u8]) -> io::Result<()> {
-    if line.starts_with(b"#") {
-        return Ok(());
-    }
-    if line.len() == 0 {
+    if line.is_empty() || line.starts_with(b"#") {
         return Ok(());
     }
     rt.write_all(b"unread ")?;
@@ -105,29 +147,17 @@ fn unread(rt: &impl Print, line: &[u8]) -> io::Result<()> {
     print::mark(rt, b'\n')
 }
 
-fn kind_of(name: &[u8]) -> usize {
-    words::index(
-        b"place keywords update withheld table run group field try written case casehash session file calls order look names relay",
-        name,
-    )
-}
-
 fn one(rt: &impl Print, line: &[u8]) -> io::Result<()> {
-    let end = words::find(line, 0, b' ');
-    let kind = kind_of(words::part(line, 0, end));
-    if kind < 19 {
-        row(rt, kind, line, end)
-    } else {
-        unread(rt, line)
+    match Kind::named(words::part(line, 0, end_of(line, 1))) {
+        Some(kind) => row(rt, kind, line),
+        None => unread(rt, line),
     }
 }
 
+// The lines of a text, each with the newline behind it, if it has one.
 pub(crate) fn all(rt: &impl Print, input: &[u8]) -> io::Result<()> {
-    let mut at = 0;
-    while at < input.len() {
-        let end = words::find(input, at, b'\n');
-        one(rt, words::part(input, at, end))?;
-        at = end + 1;
+    for line in input.split_inclusive(|b| *b == b'\n') {
+        one(rt, line.strip_suffix(b"\n").unwrap_or(line))?;
     }
     Ok(())
 }

@@ -3,10 +3,52 @@
 ghost use Rattle.std.specs.Prelude.{◌≤◌};
 
 use crate::print;
-use answer::answer;
+use answer::{Refusal, answer};
 use namearea::{Found, count_in, name_of, span_at};
 use rows::words;
 use std::io;
+
+// The events on an area; the last four set something of it by hand.
+#[derive(Clone, Copy, Debug, PartialEq, Eq)]
+enum Event {
+    Add,
+    Remove,
+    Find,
+    Table,
+    Count,
+    Pair,
+    Name,
+    Fill,
+}
+
+impl Event {
+    // The event that a word names, if it names one.
+    fn named(word: &[u8]) -> Option<Event> {
+        match word {
+            b"add" => Some(Event::Add),
+            b"remove" => Some(Event::Remove),
+            b"find" => Some(Event::Find),
+            b"table" => Some(Event::Table),
+            b"count" => Some(Event::Count),
+            b"pair" => Some(Event::Pair),
+            b"name" => Some(Event::Name),
+            b"fill" => Some(Event::Fill),
+            _ => None,
+        }
+    }
+
+    // How many words the event takes, its own name with them.
+    fn width(self) -> usize
+        ensures below { result ≤ 4 }
+        ensures above { 1 ≤ result }
+    {
+        match self {
+            Event::Add | Event::Remove | Event::Find | Event::Count => 2,
+            Event::Fill => 3,
+            Event::Table | Event::Pair | Event::Name => 4,
+        }
+    }
+}
 
 // Bytes at a place of the area, as far as it has them.
 fn put_bytes(area: &mut [u8], at: usize, bytes: &[u8]) {
@@ -16,8 +58,7 @@ fn put_bytes(area: &mut [u8], at: usize, bytes: &[u8]) {
 }
 
 fn put_number(area: &mut [u8], at: usize, n: u32) {
-    let four = n.to_le_bytes();
-    put_bytes(area, at, &four);
+    put_bytes(area, at, &n.to_le_bytes());
 }
 
 // `pair I OFFSET SIZE`; that behind the last of 512 stands in the text.
@@ -37,49 +78,26 @@ fn put_name(area: &mut [u8], i: usize, offset: u32, bytes: &[u8]) {
 // same.
 fn fill(area: &mut [u8], n: u32, offset: u32) {
     put_number(&mut *area, 0, n);
-    for i in 0..512u32 {
-        if n <= i {
-            return;
-        }
+    for i in 0..n.min(512) {
         let name = [(1 + i % 128) as u8, (1 + i / 128) as u8];
         put_name(&mut *area, i as usize, offset % 65536 + 2 * i, &name);
     }
 }
 
-// Sets something of the area by hand.
-fn by_hand(kind: usize, area: &mut [u8], row: &[u8], k: usize) {
-    match kind {
-        4 => put_number(area, 0, rows::number(row, k, 1)),
-        5 => put_pair(
-            area,
-            rows::size(row, k, 1),
-            rows::number(row, k, 2),
-            rows::number(row, k, 3),
-        ),
-        6 => put_name(
-            area,
-            rows::size(row, k, 1),
-            rows::number(row, k, 2),
-            rows::word(row, k, 3),
-        ),
-        _ => fill(area, rows::number(row, k, 1), rows::number(row, k, 2)),
-    }
-}
-
-fn change(kind: usize, area: &mut [u8], name: &[u8]) -> u8 {
-    if kind == 0 {
-        return answer(namelist::changes::add(area, name));
-    }
-    answer(namelist::changes::remove(area, name))
-}
-
 // `add NAME` or `remove NAME`: the answer, with `=` behind it where every byte of the area is as before.
-fn changed(rt: &impl Print, kind: usize, area: &mut [u8], name: &[u8]) -> io::Result<()> {
+fn changed<F: FnOnce(&mut [u8]) -> Result<(), Refusal>>(
+    rt: &impl Print,
+    area: &mut [u8],
+    change: F,
+) -> io::Result<()>
+    requires { F.IsAlwaysCallable change }
+{
     let mut room = [0u8; 8192];
-    wire::copy_onto(area, &mut room);
-    let answer = change(kind, &mut *area, name);
-    print::number(rt, u64::from(answer))?;
-    if words::part(&room, 0, area.len()) == &*area {
+    let before = words::front(&mut room, area.len());
+    wire::copy_onto(area, &mut *before);
+    let outcome = change(&mut *area);
+    print::number(rt, answer(outcome))?;
+    if *before == *area {
         print::mark(rt, b'=')?;
     }
     Ok(())
@@ -88,91 +106,61 @@ fn changed(rt: &impl Print, kind: usize, area: &mut [u8], name: &[u8]) -> io::Re
 // `find NAME`: the answer and the place.
 fn found(rt: &impl Print, area: &[u8], name: &[u8]) -> io::Result<()> {
     let f = Found::from(names::search::find(area, name));
-    let answer = f.answer;
-    let place = f.place;
-    print!(rt; " {answer}@{place}")
+    print!(rt; " {}@{}", f.answer, f.place)
 }
 
-// A run of equal bytes ends with the first one.
-fn ends(bytes: &[u8]) -> bool {
-    if 1 < bytes.len() {
-        return bytes[0] != bytes[1];
-    }
-    true
-}
-
-// A byte and how many times it stands there.
-fn run_of(rt: &impl Print, b: u8, n: usize, first: bool) -> io::Result<()> {
-    if !first {
-        print::mark(rt, b',')?;
-    }
-    print!(rt; "{b}*{n}")
-}
-
-// Bytes by runs of equal ones, none of them longer than 131,072.
+// Bytes by runs of equal ones: a byte and how many times it stands there.
 pub(crate) fn runs(rt: &impl Print, bytes: &[u8]) -> io::Result<()> {
-    let mut n = 0;
-    for i in 0..bytes.len() {
-        n = n % 131072 + 1;
-        if ends(&bytes[i..]) {
-            run_of(rt, bytes[i], n, i < n)?;
-            n = 0;
+    for (i, run) in bytes.chunk_by(|a, b| *a == *b).enumerate() {
+        if 0 < i {
+            print::mark(rt, b',')?;
+        }
+        if let Some(b) = run.first() {
+            print!(rt; "{b}*{}", run.len())?;
         }
     }
     Ok(())
 }
 
 // `table LENGTH INFINITY ROOM`: the answer, and all bytes of an output of so many, zeros at first.
-fn table(rt: &impl Print, area: &[u8], row: &[u8], k: usize, out: &mut [u8]) -> io::Result<()> {
+fn table(rt: &impl Print, area: &[u8], row: &[u8], k: usize) -> io::Result<()> {
+    let mut room = [0u8; 65544];
+    let out = words::front(&mut room, rows::size(row, k, 3));
     let size = rows::number(row, k, 1);
     let infinity = rows::byte(row, k, 2);
-    let answer = answer(nametable::own_table(area, size, infinity, &mut *out));
-    print!(rt; " {answer}:")?;
+    let outcome = nametable::own_table(area, size, infinity, &mut *out);
+    print!(rt; " {}:", answer(outcome))?;
     runs(rt, out)
 }
 
-fn event(rt: &impl Print, kind: usize, area: &mut [u8], row: &[u8], k: usize) -> io::Result<()> {
-    match kind {
-        0 | 1 => changed(rt, kind, area, rows::word(row, k, 1)),
-        2 => found(rt, area, rows::word(row, k, 1)),
-        3 => {
-            let mut room = [0u8; 65544];
-            let out = words::front(&mut room, rows::size(row, k, 3));
-            table(rt, area, row, k, out)
-        }
-        _ => {
-            by_hand(kind, area, row, k);
-            Ok(())
-        }
+fn act(rt: &impl Print, event: Event, area: &mut [u8], row: &[u8], k: usize) -> io::Result<()> {
+    let name = rows::word(row, k, 1);
+    let place = rows::size(row, k, 1);
+    let second = rows::number(row, k, 2);
+    match event {
+        Event::Add => return changed(rt, area, |a| namelist::changes::add(a, name)),
+        Event::Remove => return changed(rt, area, |a| namelist::changes::remove(a, name)),
+        Event::Find => return found(rt, area, name),
+        Event::Table => return table(rt, area, row, k),
+        Event::Count => put_number(area, 0, rows::number(row, k, 1)),
+        Event::Pair => put_pair(area, place, second, rows::number(row, k, 3)),
+        Event::Name => put_name(area, place, second, rows::word(row, k, 3)),
+        Event::Fill => fill(area, rows::number(row, k, 1), second),
     }
-}
-
-// Which event a word names.
-fn kind_of(row: &[u8], k: usize) -> usize {
-    words::index(
-        b"add remove find table count pair name fill",
-        rows::word(row, k, 0),
-    )
-}
-
-// How many words an event of this kind takes, its own name with them.
-fn width(kind: usize) -> usize
-    ensures { (1 ≤ result) × (result ≤ 4) }
-{
-    match kind {
-        3 | 5 | 6 => 4,
-        7 => 3,
-        _ => 2,
-    }
+    Ok(())
 }
 
 // The events from the second word on.
 fn run(rt: &impl Print, area: &mut [u8], row: &[u8]) -> io::Result<()> {
     let mut k: usize = 1;
     while k < rows::count(row) {
-        let kind = kind_of(row, k);
-        event(rt, kind, &mut *area, row, k)?;
-        k += width(kind);
+        match Event::named(rows::word(row, k, 0)) {
+            Some(event) => {
+                act(rt, event, &mut *area, row, k)?;
+                k += event.width();
+            }
+            None => k += 1,
+        }
     }
     Ok(())
 }
@@ -184,19 +172,18 @@ fn list(rt: &impl Print, area: &[u8], count: usize) -> io::Result<()> {
         if 0 < i {
             print::mark(rt, b',')?;
         }
-        print::joined(rt, name_of(area, span_at(area, i)), 0)?;
+        print::digits(rt, name_of(area, span_at(area, i)))?;
     }
     Ok(())
 }
 
 // What every call on the area answers first, and the names where that is 0.
 fn listed(rt: &impl Print, area: &[u8]) -> io::Result<()> {
-    let answer = answer(names::search::list_answer(area));
-    print::number(rt, u64::from(answer))?;
-    if answer == 0 {
-        list(rt, area, count_in(area) as usize)
-    } else {
-        print::start(rt, 0)
+    let outcome = names::search::list_answer(area);
+    print::number(rt, answer(outcome))?;
+    match outcome {
+        Ok(()) => list(rt, area, count_in(area) as usize),
+        Err(_) => print::start(rt, 0),
     }
 }
 

@@ -13,7 +13,7 @@ mod updates;
 use std::io;
 
 fn main(rt: HostRuntime) -> io::Result<()> {
-    let mut area = lines::room();
+    let mut area = [0u8; lines::ROOM];
     let size = input::fill(&mut rt.reader(), &mut area)?;
     lines::all(&rt, &area[..size])
 }

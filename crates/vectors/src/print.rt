@@ -1,71 +1,80 @@
 // Words, numbers and lists of a row, on standard output, each with a space before it.
-use rows::words;
+use std::fmt::Display;
 use std::io;
 
 pub(crate) fn mark(rt: &impl Print, b: u8) -> io::Result<()> {
     rt.write_all(&[b])
 }
 
-pub(crate) fn number(rt: &impl Print, n: u64) -> io::Result<()> {
+pub(crate) fn number<N: Display + Drop>(rt: &impl Print, n: N) -> io::Result<()> {
     print!(rt; " {n}")
 }
 
-// An answer and how many bytes were used, or written.
-pub(crate) fn answer(rt: &impl Print, n: u8, size: usize) -> io::Result<()> {
-    print!(rt; " {n} {size}")
-}
-
 pub(crate) fn flag(rt: &impl Print, set: bool) -> io::Result<()> {
-    number(rt, u64::from(set))
+    number(rt, u8::from(set))
 }
 
 // What stands before a list of so many items: `-` for none.
 pub(crate) fn start(rt: &impl Print, size: usize) -> io::Result<()> {
-    mark(rt, b' ')?;
-    if size == 0 {
-        mark(rt, b'-')?;
+    rt.write_all(if size == 0 { b" -" } else { b" " })
+}
+
+// Each item, with a separator between them.
+pub(crate) fn separated<T, F: Fn(&T) -> io::Result<()>>(
+    rt: &impl Print,
+    items: &[T],
+    separator: u8,
+    print: F,
+) -> io::Result<()>
+    requires { F.IsAlwaysCallable print }
+{
+    for (i, item) in items.iter().enumerate() {
+        if 0 < i {
+            mark(rt, separator)?;
+        }
+        print(item)?;
     }
     Ok(())
 }
 
-// A byte of a list: two digits with nothing between, or a number behind a separator.
-pub(crate) fn item(rt: &impl Print, i: usize, b: u8, separator: u8) -> io::Result<()> {
-    if separator == 0 {
-        return print!(rt; "{b:02x}");
-    }
-    if 0 < i {
-        mark(rt, separator)?;
-    }
-    print!(rt; "{b}")
-}
-
+// Bytes in decimal, with a separator between them.
 pub(crate) fn joined(rt: &impl Print, bytes: &[u8], separator: u8) -> io::Result<()> {
-    for i in 0..bytes.len() {
-        item(rt, i, bytes[i], separator)?;
+    separated(rt, bytes, separator, |b| print!(rt; "{b}"))
+}
+
+// The same with commas, as a word of its own.
+pub(crate) fn numbers(rt: &impl Print, bytes: &[u8]) -> io::Result<()> {
+    start(rt, bytes.len())?;
+    joined(rt, bytes, b',')
+}
+
+// Bytes in hexadecimal, two digits each with nothing between.
+pub(crate) fn digits(rt: &impl Print, bytes: &[u8]) -> io::Result<()> {
+    for b in bytes {
+        print!(rt; "{b:02x}")?;
     }
     Ok(())
 }
 
-// The first n bytes, in hexadecimal where the separator is 0.
-pub(crate) fn list(rt: &impl Print, bytes: &[u8], n: usize, separator: u8) -> io::Result<()> {
-    start(rt, n)?;
-    joined(rt, words::part(bytes, 0, n), separator)
-}
-
-// One byte more in the area, if it has that place, or none; the place behind it.
-pub(crate) fn noted(some: bool, area: &mut [u8], at: usize, b: u8) -> usize {
-    if some {
-        return words::put(area, at, b);
-    }
-    at
+// The same as a word of its own.
+pub(crate) fn hexadecimal(rt: &impl Print, bytes: &[u8]) -> io::Result<()> {
+    start(rt, bytes.len())?;
+    digits(rt, bytes)
 }
 
 // The numbers of the flags that are set.
 pub(crate) fn flags(rt: &impl Print, set: [bool; 8]) -> io::Result<()> {
-    let mut places = [0u8; 8];
-    let mut n: usize = 0;
-    for k in 0..8u8 {
-        n = noted(set[k as usize], &mut places, n, k);
+    let mut separator = b' ';
+    for (k, flag) in set.iter().enumerate() {
+        if *flag {
+            mark(rt, separator)?;
+            print!(rt; "{k}")?;
+            separator = b',';
+        }
     }
-    list(rt, &places, n, b',')
+    if separator == b' ' {
+        start(rt, 0)
+    } else {
+        Ok(())
+    }
 }

@@ -2,16 +2,12 @@
 // holds 7 everywhere at first. TTL and Hops are the last update's, those before it have TTL 1 and Hops 0.
 // `table LABEL HAD OLD WAS NEW INFINITY SIZE AREA`, and `run ENTRIES BITS SIZE` with the same words behind these.
 use crate::print;
+use answer::{Refusal, answer};
 use rows::words;
 use std::io;
 use tablemessages::Written;
-use answer::{Refusal, answer};
 use tables::{Table, no_table};
 use tablewriter::Wanted;
-
-fn pick(first: bool, a: u8, b: u8) -> u8 {
-    if first { a } else { b }
-}
 
 // The updates that the words from the third on are, the last with this TTL and these Hops: what the last comes to.
 fn updated(
@@ -24,50 +20,37 @@ fn updated(
     let count = rows::count(row);
     let mut outcome = Ok(());
     for n in 2..count {
-        let last = n + 1 == count;
-        outcome = tablereader::updates::update(
-            &mut *table,
-            pick(last, ttl, 1),
-            pick(last, hops, 0),
-            rows::word(row, n, 0),
-            &mut *part,
-        );
+        let (ttl, hops) = if n + 1 == count { (ttl, hops) } else { (1, 0) };
+        let payload = rows::word(row, n, 0);
+        outcome = tablereader::updates::update(&mut *table, ttl, hops, payload, &mut *part);
     }
     outcome
 }
 
 fn table_words(rt: &impl Print, t: Table) -> io::Result<()> {
-    print::answer(rt, t.mark, t.length as usize)?;
-    print::answer(rt, t.infinity, t.nextplace as usize)?;
-    print::answer(rt, t.runsize, t.runbits as usize)?;
-    print::number(rt, u64::from(t.nextentry))
+    print!(rt; " {} {} {} {}", t.mark, t.length, t.infinity, t.nextplace)?;
+    print!(rt; " {} {} {}", t.runsize, t.runbits, t.nextentry)
 }
 
-fn update(rt: &impl Print, row: &[u8]) -> io::Result<()> {
+pub(crate) fn update(rt: &impl Print, row: &[u8]) -> io::Result<()> {
     let mut part = [7u8; 8];
     let mut table = no_table();
-    let outcome = updated(
-        row,
-        rows::byte(row, 0, 0),
-        rows::byte(row, 0, 1),
-        &mut table,
-        &mut part,
-    );
-    print::number(rt, u64::from(answer(outcome)))?;
+    let ttl = rows::byte(row, 0, 0);
+    let hops = rows::byte(row, 0, 1);
+    let outcome = updated(row, ttl, hops, &mut table, &mut part);
+    print::number(rt, answer(outcome))?;
     table_words(rt, table)?;
-    print::list(rt, &part, 8, b',')
+    print::numbers(rt, &part)
 }
 
 // Line 0 alone is open, and has the table.
-fn withheld(rt: &impl Print, row: &[u8]) -> io::Result<()> {
+pub(crate) fn withheld(rt: &impl Print, row: &[u8]) -> io::Result<()> {
     let mut part = [7u8; 8];
     let mut table = no_table();
     let _ = updated(row, 1, 0, &mut table, &mut part);
-    let tables = [table; 8];
-    let open = [true, false, false, false, false, false, false, false];
     let passing = forwarding::lines::passing(
-        open,
-        tables,
+        [true, false, false, false, false, false, false, false],
+        [table; 8],
         8,
         &part,
         rows::word(row, 0, 1),
@@ -78,7 +61,7 @@ fn withheld(rt: &impl Print, row: &[u8]) -> io::Result<()> {
 
 // The update from the old table, or from none where HAD is 0, to the new one.
 fn written(row: &[u8], out: &mut [u8]) -> Written {
-    let w = Wanted {
+    let wanted = Wanted {
         had: rows::size(row, 0, 0) != 0,
         was: rows::byte(row, 0, 2),
         infinity: rows::byte(row, 0, 4),
@@ -86,26 +69,21 @@ fn written(row: &[u8], out: &mut [u8]) -> Written {
     };
     tablewriter::write_table(
         [0, 1, 2, 3, 4, 5, 6, 7, 8, 9, 10, 11, 12, 13, 14, 15],
-        w,
+        wanted,
         rows::word(row, 0, 1),
         rows::word(row, 0, 3),
         words::front(out, rows::size(row, 0, 6)),
     )
 }
 
-fn table(rt: &impl Print, kind: usize, row: &[u8], out: &mut [u8]) -> io::Result<()> {
-    let r = written(row, &mut *out);
-    print::answer(rt, r.answer, r.written)?;
-    if kind == 4 {
-        print::list(rt, out, r.written, 0)?;
-    }
-    Ok(())
+pub(crate) fn run(rt: &impl Print, row: &[u8], out: &mut [u8]) -> io::Result<()> {
+    let w = written(row, out);
+    print!(rt; " {} {}", w.answer, w.written)
 }
 
-pub(crate) fn values(rt: &impl Print, kind: usize, row: &[u8], out: &mut [u8]) -> io::Result<()> {
-    match kind {
-        2 => update(rt, row),
-        3 => withheld(rt, row),
-        _ => table(rt, kind, row, out),
-    }
+// The same with the bytes written.
+pub(crate) fn table(rt: &impl Print, row: &[u8], out: &mut [u8]) -> io::Result<()> {
+    let w = written(row, &mut *out);
+    print!(rt; " {} {}", w.answer, w.written)?;
+    print::hexadecimal(rt, words::part(out, 0, w.written))
 }

@@ -8,7 +8,7 @@ use Rattle.protocol.specs.Memory.{Number}
 use Rattle.protocol.specs.State.{Station, looked_up}
 use Rattle.protocol.specs.Order.{in_order}
 use Rattle.protocol.specs.Calls.{unfound, finding_by, looking_up}
-use Rattle.replay.proofs.calls.looked_up.Goals as goal
+use Rattle.replay.proofs.calls.Held.look_up.Goals as goal
 
 -- done, or no more than its answer
 abbrev Told : Finding → Type 0
@@ -26,4 +26,4 @@ unfolding looking_up
 told s x = told-by (in_order s) (looked_up s x).found (looked_up s x).after (looked_up s x).asker (looked_up s x).hits
 
 pub returns : goal.returns
-returns c = rw c.lunozhar_look_up_lent.ensures (told _ _)
+returns c = rw c.look_up.ensures (told _ _)
