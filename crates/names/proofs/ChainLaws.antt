@@ -1,21 +1,37 @@
 -- Names are chained one by one: the next becomes the head of its bucket, and its link tells the head before it.
 use Prim.Native.Nat.{ℕ, ◌+◌, ◌-◌, ◌≤◌, ◌<◌}
 use mathlib.Core.Path.{◌≡◌, refl, sym, ap, ◌∙◌}
-use mathlib.Core.Bool.{true, false}
+use mathlib.Core.Bool.{Bool, true, false}
 use mathlib.Core.List.{List}
 use native.Mathlib.Omega.{arith}
-use lib.ListN.{get_or, set, length-set}
+use lib.ListN.{get_or, set, length-set, replicate, get_or-replicate, length-replicate}
 use lib.Seq.{get_or-set_same, get_or-set_other}
+use Rattle.std.specs.Prelude.{Option, Some, None, is_some}
 use Rattle.laws.proofs.Refusals.{clash}
 use Rattle.laws.proofs.Words.{refuted}
-use Rattle.namearea.specs.declared.Span.{Span}
-use Rattle.namearea.specs.Area.{count_in, span_at, name_of, name_at, names_in}
+use Rattle.namearea.specs.Area.{count_in, name_at, names_in}
 use Rattle.namearea.specs.Good.{pairwise, differ}
 use Rattle.namearea.proofs.GoodLaws.{distinct-at, of_distinct}
-use Rattle.names.specs.Chains.{hash_of, bucket_in, tag_in, bucket_of, tag_of}
+use Rattle.names.specs.Chains.{hash_of, bucket_in, tag_in, bucket_of, tag_of, told_of}
 use Rattle.names.specs.Chains.{Last, Chained, Walkable, Walked, ToldApart}
 use Rattle.names.proofs.Cases.{same_or}
 use Rattle.names.proofs.WalkLaws.{bucket-low, bucket-is, tag_is, head-low, can-walk, walked_all}
+
+-- nothing is chained yet
+pub chain-none : (name : ℕ → List ℕ) → Chained name 0 (replicate 512 0) (replicate 512 0) (replicate 512 0)
+chain-none name =
+    record {
+      size = length-replicate {A = ℕ} 512 0;
+      head = λ b h. rw (get_or-replicate {A = ℕ} 512 b 0 0 h)
+          (record { low = omega arith; skips = λ m g l e. omega arith; own = λ g. absurd (omega arith) });
+      linked =
+          record {
+            size = length-replicate {A = ℕ} 512 0;
+            tag-size = length-replicate {A = ℕ} 512 0;
+            link = λ j h. absurd (omega arith);
+            tag = λ j h. absurd (omega arith);
+          };
+    }
 
 -- one place more, of a name with another bucket
 last_more : (name : ℕ → List ℕ) (b i next : ℕ) → (bucket_of (name i) ≡ b → ⊥) → Last name b i next
@@ -81,6 +97,15 @@ module _ (name : ℕ → List ℕ) (i : ℕ) (heads links tags : List ℕ) (c : 
 
 -- ---- the pass over the names of an area
 
+-- whether a walk told a place
+pub told_some : (told : Option ℕ) {b : Bool} → b ≡ is_some told → b ≡ true → told_of told ≡ 0 → ⊥
+told_some None e f z = clash f e
+told_some (Some place) e f z = omega arith
+
+pub told-none : (told : Option ℕ) {b : Bool} → b ≡ is_some told → b ≡ false → told_of told ≡ 0
+told-none None e f = refl
+told-none (Some place) e f = absurd (clash e f)
+
 -- the first i names are chained, and no two of them are the same
 pub record Passed (a : List ℕ) (i : ℕ) (heads links tags : List ℕ) : Type 0 where
   pub chained : Chained (name_at a) i heads links tags
@@ -89,64 +114,43 @@ pub record Passed (a : List ℕ) (i : ℕ) (heads links tags : List ℕ) : Type 
 pub pass-none : (a heads links tags : List ℕ) → Chained (name_at a) 0 heads links tags → Passed a 0 heads links tags
 pass-none a heads links tags c = record { chained = c; distinct = λ j k h g e. omega arith }
 
--- name i as the code comes by it, with its bucket, its tag and the head of its bucket
-pub record Next (a : List ℕ) (i : ℕ) (heads x : List ℕ) (b tag first : ℕ) : Type 0 where
-  pub name : x ≡ name_at a i
-  pub bucket : b ≡ bucket_of (name_at a i)
-  pub tagged : tag ≡ tag_of (name_at a i)
-  pub head : first ≡ get_or heads (bucket_of (name_at a i)) 0
-
-pub next-is : (a : List ℕ) (i : ℕ) (heads : List ℕ) (s : Span) (x : List ℕ) (hash b tag first : ℕ) → s ≡ span_at a i
-    → x ≡ name_of a s → hash ≡ hash_of x → b ≡ bucket_in hash → tag ≡ tag_in hash → first ≡ get_or heads b 0
-    → Next a i heads x b tag first
-next-is a i heads s x hash b tag first e f g h k l =
-    let n = f ∙ ap (name_of a) e in
-    let own = g ∙ ap hash_of n in
-    let o = bucket-is (name_at a i) hash b own h in
-    record {
-      name = n;
-      bucket = o;
-      tagged = tag_is (name_at a i) hash tag own k;
-      head = l ∙ ap (λ j. get_or heads j 0) o;
-    }
-
+-- the next name, x, and the walk in search of it among those before it
 module _ (a : List ℕ) (i : ℕ) (heads links tags : List ℕ) (p : Passed a i heads links tags) (few : i < 512)
-    (x : List ℕ) (b tag first : ℕ) (n : Next a i heads x b tag first) where
+    (x : List ℕ) where
   at_most : i ≤ 512
   at_most = omega arith
 
-  pub next_low : first ≤ i
-  next_low = rw n.head (head-low (name_at a) i heads links tags p.chained at_most (name_at a i))
+  pub next_walkable : Walkable (name_at a) links tags (get_or heads (bucket_of x) 0) x (tag_of x)
+  next_walkable = can-walk (name_at a) i heads links tags p.chained at_most x
 
-  pub next_walkable : Walkable (name_at a) links tags first x tag
-  next_walkable =
-      rw (n.head, n.name, n.tagged) (can-walk (name_at a) i heads links tags p.chained at_most (name_at a i))
+  module _ (n : x ≡ name_at a i) (told : ℕ) (w : Walked (name_at a) (get_or heads (bucket_of x) 0) x told) where
+    -- it was not found, and is chained by its hash
+    pub pass-more : (hash : ℕ) → hash ≡ hash_of x → told ≡ 0 → (heads' links' tags' : List ℕ)
+        → heads' ≡ set heads (bucket_in hash) (i + 1)
+        → links' ≡ set links i (get_or heads (bucket_in hash) 0)
+        → tags' ≡ set tags i (tag_in hash)
+        → Passed a (i + 1) heads' links' tags'
+    pass-more hash e z heads' links' tags' f g h =
+        let b : bucket_in hash ≡ bucket_of (name_at a i) = bucket-is x hash (bucket_in hash) e refl ∙ ap bucket_of n in
+        let t : tag_in hash ≡ tag_of (name_at a i) = tag_is x hash (tag_in hash) e refl ∙ ap tag_of n in
+        rw (f, g, h, b, t)
+        (record {
+          chained = chain_more (name_at a) i heads links tags p.chained few;
+          distinct = λ j k l m q.
+              same_or k i
+              (λ o.
+              walked_all (name_at a) i heads links tags p.chained at_most x told w j
+              (omega arith) (omega arith) (rw o at q ∙ sym n))
+              (λ o. p.distinct j k l (omega arith) q);
+        })
 
-  walked-own : (told : ℕ) → Walked (name_at a) first x told
-      → Walked (name_at a) (get_or heads (bucket_of (name_at a i)) 0) (name_at a i) told
-  walked-own told w = rw (n.head, n.name) at w
-
-  -- it was not found among those passed
-  pub pass-more : Walked (name_at a) first x 0 → Passed a (i + 1) (set heads b (i + 1)) (set links i first)
-      (set tags i tag)
-  pass-more w =
-      rw (n.head, n.bucket, n.tagged)
-      (record {
-        chained = chain_more (name_at a) i heads links tags p.chained few;
-        distinct = λ j k h g e.
-            same_or k i
-            (λ q.
-            walked_all (name_at a) i heads links tags p.chained at_most (name_at a i) 0 (walked-own 0 w) j
-            (omega arith) (omega arith) (rw q at e))
-            (λ q. p.distinct j k h (omega arith) e);
-      })
-
-  -- it was found
-  pub pass-met : (told : ℕ) → (told ≡ 0 → ⊥) → i < count_in a → Walked (name_at a) first x told
-      → pairwise differ (names_in a) ≡ false
-  pass-met told g h w =
-      refuted (pairwise differ (names_in a)) (λ e.
-      distinct-at a e (told - 1) i (omega (arith, w.low, next_low)) h (w.found (omega arith) ∙ n.name))
+    -- it was found
+    pub pass-met : (told ≡ 0 → ⊥) → i < count_in a → pairwise differ (names_in a) ≡ false
+    pass-met some h =
+        refuted (pairwise differ (names_in a)) (λ e.
+        distinct-at a e (told - 1) i
+        (omega (arith, w.low, head-low (name_at a) i heads links tags p.chained at_most x)) h
+        (w.found (omega arith) ∙ n))
 
 pub pass_all : (a heads links tags : List ℕ) → Passed a (count_in a) heads links tags → ToldApart a true heads links tags
 pass_all a heads links tags p = record { tells = sym (of_distinct a p.distinct); chained = λ _. p.chained }

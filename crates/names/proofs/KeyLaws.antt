@@ -1,13 +1,15 @@
 -- Keys word by word.
-use Prim.Native.Nat.{ℕ, zero, suc, ◌+◌, ◌-◌, ◌*◌, ◌≤◌, ◌<◌}
+use Prim.Native.Nat.{ℕ, zero, suc, ◌+◌, ◌-◌, ◌*◌, ◌/◌, ◌%◌, ◌≤◌, ◌<◌}
 use mathlib.Core.Path.{◌≡◌, refl, sym, ap, ap₂, ◌∙◌}
 use mathlib.Core.List.{List}
 use native.Mathlib.Omega.{arith}
 use lib.ListN.{length, take, drop, length-drop}
 use lib.Seq.{take_all}
+use lib.Bits.{bit_or, or_shifted}
 use mir.Syntax.{w64}
 use mir.Val.{Fits}
 use borrow.Author.Tests.{lt-ltb, le-ltb}
+use Rattle.std.specs.Int.{rotate_left}
 use Rattle.laws.proofs.Parts.{part_tail}
 use Rattle.names.specs.Chains.{word_of, mixed, twin_of, twin_in, key_from, last_twin, key_of}
 use Rattle.names.proofs.Cases.{either}
@@ -69,9 +71,13 @@ pub key-all : (t rest : List ℕ) (key : ℕ) → key_from (length rest) key res
     → length rest ≤ 16 → mixed key (last_twin t) ≡ key_of t
 key-all t rest key i h = rw (sym i, key-end (length rest) key rest h)
 
--- a half moved up, and a half times the prime, each with another half, fit 64 bits
-pub turned-fits : (a b : ℕ) → a < 4294967296 → b < 4294967296 → Fits w64 (a * 4294967296 + b)
-turned-fits a b h g = omega arith
+-- a number turned by half its bits
+pub turned-is : (n : ℕ) → n < 18446744073709551616
+    → rotate_left w64 n 32 ≡ n % 4294967296 * 4294967296 + n / 4294967296
+turned-is n h =
+    let e : n * 4294967296 % 18446744073709551616 ≡ n % 4294967296 * 4294967296 = omega arith in
+    ap (λ m. bit_or m (n / 4294967296)) e ∙ or_shifted (n % 4294967296) 32 (n / 4294967296) (omega arith)
 
+-- a half times the prime with another half fits 64 bits
 pub spread-fits : (a b : ℕ) → a < 4294967296 → b < 4294967296 → Fits w64 (a * 2654435761 + b)
 spread-fits a b h g = omega arith

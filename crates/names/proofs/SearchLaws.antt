@@ -1,41 +1,27 @@
 -- The answers in their order, and the one place of a name that is listed.
-use Prim.Native.Nat.{ℕ, ◌-◌, ◌≤◌, ◌<◌}
+use Prim.Native.Nat.{ℕ, ◌+◌, ◌-◌, ◌≤◌, ◌<◌}
 use mathlib.Core.Path.{◌≡◌, refl, sym, ap, ◌∙◌}
 use mathlib.Core.Bool.{Bool, true, false, cond, not, ◌&&◌, and-true, and_assoc}
 use mathlib.Core.List.{List, [], ◌∷◌}
 use native.Mathlib.Omega.{arith}
 use lib.Dec.{eqb, leb}
-use lib.ListN.{length, get_or, replicate, get_or-replicate, length-replicate}
+use lib.ListN.{length, get_or}
 use borrow.Author.Tests.{ne_eqb, lt-ltb, le-ltb, lt-leb, le-leb, ltb-false, not-true, not-false}
+use Rattle.std.specs.Prelude.{Option, Some, None, Ok, Err, ok_or}
+use Rattle.answer.specs.declared.Refusal.TheVariants.{NotFound}
 use Rattle.laws.specs.Tests.{every, all, first_of}
 use Rattle.laws.proofs.Refusals.{no-refusal, first_append}
 use Rattle.laws.proofs.Words.{refuted}
 use Rattle.namearea.specs.Area.{text_from, count_in, name_at, names_in, spans_in}
 use Rattle.namearea.specs.Good.{good_name, listable, apart, pairwise, differ, same_text, good_list}
-use Rattle.namearea.specs.Calls.{list_rules, list_answer, is_listed, place_among, find_answer, finding}
+use Rattle.namearea.specs.Calls.{list_rules, list_answer, is_listed, place_among, find_answer, finding, found_of}
 use Rattle.namearea.proofs.GoodLaws.{same-is, is_same, names_at, names-length, distinct-at, listed}
 use Rattle.namearea.proofs.PlaceLaws.{any_at, at-any, place-holds}
 use Rattle.names.specs.Order.{placed}
-use Rattle.names.specs.Chains.{hash_of, bucket_in, tag_in, bucket_of}
+use Rattle.names.specs.Chains.{bucket_of, tag_of, told_of}
 use Rattle.names.specs.Chains.{Chained, Walkable, Walked, ToldApart, Tested}
 use Rattle.names.proofs.Cases.{either}
-use Rattle.names.proofs.WalkLaws.{bucket-is, tag_is, head-low, can-walk, walked_all}
-
--- nothing is chained yet
-pub chain-none : (name : ℕ → List ℕ) → Chained name 0 (replicate 512 0) (replicate 512 0) (replicate 512 0)
-chain-none name =
-    record {
-      size = length-replicate {A = ℕ} 512 0;
-      head = λ b h. rw (get_or-replicate {A = ℕ} 512 b 0 0 h)
-          (record { low = omega arith; skips = λ m g l e. omega arith; own = λ g. absurd (omega arith) });
-      linked =
-          record {
-            size = length-replicate {A = ℕ} 512 0;
-            tag-size = length-replicate {A = ℕ} 512 0;
-            link = λ j h. absurd (omega arith);
-            tag = λ j h. absurd (omega arith);
-          };
-    }
+use Rattle.names.proofs.WalkLaws.{head-low, can-walk, walked_all}
 
 -- ---- the test of an area
 
@@ -136,41 +122,40 @@ module _ (a x : List ℕ) where
     pub find-bad : good_name x ≡ false → record { answer = 6; place = 0 } ≡ finding a x
     find-bad e = refused-is 6 (λ z. omega arith) (next ∙ rw e)
 
-    module _ (heads links tags : List ℕ) (c : Chained (name_at a) (count_in a) heads links tags) (hash b first : ℕ)
-        (e : hash ≡ hash_of x) (d : b ≡ bucket_in hash) (f : first ≡ get_or heads b 0) where
-      begins : first ≡ get_or heads (bucket_of x) 0
-      begins = f ∙ ap (λ k. get_or heads k 0) (bucket-is x hash b e d)
+    module _ (heads links tags : List ℕ) (c : Chained (name_at a) (count_in a) heads links tags) where
+      pub find_walkable : Walkable (name_at a) links tags (get_or heads (bucket_of x) 0) x (tag_of x)
+      find_walkable = can-walk (name_at a) (count_in a) heads links tags c few x
 
-      pub find_walkable : (tag : ℕ) → tag ≡ tag_in hash → Walkable (name_at a) links tags first x tag
-      find_walkable tag t =
-          rw (begins, tag_is x hash tag e t) (can-walk (name_at a) (count_in a) heads links tags c few x)
-
-      module _ (g : good_name x ≡ true) (told : ℕ) (w : Walked (name_at a) first x told) where
-        walked : Walked (name_at a) (get_or heads (bucket_of x) 0) x told
-        walked = rw begins at w
-
-        pub find_absent : told ≡ 0 → record { answer = 10; place = 0 } ≡ finding a x
-        find_absent z =
+      module _ (g : good_name x ≡ true) where
+        absent : Walked (name_at a) (get_or heads (bucket_of x) 0) x 0 → found_of (Err NotFound) ≡ finding a x
+        absent w =
             let u = refuted (is_listed x (names_in a)) (λ q.
             let s = any_at (same_text x) [] (names_in a) q in
             let l : s.place < count_in a = rw names-length at s.within in
-            walked_all (name_at a) (count_in a) heads links tags c few x told walked s.place (omega arith) l
+            walked_all (name_at a) (count_in a) heads links tags c few x 0 w s.place (omega arith) l
             (stands a x s.place l s.holds)) in
             refused-is 10 (λ y. omega arith) (next ∙ rw (g, u))
 
-        pub find-there : (told ≡ 0 → ⊥) → record { answer = 0; place = told - 1 } ≡ finding a x
+        there : (p : ℕ) → Walked (name_at a) (get_or heads (bucket_of x) 0) x (p + 1) → found_of (Ok p) ≡ finding a x
         unfolding finding
-        find-there some =
-            let n : told - 1 < count_in a =
-            omega (arith, walked.low, head-low (name_at a) (count_in a) heads links tags c few x) in
-            let l : told - 1 < length (names_in a) = rw names-length n in
-            let own : name_at a (told - 1) ≡ x = w.found (omega arith) in
-            let at : get_or (names_in a) (told - 1) [] ≡ x = names_at (count_in a) a (told - 1) n ∙ own in
-            let there = at-any (same_text x) [] (names_in a) (told - 1) l (is_same x _ (sym at)) in
-            let answers : find_answer a x ≡ 0 = next ∙ rw (g, there) in
-            let p = place-holds x (names_in a) there in
-            let m : place_among x (names_in a) < count_in a = rw names-length at p.0 in
-            let here = stands a x (place_among x (names_in a)) m p.1 in
-            let place : place_among x (names_in a) ≡ told - 1 =
+        there p w =
+            let n : p < count_in a =
+            omega (arith, w.low, head-low (name_at a) (count_in a) heads links tags c few x) in
+            let l : p < length (names_in a) = rw names-length n in
+            let k : p + 1 - 1 ≡ p = omega arith in
+            let own : name_at a p ≡ x = rw k at (w.found (omega arith)) in
+            let at : get_or (names_in a) p [] ≡ x = names_at (count_in a) a p n ∙ own in
+            let is = at-any (same_text x) [] (names_in a) p l (is_same x _ (sym at)) in
+            let answers : find_answer a x ≡ 0 = next ∙ rw (g, is) in
+            let h = place-holds x (names_in a) is in
+            let m : place_among x (names_in a) < count_in a = rw names-length at h.0 in
+            let here = stands a x (place_among x (names_in a)) m h.1 in
+            let place : place_among x (names_in a) ≡ p =
             same_place a (listed a (good-list a good)).distinct _ _ m n (here ∙ sym own) in
             rw (answers, place)
+
+        -- the place that the walk told, or none
+        pub find-told : (told : Option ℕ) → Walked (name_at a) (get_or heads (bucket_of x) 0) x (told_of told)
+            → found_of (ok_or told NotFound) ≡ finding a x
+        find-told None w = absent w
+        find-told (Some p) w = there p w

@@ -2,6 +2,7 @@
 -- bucket's head tells the last of them, and each place's link the one before it. What is told is one more than a
 -- place, and 0 where there is none. A tag is another number of the name's bytes, one for each place.
 use Rattle.std.specs.Prelude.{ℕ, zero, suc, ◌+◌, ◌-◌, ◌*◌, ◌/◌, ◌%◌, ◌≤◌, ◌<◌, ◌≡◌, Bool, true, cond, List, ltb, length, get_or, take, drop}
+use Rattle.std.specs.Prelude.{Option, Some, None}
 use Rattle.std.specs.Int.Bits.{bit_xor}
 use Rattle.laws.specs.Bytes.{little}
 use Rattle.namearea.specs.Area.{count_in, name_at, names_in}
@@ -96,6 +97,11 @@ pub record Walked (name : ℕ → List ℕ) (from : ℕ) (x : List ℕ) (told : 
   pub low : told ≤ from
   pub skips : (m : ℕ) → told ≤ m → m < from → name m ≡ x → ⊥
   pub found : 0 < told → name (told - 1) ≡ x
+
+-- the same of a place, if there is one
+abbrev pub told_of : Option ℕ → ℕ
+told_of None = 0
+told_of (Some place) = place + 1
 
 -- whether no two of the names listed are the same; where that is so, they are chained
 pub record ToldApart (a : List ℕ) (told : Bool) (heads links tags : List ℕ) : Type 0 where

@@ -2,6 +2,8 @@
 use Rattle.std.specs.Prelude.{ℕ, ◌-◌, ◌/◌, Bool, cond, ◌&&◌, List, [], ◌∷◌, leb, take, drop}
 use Rattle.laws.specs.Tests.{every, all}
 use Rattle.namearea.specs.declared.Span.{Span}
+use Rattle.names.specs.declared.order.Order.{Order}
+use Rattle.names.specs.declared.order.Order.TheVariants.{Unfit, Fit, Rising}
 use Rattle.namearea.specs.Area.{text_from, span_at, spans_of, end_of}
 use Rattle.namearea.specs.Good.{longest_name, listable, apart, pairwise, rising_from}
 
@@ -18,6 +20,12 @@ fits n s =
 -- 0 where one of these pairs does not fit, else 1, and 2 where their offsets rise
 unfoldable pub order_of : ℕ → List Span → ℕ
 order_of n ss = cond (all (fits n) ss) (cond (rising_from 0 ss) 2 1) 0
+
+-- the number of what the pairs tell
+abbrev pub number_of : Order → ℕ
+number_of Unfit = 0
+number_of Fit = 1
+number_of Rising = 2
 
 -- the first of n names and the last are no farther from each other than 256 bytes a name
 unfoldable pub dense : ℕ → List ℕ → Bool

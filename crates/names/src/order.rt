@@ -5,60 +5,53 @@ ghost use Rattle.std.specs.Prelude.{◌≡◌, not, ◌+◌, ◌-◌, ◌≤◌,
 ghost use Rattle.laws.specs.Tests.{any, all};
 ghost use Rattle.namearea.specs.Area.{most_names, text_from, span_at, spans_of, end_of};
 ghost use Rattle.namearea.specs.Good.{listable, apart, pairwise};
-ghost use Rattle.names.specs.Order.{placed, fits, order_of, dense, along};
+ghost use Rattle.names.specs.Order.{placed, fits, number_of, order_of, dense, along};
 
 use ascii::{after, front};
 use namearea::{LONGEST_NAME, Span, TEXT_FROM, end_of, is_listable, no_zero, pair_at, span_at};
 
 // A pair of an area of n bytes lies in the text, and its name is as long as a name may be.
+#[tactic(auto, unfolding(crate::specs::Order::fits))]
 fn is_fit(n: usize, s: Span) -> bool
     ensures { result ≡ fits n s }
 {
-    if (s.offset as usize) < TEXT_FROM {
-        return false;
-    }
-    if n < end_of(s) {
-        return false;
-    }
-    if s.size < 1 {
-        return false;
-    }
-    (s.size as usize) <= LONGEST_NAME
+    TEXT_FROM <= s.offset as usize
+        && end_of(s) <= n
+        && 1 <= s.size
+        && s.size as usize <= LONGEST_NAME
 }
 
-// 0 where one of the first `count` pairs does not fit, else 1, and 2 where their offsets rise.
-fn order_of(area: &[u8], count: usize) -> u8
+// What the numbers of the pairs tell: one of them does not fit, all do, or all do and their offsets rise.
+#[derive(Clone, Copy)]
+enum Order {
+    Unfit = 0,
+    Fit = 1,
+    Rising = 2,
+}
+
+// The order of the first `count` pairs.
+fn order_of(area: &[u8], count: usize) -> Order
     requires { (text_from ≤ length area.now) × (count ≤ most_names) }
-    ensures { result ≡ order_of (length area.now) (spans_of count area.now) }
+    ensures { number_of result ≡ order_of (length area.now) (spans_of count area.now) }
 {
     let mut rising = true;
     let mut low = 0;
-    let mut i = 0;
-    while i < count {
+    for i in 0..count {
         let s = pair_at(area, i);
         if !is_fit(area.len(), s) {
-            return 0;
+            return Order::Unfit;
         }
-        rising = rising & (low <= s.offset as usize);
+        rising &= low <= s.offset as usize;
         low = end_of(s);
-        i += 1;
     }
-    if rising {
-        return 2;
-    }
-    1
+    if rising { Order::Rising } else { Order::Fit }
 }
 
 // How far it is from where one name begins to where another ends; 0 where that is not behind it.
 fn stretch(first: Span, last: Span) -> usize
     ensures { result ≡ end_of last - first.offset }
 {
-    let from = first.offset as usize;
-    let end = end_of(last);
-    if end < from {
-        return 0;
-    }
-    end - from
+    end_of(last).saturating_sub(first.offset as usize)
 }
 
 // The first of `count` names and the last are no farther from each other than 256 bytes a name.
@@ -84,12 +77,10 @@ fn all_listable(area: &[u8], count: usize) -> bool
     requires { (text_from ≤ length area.now) × (count ≤ most_names) }
     ensures { result ≡ all (listable area.now) (spans_of count area.now) }
 {
-    let mut i = 0;
-    while i < count {
+    for i in 0..count {
         if !is_listable(area, pair_at(area, i)) {
             return false;
         }
-        i += 1;
     }
     true
 }
@@ -98,10 +89,7 @@ fn all_listable(area: &[u8], count: usize) -> bool
 fn are_apart(s: Span, t: Span) -> bool
     ensures { result ≡ apart s t }
 {
-    if end_of(s) <= t.offset as usize {
-        return true;
-    }
-    end_of(t) <= s.offset as usize
+    end_of(s) <= t.offset as usize || end_of(t) <= s.offset as usize
 }
 
 // Pair i has no byte in common with a pair behind it.
@@ -110,12 +98,10 @@ fn apart_behind(area: &[u8], count: usize, i: usize) -> bool
     ensures { let a = area.now in result ≡ all (apart (span_at a i)) (drop (i + 1) (spans_of count a)) }
 {
     let s = pair_at(area, i);
-    let mut k = i + 1;
-    while k < count {
+    for k in i + 1..count {
         if !are_apart(s, pair_at(area, k)) {
             return false;
         }
-        k += 1;
     }
     true
 }
@@ -125,12 +111,10 @@ fn all_apart(area: &[u8], count: usize) -> bool
     requires { (text_from ≤ length area.now) × (count ≤ most_names) }
     ensures { result ≡ pairwise apart (spans_of count area.now) }
 {
-    let mut i = 0;
-    while i < count {
+    for i in 0..count {
         if !apart_behind(area, count, i) {
             return false;
         }
-        i += 1;
     }
     true
 }
@@ -140,10 +124,7 @@ fn placed_by_name(area: &[u8], count: usize) -> bool
     requires { (text_from ≤ length area.now) × (count ≤ most_names) }
     ensures { result ≡ placed count area.now }
 {
-    if !all_listable(area, count) {
-        return false;
-    }
-    all_apart(area, count)
+    all_listable(area, count) && all_apart(area, count)
 }
 
 // The same. Where offsets rise, no two names have a byte in common, and a text without a zero byte has no name with
@@ -155,17 +136,11 @@ pub(crate) fn all_placed(area: &[u8], count: usize) -> bool
     if count == 0 {
         return true;
     }
-    let order = order_of(area, count);
-    if order == 0 {
-        return false;
-    }
-    if order == 1 {
-        return placed_by_name(area, count);
-    }
-    if is_dense(area, count) {
-        if no_zero_along(area, count) {
-            return true;
+    match order_of(area, count) {
+        Order::Unfit => false,
+        Order::Fit => placed_by_name(area, count),
+        Order::Rising => {
+            is_dense(area, count) && no_zero_along(area, count) || all_listable(area, count)
         }
     }
-    all_listable(area, count)
 }

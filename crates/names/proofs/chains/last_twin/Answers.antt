@@ -12,5 +12,5 @@ returns-then-end-lt8 c =
 pub returns : goal.returns
 returns c =
     let x = c.args.name.now in
-    long-twin x _ _ _ _ c.twin-2.ensures c.less-from.ensures
+    long-twin x _ _ _ _ c.twin-2.ensures c.saturating_sub-from.ensures
     c.word.ensures c.word-2.ensures

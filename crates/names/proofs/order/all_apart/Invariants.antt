@@ -1,5 +1,4 @@
 -- The pairs left are apart exactly where all are.
-use Prim.Native.Nat.{◌≤◌, ◌-◌}
 use mathlib.Core.Path.{◌≡◌}
 use lib.ListN.{drop}
 use Rattle.namearea.specs.Area.{spans_of}
@@ -8,7 +7,4 @@ use Rattle.names.proofs.order.all_apart.Given as goal
 
 abbrev pub invariant-loop-i : goal.invariant-loop-i
 invariant-loop-i l =
-    (l.i ≤ l.count) × (pairwise apart (drop l.i (spans_of l.count l.area)) ≡ pairwise apart (spans_of l.count l.area))
-
-abbrev pub decreases-loop-i : goal.decreases-loop-i
-decreases-loop-i l = l.count - l.i
+    pairwise apart (drop l.i (spans_of l.count l.area)) ≡ pairwise apart (spans_of l.count l.area)

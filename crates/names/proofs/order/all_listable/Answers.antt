@@ -8,7 +8,7 @@ use borrow.Author.Rules.{rules}
 use Rattle.names.proofs.order.all_listable.Goals as goal
 
 pub loop-i-init : goal.loop-i-init
-loop-i-init c = (search rules, refl)
+loop-i-init c = refl
 
 pub returns-then-not-is_listable : goal.returns-then-not-is_listable
 returns-then-not-is_listable c =
@@ -16,19 +16,17 @@ returns-then-not-is_listable c =
     let there = pair-there x.area.now c.loop-i.i (omega arith) (omega arith) in
     let e = rw (c.pair_at.ensures ∙ there) at c.is_listable.ensures in
     let h = sym e ∙ c.if-not-is_listable.true in
-    sym (each-stop x.count x.area.now c.loop-i.i (listable x.area.now) (search rules) h) ∙ c.loop-i.invariant.1
+    sym (each-stop x.count x.area.now c.loop-i.i (listable x.area.now) (search rules) h) ∙ c.loop-i.invariant
 
 pub loop-i-preserved : goal.loop-i-preserved
 loop-i-preserved c =
     let x = c.args in
     let there = pair-there x.area.now c.loop-i.i (omega arith) (omega arith) in
     let e = rw (c.pair_at.ensures ∙ there) at c.is_listable.ensures in
-    let h = sym e ∙ c.if-not-is_listable.false in (
-      search rules,
-      sym (each_on x.count x.area.now c.loop-i.i (listable x.area.now) (search rules) h) ∙ c.loop-i.invariant.1,
-    )
+    let h = sym e ∙ c.if-not-is_listable.false in
+    sym (each_on x.count x.area.now c.loop-i.i (listable x.area.now) (search rules) h) ∙ c.loop-i.invariant
 
 pub returns : goal.returns
 returns c =
     let x = c.args in
-    sym (each-end x.count x.area.now c.loop-i.i (listable x.area.now) (search rules)) ∙ c.loop-i.invariant.1
+    sym (each-end x.count x.area.now c.loop-i.i (listable x.area.now) (search rules)) ∙ c.loop-i.invariant

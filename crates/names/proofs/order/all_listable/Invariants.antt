@@ -1,5 +1,4 @@
 -- The pairs left may all be listed exactly where all may.
-use Prim.Native.Nat.{◌≤◌, ◌-◌}
 use mathlib.Core.Path.{◌≡◌}
 use lib.ListN.{drop}
 use Rattle.laws.specs.Tests.{all}
@@ -9,7 +8,4 @@ use Rattle.names.proofs.order.all_listable.Given as goal
 
 abbrev pub invariant-loop-i : goal.invariant-loop-i
 invariant-loop-i l =
-    (l.i ≤ l.count) × (all (listable l.area) (drop l.i (spans_of l.count l.area)) ≡ all (listable l.area) (spans_of l.count l.area))
-
-abbrev pub decreases-loop-i : goal.decreases-loop-i
-decreases-loop-i l = l.count - l.i
+    all (listable l.area) (drop l.i (spans_of l.count l.area)) ≡ all (listable l.area) (spans_of l.count l.area)

@@ -1,6 +1,10 @@
 -- The numbers decide, or rising offsets and the bytes along the names do, or each name and each two of them.
-use mathlib.Core.Path.{sym, ◌∙◌}
+use mathlib.Core.Path.{◌≡◌, refl, sym, ◌∙◌}
+use mathlib.Core.Bool.{true}
+use native.Mathlib.Omega.{arith}
+use Rattle.laws.proofs.Refusals.{clash}
 use Rattle.names.proofs.OrderLaws.{none-placed, told-unfit, told-whole, told-listed}
+use Rattle.names.proofs.order.all_placed.Goals.{then-is_dense, else-is_dense}
 use Rattle.names.proofs.order.all_placed.Goals as goal
 
 pub returns-then-count-eq0 : goal.returns-then-count-eq0
@@ -8,21 +12,25 @@ returns-then-count-eq0 c =
     let x = c.args in
     sym (none-placed x.count x.area.now c.if-count-eq0.true)
 
-pub returns-then-order-eq0 : goal.returns-then-order-eq0
-returns-then-order-eq0 c =
+pub returns-in-Unfit : goal.returns-in-Unfit
+returns-in-Unfit c =
     let x = c.args in
-    sym (told-unfit x.count x.area.now _ c.order_of-order.ensures c.if-order-eq0.true)
+    sym (told-unfit x.count x.area.now _ c.in-Unfit.ensures refl)
 
 pub returns-then-no_zero_along : goal.returns-then-no_zero_along
 returns-then-no_zero_along c =
     let x = c.args in
-    let other = c.if-order-eq1.false in
-    let z = sym c.no_zero_along.ensures ∙ c.if-no_zero_along.true in
-    sym (told-whole x.count x.area.now _ c.order_of-order.ensures c.if-order-eq0.false other z)
+    let yes = c.if-no_zero_along.true in
+    yes
+    ∙ sym
+    (told-whole x.count x.area.now _ c.in-Rising.ensures (λ z. omega arith) (λ z. omega arith)
+    (elim c.if-is_dense.branch [
+      then-is_dense w ↦ sym w.no_zero_along.ensures ∙ sym w.value-is ∙ yes
+    | else-is_dense w ↦ absurd (clash yes (w.value-is ∙ w.if-is_dense.false))
+    ]))
 
-pub returns : goal.returns
-returns c =
+pub returns-else-no_zero_along : goal.returns-else-no_zero_along
+returns-else-no_zero_along c =
     let x = c.args in
-    let other = c.if-order-eq1.false in
     c.all_listable.ensures
-    ∙ sym (told-listed x.count x.area.now _ c.order_of-order.ensures c.if-order-eq0.false other)
+    ∙ sym (told-listed x.count x.area.now _ c.in-Rising.ensures (λ z. omega arith) (λ z. omega arith))

@@ -1,5 +1,5 @@
 -- The pairs left are apart from pair i exactly where all behind it are.
-use Prim.Native.Nat.{◌≤◌, ◌-◌, ◌+◌}
+use Prim.Native.Nat.{◌+◌}
 use mathlib.Core.Path.{◌≡◌}
 use lib.ListN.{drop}
 use Rattle.laws.specs.Tests.{all}
@@ -9,8 +9,5 @@ use Rattle.names.proofs.order.apart_behind.Given as goal
 
 abbrev pub invariant-loop-k : goal.invariant-loop-k
 invariant-loop-k l =
-    (l.k ≤ l.count) × (all (apart (span_at l.area l.i)) (drop l.k (spans_of l.count l.area)) ≡ all (apart (span_at l.area l.i))
-    (drop (l.i + 1) (spans_of l.count l.area)))
-
-abbrev pub decreases-loop-k : goal.decreases-loop-k
-decreases-loop-k l = l.count - l.k
+    all (apart (span_at l.area l.i)) (drop l.k (spans_of l.count l.area)) ≡ all (apart (span_at l.area l.i))
+    (drop (l.i + 1) (spans_of l.count l.area))

@@ -35,8 +35,8 @@ returns-then-rising c =
     let e = seen_end x.count x.area.now _ _ _ c.loop-i.invariant (search rules) in
     sym (e ∙ ap (λ b. cond b 2 1) c.if-rising.true)
 
-pub returns : goal.returns
-returns c =
+pub returns-else-rising : goal.returns-else-rising
+returns-else-rising c =
     let x = c.args in
     let e = seen_end x.count x.area.now _ _ _ c.loop-i.invariant (search rules) in
     sym (e ∙ ap (λ b. cond b 2 1) c.if-rising.false)

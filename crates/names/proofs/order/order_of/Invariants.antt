@@ -1,10 +1,6 @@
 -- A pair that does not fit ends the pass; each other is seen, and whether it rises.
-use Prim.Native.Nat.{◌-◌}
 use Rattle.names.proofs.OrderLaws.{Seen}
 use Rattle.names.proofs.order.order_of.Given as goal
 
 abbrev pub invariant-loop-i : goal.invariant-loop-i
 invariant-loop-i l = Seen l.count l.area l.i l.low l.rising
-
-abbrev pub decreases-loop-i : goal.decreases-loop-i
-decreases-loop-i l = l.count - l.i

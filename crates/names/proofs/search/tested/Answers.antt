@@ -15,16 +15,16 @@ returns-then-count-gt-MOST_NAMES c =
     let long = c.if-area-lt-TEXT_FROM.false in
     let count = c.count_in-count in
     elim c.then-count-gt-MOST_NAMES.branch [
-      then-count-gt-MOST_NAMES-via-then-count-gt-MOST_NAMES w ↦
-      tested-many a _ _ _ long count.result count.ensures w.if-count-gt-MOST_NAMES.true
-    | then-count-gt-MOST_NAMES-via-else-count-gt-MOST_NAMES+then-not-all_placed w ↦
-      tested_misplaced a _ _ _ long count.result count.ensures w.if-count-gt-MOST_NAMES.false
-      w.all_placed.result w.all_placed.ensures (ap not w.if-not-all_placed.true)
-    | then-count-gt-MOST_NAMES-via-else-count-gt-MOST_NAMES+else-not-all_placed+then-not-chain w ↦
-      rw (w.heads-is, w.links-is, w.tags-is)
-      (tested-twice a _ _ _ long count.result count.ensures w.if-count-gt-MOST_NAMES.false
-      w.all_placed.result w.all_placed.ensures (ap not w.if-not-all_placed.false) w.chain.result w.chain.ensures
-      (ap not w.if-not-chain.true))
+      | then-count-gt-MOST_NAMES-via-then-count-gt-MOST_NAMES w ↦
+          tested-many a _ _ _ long count.result count.ensures w.if-count-gt-MOST_NAMES.true
+      | then-count-gt-MOST_NAMES-via-else-count-gt-MOST_NAMES+then-not-all_placed w ↦
+          tested_misplaced a _ _ _ long count.result count.ensures w.if-count-gt-MOST_NAMES.false
+          w.all_placed.result w.all_placed.ensures (ap not w.if-not-all_placed.true)
+      | then-count-gt-MOST_NAMES-via-else-count-gt-MOST_NAMES+else-not-all_placed+then-not-chain w ↦
+          rw w.chains-is
+          (tested-twice a _ _ _ long count.result count.ensures w.if-count-gt-MOST_NAMES.false
+          w.all_placed.result w.all_placed.ensures (ap not w.if-not-all_placed.false) w.chain.result w.chain.ensures
+          (ap not w.if-not-chain.true))
     ]
 
 pub returns : goal.returns
