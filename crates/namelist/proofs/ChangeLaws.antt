@@ -15,7 +15,7 @@ use Rattle.namearea.specs.Calls.{is_listed, place_among, find_answer, finding, n
 use Rattle.namearea.specs.Calls.{with_last, without, Relisted, Changed, Added, Removed}
 use Rattle.namearea.proofs.GoodLaws.{names-length}
 use Rattle.namearea.proofs.PlaceLaws.{place-holds}
-use Rattle.namelist.specs.Moves.{Insertable}
+use Rattle.namelist.specs.Moves.{GoodArea, Insertable}
 use Rattle.namelist.proofs.ListLaws.{less}
 
 -- ---- the tests of the rules in order: an area that is short, one that is bad, a name that is bad, one that is
@@ -185,14 +185,13 @@ module _ (a x : List ℕ) (found : Found) (f : found ≡ finding a x) where
   pub remove-refused : (found.answer ≡ 0 → ⊥) → Removed a x found.answer a
   remove-refused z = refusal (find_answer a x) a (without (names_in a) x) found.answer answer-is z
 
-  pub removable : found.answer ≡ 0 → (count : ℕ) → count ≡ count_in a
-      → (good_list a ≡ true) × (text_from ≤ length a) × (count ≡ count_in a) × (found.place < count)
-  removable e count q =
+  pub removable : found.answer ≡ 0 → GoodArea a × (found.place < count_in a)
+  removable e =
       let w = find-there a x (sym answer-is ∙ e) in
       let h = (place-holds x (names_in a) w.stands).0 in
       let n = names-length (count_in a) a in
       let p = place_is e in
-      (w.good, w.long, q, omega arith)
+      (record { long = w.long; good = w.good }, omega arith)
 
   pub remove-done : found.answer ≡ 0 → (b : List ℕ) → Relisted a b (less found.place (names_in a)) → Removed a x 0 b
   remove-done e b l =

@@ -323,11 +323,12 @@ pub record Turn (first a : List ℕ) (rising : Bool) (i from to : ℕ) : Type 0 
   pub closing : Closing first a from to
   pub rest : rising ≡ true → Rest a i from
   pub turns : i ≤ from
+  pub within : rising ≡ true → i ≤ count_in a
 
 pub turn-first : (a : List ℕ) (rising : Bool) → good_list a ≡ true → text_from ≤ length a
     → rising ≡ rising_from 0 (spans_of (count_in a) a) → Turn a a rising 0 text_from text_from
 turn-first a rising e h r =
-    record { closing = close-start a e h; rest = λ t. rest-start a e (sym r ∙ t); turns = omega arith }
+    record { closing = close-start a e h; rest = λ t. rest-start a e (sym r ∙ t); turns = omega arith; within = λ t. omega arith }
 
 pub turn-next : {first a b : List ℕ} {rising : Bool} {i from to k : ℕ} {s : Span} → Turn first a rising i from to
     → k < count_in a → Next a rising i from k → MovedDown a to k s b
@@ -336,14 +337,16 @@ turn-next {first} {a} {b} {rising} {i} {from} {to} {k} {s} t h n d =
     let c = t.closing in
     let p = n.which.some h in
     let z = size-range a c.good k h in
+    let step = close-step first a b from to k s c h n.which d in
     rw d.was
     (record {
-      closing = close-step first a b from to k s c h n.which d;
+      closing = step;
       rest =
           λ e.
           rw (← n.same e)
           (rest-step first a b from to k s c h n.which d (rw (n.same e) (t.rest e)));
       turns = omega (arith, t.turns);
+      within = λ e. omega (arith, n.same e, step.count, c.count);
     })
 
 -- a turn goes on from further behind

@@ -3,24 +3,23 @@ use Prim.Native.Nat.{ℕ, zero, suc, ◌+◌, ◌-◌, ◌*◌, ◌≤◌, ◌<�
 use mathlib.Core.Path.{◌≡◌, refl, sym, ap, ap₂, ◌∙◌}
 use mathlib.Core.Bool.{Bool, true, false}
 use mathlib.Core.Logic.{◌⊎◌, inl, inr, ⊎_elim}
-use mathlib.Core.List.{List, [], ◌∷◌}
+use mathlib.Core.List.{List, ◌++◌}
 use native.Mathlib.Omega.{arith}
 use lib.Dec.{ltb}
-use lib.ListN.{length, get_or, take, drop, set, length-set, length-take, length-drop}
-use lib.Seq.{drop-drop, drop-cons, take-add}
+use lib.ListN.{length, take, drop, length-take, length-drop}
+use lib.Seq.{drop-drop, paste}
+use Rattle.std.proofs.Common.{append_assoc}
 use borrow.Rule.Slice.PartMut.{put_mid}
 use borrow.Author.Tests.{ltb-true, ltb-false}
 use Rattle.laws.specs.Bytes.{little, little_bytes}
-use Rattle.laws.specs.Parts.{over, copied}
-use Rattle.laws.proofs.Decimal.{over-byte}
+use Rattle.laws.specs.Parts.{over}
 use Rattle.laws.proofs.Over.{over-length, over-front}
 use Rattle.laws.proofs.Overlay.{over-read, over-ahead, over-behind}
-use Rattle.laws.proofs.Text.{over_none, over_append}
-use Rattle.laws.proofs.Writing.{little_of_bytes, copied-part}
+use Rattle.laws.proofs.Writing.{little_of_bytes}
 use Rattle.namearea.specs.declared.Span.{Span}
 use Rattle.namearea.specs.Area.{most_names, text_from, count_in, span_in, span_at}
 use Rattle.namearea.proofs.SpanLaws.{span_same}
-use Rattle.namelist.specs.Moves.{CountPut, PairPut, TextPut, Moved}
+use Rattle.namelist.specs.Moves.{CountPut, PairPut, TextPut}
 
 -- a piece apart from what was written
 pub over-other : (from : ℕ) (bs a : List ℕ) (p n : ℕ) → from + length bs ≤ length a
@@ -123,25 +122,25 @@ pair_put a i s b c h l g k eb ec =
       text = two-text a i o z b c h l refl refl m eb ec;
     }
 
--- the same where each was copied onto a part of four bytes that was lent
-pub pair-copied : (a : List ℕ) (i : ℕ) (s : Span) (o z left right : List ℕ) → text_from ≤ length a → i < most_names
-    → s.offset < 4294967296 → s.size < 4294967296 → o ≡ little_bytes 4 s.offset → z ≡ little_bytes 4 s.size
+-- a part of a list that was lent came back as these bytes
+pub part-put : (from k : ℕ) (bs a left : List ℕ) → length bs ≡ k → left ≡ bs → put_mid from k a left ≡ over from bs a
+part-put from k bs a left h e =
+    ap (λ l. take from a ++ (l ++ drop k (drop from a))) e
+    ∙ ap (λ l. take from a ++ (bs ++ l)) (drop-drop k from a ∙ ap (λ n. drop (from + n) a) (sym h))
+
+-- the same where each became a part of four bytes that was lent
+pub pair-copied : (a : List ℕ) (i : ℕ) (s : Span) (left right : List ℕ) → text_from ≤ length a → i < most_names
+    → s.offset < 4294967296 → s.size < 4294967296
+    → left ≡ little_bytes 4 s.offset → right ≡ little_bytes 4 s.size
     → (let at = 4 + 8 * i in
-    let b = put_mid at (at + 4 - at) a left in
-    left ≡ copied o (take (at + 4 - at) (drop at a))
-    → right ≡ copied z (take (at + 4 + 4 - (at + 4)) (drop (at + 4) b))
-    → PairPut a i s (put_mid (at + 4) (at + 4 + 4 - (at + 4)) b right))
-pair-copied a i s o z left right h l g k eo ez el er =
+    PairPut a i s (put_mid (at + 4) (at + 8 - (at + 4)) (put_mid at (at + 4 - at) a left) right))
+pair-copied a i s left right h l g k eo ez =
     let at = 4 + 8 * i in
     let b = put_mid at (at + 4 - at) a left in
-    let no : length o ≡ 4 = ap length eo in
-    let nz : length z ≡ 4 = ap length ez in
-    let eb : b ≡ over at o a = copied-part at (at + 4 - at) o a left (omega arith) (omega arith) el in
-    let m : length b ≡ length a = ap length eb ∙ over-length at o a (omega arith) in
-    pair_put a i s b (put_mid (at + 4) (at + 4 + 4 - (at + 4)) b right) h l g k
-    (eb ∙ ap (λ x. over at x a) eo)
-    (copied-part (at + 4) (at + 4 + 4 - (at + 4)) z b right (omega arith) (omega arith) er
-    ∙ ap (λ x. over (at + 4) x b) ez)
+    let eb : b ≡ over at (little_bytes 4 s.offset) a =
+    part-put at (at + 4 - at) (little_bytes 4 s.offset) a left (omega arith) eo in
+    pair_put a i s b (put_mid (at + 4) (at + 8 - (at + 4)) b right) h l g k eb
+    (part-put (at + 4) (at + 8 - (at + 4)) (little_bytes 4 s.size) b right (omega arith) ez)
 
 -- a text was written
 pub text-put : (a : List ℕ) (at : ℕ) (x b : List ℕ) → text_from ≤ at → at + length x ≤ length a → b ≡ over at x a
@@ -159,71 +158,12 @@ text-put a at x b h g e = rw e put
       others = λ s q. over-other at x a s.offset s.size g q;
     }
 
--- n bytes of a list read one by one, the first at from + i
-abbrev run : ℕ → ℕ → ℕ → List ℕ → List ℕ
-run zero i from a = []
-run (suc n) i from a = get_or a (from + i) 0 ∷ run n (suc i) from a
-
-run-part : (n i from : ℕ) (a : List ℕ) → from + i + n ≤ length a → run n i from a ≡ take n (drop (from + i) a)
-run-part zero i from a h = refl
-run-part (suc n) i from a h =
-    let e : from + suc i ≡ suc (from + i) = omega arith in
-    ap (λ l. get_or a (from + i) 0 ∷ l) (run-part n (suc i) from a (omega arith) ∙ ap (λ k. take n (drop k a)) e)
-    ∙ ap (take (suc n)) (sym (drop-cons a (from + i) 0 (omega arith)))
-
--- eight bytes were read, and copied onto a part that was lent
-pub eight-moved : (a : List ℕ) (to from : ℕ) (left : List ℕ) → to + 8 ≤ length a → from + 8 ≤ length a
-    → left ≡ copied (get_or a from 0 ∷ run 7 1 from a) (take (to + 8 - to) (drop to a))
-    → Moved a to from 8 (put_mid to (to + 8 - to) a left)
-eight-moved a to from left h g e =
-    let z : from ≡ from + 0 = omega arith in
-    let x = take 8 (drop from a) in
-    let n : length x ≡ 8 = simp (length-take, length-drop) (omega arith) in
-    let r : run 8 0 from a ≡ x = run-part 8 0 from a (omega arith) ∙ ap (λ k. take 8 (drop k a)) (sym z) in
-    let w : put_mid to (to + 8 - to) a left ≡ over to x a =
-    copied-part to (to + 8 - to) x a left (omega arith) (omega arith)
-    (e ∙ ap (λ k. copied (get_or a k 0 ∷ run 7 1 from a) (take (to + 8 - to) (drop to a))) z
-    ∙ ap (λ l. copied l (take (to + 8 - to) (drop to a))) r) in
-    record { long = ap length w ∙ over-length to x a (omega arith); bytes = w }
-
--- nothing moved yet
-pub moved_none : (a : List ℕ) (to from : ℕ) → Moved a to from 0 a
-moved_none a to from = record { long = refl; bytes = sym (over_none to a) }
-
--- k bytes more moved down, which are still as they were: what was written lies before them
-pub moved-next : {first a b : List ℕ} {to from i k : ℕ} → to ≤ from → from + i ≤ length first
-    → Moved first to from i a → Moved a (to + i) (from + i) k b → Moved first to from (i + k) b
-moved-next {first} {a} {b} {to} {from} {i} {k} h g m t =
-    let x = take i (drop from first) in
-    let y = take k (drop i (drop from first)) in
-    let n : length x ≡ i = simp (length-take, length-drop) (omega arith) in
-    let d : drop (from + i) a ≡ drop i (drop from first) =
-    ap (drop (from + i)) m.bytes ∙ over-behind to x first (from + i) (omega arith) (omega arith)
-    ∙ sym (drop-drop i from first) in
-    record {
-      long = t.long ∙ m.long;
-      bytes =
-          t.bytes
-          ∙ ap₂ (λ p q. over (to + i) (take k p) q) d m.bytes
-          ∙ ap (λ j. over (to + j) y (over to x first)) (sym n)
-          ∙ over_append to x y first (omega arith)
-          ∙ ap (λ l. over to l first) (sym (take-add i k (drop from first)));
-    }
-
--- one byte
-pub byte-moved : (a : List ℕ) (to from : ℕ) → to < length a → from < length a
-    → Moved a to from 1 (set a to (get_or a from 0))
-byte-moved a to from h g =
-    record {
-      long = length-set a to (get_or a from 0);
-      bytes = over-byte to (get_or a from 0) a h ∙ ap (λ l. over to (take 1 l) a) (sym (drop-cons a from 0 g));
-    }
-
--- all were moved, r of them first and then the others
-pub text-moved : {a : List ℕ} {to from n r : ℕ} {mid b : List ℕ} → text_from ≤ to → to ≤ from → from + n ≤ length a
-    → r ≤ n → Moved a to from r mid → Moved mid (to + r) (from + r) (n - r) b → TextPut a to (take n (drop from a)) b
-text-moved {a} {to} {from} {n} {r} {mid} {b} h g l q m t =
-    let e : r + (n - r) ≡ n = omega arith in
-    let k : length (take n (drop from a)) ≡ n = simp (length-take, length-drop) (omega arith) in
-    text-put a to (take n (drop from a)) b h (omega arith)
-    ((moved-next g (omega arith) m t).bytes ∙ ap (λ j. over to (take j (drop from a)) a) e)
+-- all n bytes were moved, as many as are there
+pub text-moved : (a : List ℕ) (to from n : ℕ) (b : List ℕ) → text_from ≤ to → to ≤ from → from + n ≤ length a
+    → b ≡ paste a to (drop from a) (from + n - from) → TextPut a to (take n (drop from a)) b
+text-moved a to from n b h g l e =
+    let x = take n (drop from a) in
+    let k : length x ≡ n = simp (length-take, length-drop) (omega arith) in
+    let m : from + n - from ≡ n = omega arith in
+    text-put a to x b h (omega arith)
+    (e ∙ ap (paste a to (drop from a)) m ∙ append_assoc (take to a) x (drop (to + n) a) ∙ ap (λ m. take to a ++ (x ++ drop (to + m) a)) (sym k))

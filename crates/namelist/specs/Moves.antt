@@ -1,10 +1,14 @@
 -- What the parts of an add and a remove promise one another: an area after one write, by what can be read of it.
 use Rattle.std.specs.Prelude.{ℕ, ◌+◌, ◌-◌, ◌≤◌, ◌<◌, ◌≡◌, true, false, ◌⊎◌, List, length, take, drop}
-use Rattle.laws.specs.Parts.{over}
 use Rattle.namearea.specs.declared.Span.{Span}
 use Rattle.namearea.specs.Area.{most_names, text_from, count_in, span_at, end_of, name_of, names_in, total}
 use Rattle.namearea.specs.Good.{good_name, good_list}
 use Rattle.namearea.specs.Calls.{is_listed}
+
+-- what every change asks of the area: it has room for the pairs, and is good
+pub record GoodArea (a : List ℕ) : Type 0 where
+  pub long : text_from ≤ length a
+  pub good : good_list a ≡ true
 
 -- the count was written
 pub record CountPut (a : List ℕ) (n : ℕ) (b : List ℕ) : Type 0 where
@@ -28,11 +32,6 @@ pub record TextPut (a : List ℕ) (at : ℕ) (x b : List ℕ) : Type 0 where
   pub pairs : (k : ℕ) → k < most_names → span_at b k ≡ span_at a k
   pub here : take (length x) (drop at b) ≡ x
   pub others : (s : Span) → (end_of s ≤ at) ⊎ (at + length x ≤ s.offset) → name_of b s ≡ name_of a s
-
--- the n bytes at `from` were written to `to`
-pub record Moved (a : List ℕ) (to from n : ℕ) (b : List ℕ) : Type 0 where
-  pub long : length b ≡ length a
-  pub bytes : b ≡ over to (take n (drop from a)) a
 
 -- room for n bytes more at `at`: the names are as they were, and all texts end before it
 pub record Placed (a : List ℕ) (n at : ℕ) (b : List ℕ) : Type 0 where

@@ -4,7 +4,6 @@ ghost use Rattle.namearea.specs.Calls.{Added, Removed};
 
 use crate::listing::{insert, no_room, unlist};
 use answer::Refusal;
-use namearea::count_in;
 use names::search::find;
 
 // Adds a name as the last.
@@ -17,11 +16,10 @@ pub fn add(area: &mut [u8], name: &[u8]) -> Result<(), Refusal>
     if refusal != Refusal::NotFound {
         return Err(refusal);
     }
-    let count = count_in(area) as usize;
-    if no_room(area, count, name.len()) {
+    if no_room(area, name.len()) {
         return Err(Refusal::ListFull);
     }
-    insert(area, count, name);
+    insert(area, name);
     Ok(())
 }
 
@@ -30,7 +28,6 @@ pub fn remove(area: &mut [u8], name: &[u8]) -> Result<(), Refusal>
     ensures { Removed area.old name.now (answer_of result) area.new }
 {
     let place = find(area, name)?;
-    let count = count_in(area) as usize;
-    unlist(area, count, place);
+    unlist(area, place);
     Ok(())
 }

@@ -17,10 +17,9 @@ use tablereader::bounds::{good_infinity, good_length};
 fn mark(place: usize, entries: &mut [u8])
     ensures { entries.new ≡ set entries.old place 1 }
 {
-    if entries.len() <= place {
-        return;
+    if place < entries.len() {
+        entries[place] = 1;
     }
-    entries[place] = 1;
 }
 
 // Writes 1 at the place of each keyword of a text in a table of so many entries.
@@ -36,21 +35,8 @@ fn mark_text(text: &[u8], size: u32, entries: &mut [u8])
 pub fn mark_names(area: &[u8], count: usize, size: u32, entries: &mut [u8])
     ensures { entries.new ≡ with_ones (own_places size (names_of count area.now)) entries.old }
 {
-    let mut i = 0;
-    while i < count {
+    for i in 0..count {
         mark_text(name_of(area, span_at(area, i)), size, entries);
-        i += 1;
-    }
-}
-
-// Every entry becomes v.
-pub fn fill(entries: &mut [u8], v: u8)
-    ensures { entries.new ≡ replicate (length entries.old) v }
-{
-    let mut i = 0;
-    while i < entries.len() {
-        entries[i] = v;
-        i += 1;
     }
 }
 
@@ -60,7 +46,7 @@ fn make(area: &[u8], count: usize, size: u32, infinity: u8, entries: &mut [u8])
         (own_places size (names_of count area.now))
         (replicate (length entries.old) infinity) }
 {
-    fill(entries, infinity);
+    entries.fill(infinity);
     mark_names(area, count, size, entries);
 }
 

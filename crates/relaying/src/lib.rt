@@ -54,25 +54,14 @@ impl From<Result<u8, Refusal>> for Made {
 fn has_say(line: u32, k: u32, table: Table) -> bool
     ensures { result ≡ (is_other line k && eqb table.mark settled) }
 {
-    if is_other(line, k) {
-        table.mark == SETTLED
-    } else {
-        false
-    }
+    is_other(line, k) && table.mark == SETTLED
 }
 
 // For each line whether it has a say in what is sent by this one: another line, with a settled table.
 fn with_say(tables: [Table; 8], line: u32) -> [bool; 8]
     ensures { result ≡ each_line (λ k. is_other line k && eqb (get_or tables k no_table).mark settled) }
 {
-    let mut say = [false; 8];
-    let mut k = 0;
-    while k < 8 {
-        let table = tables[k];
-        say[k] = has_say(line, k as u32, table);
-        k += 1;
-    }
-    say
+    array::from_fn(|k| has_say(line, k as u32, tables[k]))
 }
 
 // All entries of the table to send: the tables of the other lines, then the own names.
@@ -127,11 +116,7 @@ fn station_answer(
 fn is_open(lines: [Line; 8], line: u32) -> bool
     ensures { result ≡ (line_in lines line).live }
 {
-    let k = line as usize;
-    if k < 8 {
-        return lines[k].live;
-    }
-    false
+    lines.get(line as usize).is_some_and(|at| at.live)
 }
 
 // All refusals, in their order.

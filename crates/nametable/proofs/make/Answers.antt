@@ -8,4 +8,4 @@ pub returns : goal.returns
 returns c =
     let x = c.args in
     c.mark_names.ensures
-    ∙ ap (with_ones (own_places x.size (names_of x.count x.area.now))) c.fill.ensures
+    ∙ ap (with_ones (own_places x.size (names_of x.count x.area.now))) (c.fill.ensures.after (λ y e. e))

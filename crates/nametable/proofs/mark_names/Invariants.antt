@@ -1,5 +1,4 @@
 -- The entries at hand, with the names that are left, give what all of them gave of the first entries.
-use Prim.Native.Nat.{◌-◌}
 use mathlib.Core.Path.{◌≡◌}
 use lib.ListN.{length}
 use Rattle.namearea.specs.Area.{names_of}
@@ -11,6 +10,3 @@ abbrev pub invariant-loop-i : goal.invariant-loop-i
 invariant-loop-i l =
     (length l.entries ≡ length l.initial.entries)
     × (with_ones (places_left l.size l.count l.area l.i) l.entries ≡ with_ones (own_places l.size (names_of l.count l.area)) l.initial.entries)
-
-abbrev pub decreases-loop-i : goal.decreases-loop-i
-decreases-loop-i l = l.count - l.i

@@ -33,25 +33,25 @@ pub no_room-requires : goal.no_room-requires
 no_room-requires c =
     let x = c.args in
     let w = told-absent x.area.now x.name.now _ c.in-Err.ensures (absent (goal.at.no_room-requires c).Else-ne) in
-    (w.good, w.long, c.count_in-count.ensures, (good-long x.name.now w.named).1)
+    (record { long = w.long; good = w.good }, (good-long x.name.now w.named).1)
 
 pub returns-then-no_room : goal.returns-then-no_room
 returns-then-no_room c =
     let x = c.args in
     add-full x.area.now x.name.now _ c.in-Err.ensures (absent (goal.at.returns-then-no_room c).Else-ne)
-    c.count_in-count.result c.count_in-count.ensures c.no_room.result c.no_room.ensures
+    _ refl c.no_room.result c.no_room.ensures
     c.if-no_room.true
 
 pub insert-requires : goal.insert-requires
 insert-requires c =
     let x = c.args in
     insertable x.area.now x.name.now _ c.in-Err.ensures (absent (goal.at.insert-requires c).Else-ne)
-    c.count_in-count.result c.count_in-count.ensures c.no_room.result
+    _ refl c.no_room.result
     c.no_room.ensures c.if-no_room.false
 
 pub returns : goal.returns
 returns c =
     let x = c.args in
     add_done x.area.now x.name.now _ c.in-Err.ensures (absent (goal.at.returns c).Else-ne)
-    c.count_in-count.result c.count_in-count.ensures c.no_room.result
+    _ refl c.no_room.result
     c.no_room.ensures c.if-no_room.false _ c.insert.ensures

@@ -15,7 +15,7 @@ returns-in_err-place c =
 pub unlist-requires : goal.unlist-requires
 unlist-requires c =
     let x = c.args in
-    removable x.area.now x.name.now _ c.in_ok-place.ensures refl c.count_in-count.result c.count_in-count.ensures
+    removable x.area.now x.name.now _ c.in_ok-place.ensures refl
 
 pub returns : goal.returns
 returns c =

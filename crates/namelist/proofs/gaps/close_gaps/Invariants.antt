@@ -4,8 +4,8 @@ use lib.ListN.{length}
 use Rattle.namelist.proofs.GapLaws.{Turn}
 use Rattle.namelist.proofs.gaps.close_gaps.Given as goal
 
-abbrev pub invariant-loop-count : goal.invariant-loop-count
-invariant-loop-count l = Turn l.initial.area l.area l.rising l.i l.from l.to
+abbrev pub invariant-loop-k : goal.invariant-loop-k
+invariant-loop-k l = Turn l.initial.area l.area l.rising l.i l.from l.to
 
-abbrev pub decreases-loop-count : goal.decreases-loop-count
-decreases-loop-count l = length l.initial.area - l.from
+abbrev pub decreases-loop-k : goal.decreases-loop-k
+decreases-loop-k l = length l.initial.area - l.from

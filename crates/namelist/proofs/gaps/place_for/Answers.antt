@@ -4,4 +4,4 @@ use Rattle.namelist.proofs.gaps.place_for.Goals as goal
 
 pub returns : goal.returns
 returns c =
-    closed-room c.requires.0 c.requires.1 c.requires.3 c.close_gaps.ensures
+    closed-room c.requires.0.good c.requires.0.long c.requires.1 c.close_gaps.ensures

@@ -6,7 +6,4 @@ use Rattle.namelist.proofs.gaps.text_end.Given as goal
 
 abbrev pub invariant-loop-i : goal.invariant-loop-i
 invariant-loop-i l =
-    (l.i ≤ l.count) × (text_from ≤ l.end) × (l.end ≤ length l.area) × ((k : ℕ) → k < l.i → end_of (span_at l.area k) ≤ l.end)
-
-abbrev pub decreases-loop-i : goal.decreases-loop-i
-decreases-loop-i l = l.count - l.i
+    (text_from ≤ l.end) × (l.end ≤ length l.area) × ((k : ℕ) → k < l.i → end_of (span_at l.area k) ≤ l.end)

@@ -1,13 +1,10 @@
 -- Each turn moves one pair more.
-use Prim.Native.Nat.{◌-◌, ◌≤◌, ◌<◌}
+use Prim.Native.Nat.{◌≤◌}
 use lib.ListN.{length}
-use Rattle.namearea.specs.Area.{most_names, text_from}
+use Rattle.namearea.specs.Area.{text_from}
 use Rattle.namelist.proofs.UnlistLaws.{Shifted}
 use Rattle.namelist.proofs.listing.unlist.Given as goal
 
 abbrev pub invariant-loop-i : goal.invariant-loop-i
 invariant-loop-i l =
-    (l.place < l.i) × (l.i ≤ l.count) × (l.count ≤ most_names) × (text_from ≤ length l.area) × Shifted l.initial.area l.place l.i l.area
-
-abbrev pub decreases-loop-i : goal.decreases-loop-i
-decreases-loop-i l = l.count - l.i
+    (text_from ≤ length l.area) × Shifted l.initial.area l.place l.i l.area

@@ -1,8 +1,8 @@
--- Whole eights are moved first, and then the bytes behind them.
+-- All of them are moved at once.
 use Rattle.namelist.proofs.MoveLaws.{text-moved}
 use Rattle.namelist.proofs.moves.move_text.Goals as goal
 
 pub returns : goal.returns
 returns c =
-    text-moved c.requires.0 c.requires.1 c.requires.2 c.move_eights-i.ensures.0 c.move_eights-i.ensures.1
-    c.move_bytes.ensures
+    let x = c.args in
+    text-moved x.area.now x.to x.from x.n _ c.requires.0 c.requires.1 c.requires.2 c.copy_within.ensures.after
