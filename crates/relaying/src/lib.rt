@@ -21,6 +21,7 @@ use protocol::lines::is_other;
 use protocol::{LIMIT, LINES, Line};
 use refusals::other_room;
 use station::lines::tables_of;
+use std::array;
 use tablemerger::merge_tables;
 use tablereader::bounds::good_length;
 use tables::{SETTLED, Table};

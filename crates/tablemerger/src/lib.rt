@@ -7,7 +7,6 @@ ghost use Rattle.tablemerging.specs.Merging.{reaching, nearest, relayed_entries,
 ghost use Rattle.tablemerger.specs.Lowering.{lowered, Within};
 ghost use Rattle.tablemerger.specs.Parts.{part_tables};
 
-use nametable::fill;
 use tables::Table;
 
 // Lowers nothing: no entry is above it.
@@ -286,6 +285,6 @@ pub fn merge_tables(
         ≡ relayed_entries infinity (length entries.old)
         (part_tables picked tables room area.now) }
 {
-    fill(entries, infinity);
+    entries.fill(infinity);
     merge_parts(picked, tables, room, area, infinity, entries);
 }
