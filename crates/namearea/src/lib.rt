@@ -21,8 +21,7 @@ pub const MOST_NAMES: usize = 512;
 pub const LONGEST_NAME: usize = 255;
 
 // Where a name stands, from the area's start, and how many bytes it has.
-#[repr(C)]
-#[derive(Clone, Copy)]
+#[derive(Clone, Copy, Default)]
 pub struct Span {
     pub offset: u32,
     pub size: u32,
@@ -72,10 +71,9 @@ fn span_up_to(pairs: &[u8], i: usize) -> Span
     ensures { result ≡ span_in (drop (8 * i) pairs.now) }
 {
     if pairs.len() / 8 < i {
-        return Span { offset: 0, size: 0 };
+        return Span::default();
     }
-    let at = 8 * i;
-    span_in(&pairs[at..])
+    span_in(&pairs[8 * i..])
 }
 
 // Pair i. Where all eight bytes are there, it is read of a part of just that length: one load.
@@ -83,30 +81,25 @@ pub fn span_at(area: &[u8], i: usize) -> Span
     ensures { result ≡ span_at area.now i }
 {
     if area.len() < 4 {
-        return Span { offset: 0, size: 0 };
+        return Span::default();
     }
     let pairs = &area[4..];
     if pairs.len() / 8 <= i {
         return span_up_to(pairs, i);
     }
     let at = 8 * i;
-    let end = at + 8;
-    span_in(&pairs[at..end])
+    span_in(&pairs[at..at + 8])
 }
 
 // Pair i of an area that has room for the pairs: one load. No pair where it has no room for them, or i is past them.
 pub fn pair_at(area: &[u8], i: usize) -> Span
     ensures { result ≡ pair_in area.now i }
 {
-    if area.len() < TEXT_FROM {
-        return Span { offset: 0, size: 0 };
-    }
-    if MOST_NAMES <= i {
-        return Span { offset: 0, size: 0 };
+    if area.len() < TEXT_FROM || MOST_NAMES <= i {
+        return Span::default();
     }
     let at = 4 + 8 * i;
-    let end = at + 8;
-    span_in(&area[at..end])
+    span_in(&area[at..at + 8])
 }
 
 // Where a name ends.
@@ -123,43 +116,27 @@ pub fn name_of(area: &[u8], s: Span) -> &[u8]
     front(after(area, s.offset as usize), s.size as usize)
 }
 
-// No byte is zero. No way out before the end: the turns are alike.
+// No byte is zero.
 pub fn no_zero(name: &[u8]) -> bool
     ensures { result ≡ not (any (eqb 0) name.now) }
 {
-    let mut good = true;
-    let mut i = 0;
-    while i < name.len() {
-        good = good & (name[i] != 0);
-        i += 1;
-    }
-    good
+    !name.contains(&0)
 }
 
 // A name that may be listed.
+#[tactic(auto, unfolding(crate::specs::Good::good_name))]
 pub fn good_name(name: &[u8]) -> bool
     ensures { result ≡ good_name name.now }
 {
-    if name.len() < 1 {
-        return false;
-    }
-    if LONGEST_NAME < name.len() {
-        return false;
-    }
-    no_zero(name)
+    (1..=LONGEST_NAME).contains(&name.len()) && no_zero(name)
 }
 
 // The pair lies in the text, and its name may be listed.
+#[tactic(auto, unfolding(crate::specs::Good::listable))]
 pub fn is_listable(area: &[u8], s: Span) -> bool
     ensures { result ≡ listable area.now s }
 {
-    if (s.offset as usize) < TEXT_FROM {
-        return false;
-    }
-    if area.len() < end_of(s) {
-        return false;
-    }
-    good_name(name_of(area, s))
+    TEXT_FROM <= s.offset as usize && end_of(s) <= area.len() && good_name(name_of(area, s))
 }
 
 // The offsets of the first `count` names rise, so that no two of them have a byte in common.
@@ -167,14 +144,12 @@ pub fn is_rising(area: &[u8], count: usize) -> bool
     ensures { result ≡ rising_from 0 (spans_of count area.now) }
 {
     let mut low = 0;
-    let mut i = 0;
-    while i < count {
+    for i in 0..count {
         let s = span_at(area, i);
         if (s.offset as usize) < low {
             return false;
         }
         low = end_of(s);
-        i += 1;
     }
     true
 }

@@ -1,5 +1,4 @@
 -- The pairs left rise exactly where all do.
-use Prim.Native.Nat.{◌≤◌, ◌-◌}
 use mathlib.Core.Path.{◌≡◌}
 use Rattle.namearea.specs.Area.{spans_of}
 use Rattle.namearea.specs.Good.{rising_from}
@@ -8,7 +7,4 @@ use Rattle.namearea.proofs.is_rising.Given as goal
 
 abbrev pub invariant-loop-i : goal.invariant-loop-i
 invariant-loop-i l =
-    (l.i ≤ l.count) × (rising_from l.low (left l.count l.area l.i) ≡ rising_from 0 (spans_of l.count l.area))
-
-abbrev pub decreases-loop-i : goal.decreases-loop-i
-decreases-loop-i l = l.count - l.i
+    rising_from l.low (left l.count l.area l.i) ≡ rising_from 0 (spans_of l.count l.area)

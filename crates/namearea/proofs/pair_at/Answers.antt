@@ -2,18 +2,21 @@
 use mathlib.Core.Path.{◌∙◌, sym}
 use Prim.Native.Nat.{◌+◌, ◌*◌}
 use native.Mathlib.Omega.{arith}
-use Rattle.namearea.proofs.SpanLaws.{span_part, pair-there, pair-short, pair-past}
+use Rattle.namearea.proofs.SpanLaws.{blank, span_part, pair-there, pair-short, pair-past}
+use Rattle.namearea.proofs.pair_at.Goals.{then-area-lt-TEXT_FROM-via-then-area-lt-TEXT_FROM}
+use Rattle.namearea.proofs.pair_at.Goals.{then-area-lt-TEXT_FROM-via-else-area-lt-TEXT_FROM+then-i-ge-MOST_NAMES}
 use Rattle.namearea.proofs.pair_at.Goals as goal
 
 pub returns-then-area-lt-TEXT_FROM : goal.returns-then-area-lt-TEXT_FROM
 returns-then-area-lt-TEXT_FROM c =
     let x = c.args in
-    pair-short x.area.now x.i (omega arith)
-
-pub returns-then-i-ge-MOST_NAMES : goal.returns-then-i-ge-MOST_NAMES
-returns-then-i-ge-MOST_NAMES c =
-    let x = c.args in
-    pair-past x.area.now x.i (omega arith) (omega arith)
+    blank c.default.result c.default.ensures
+    ∙ (elim c.then-area-lt-TEXT_FROM.branch [
+      | then-area-lt-TEXT_FROM-via-then-area-lt-TEXT_FROM w ↦
+          pair-short x.area.now x.i w.if-area-lt-TEXT_FROM.true
+      | then-area-lt-TEXT_FROM-via-else-area-lt-TEXT_FROM+then-i-ge-MOST_NAMES w ↦
+          pair-past x.area.now x.i w.if-area-lt-TEXT_FROM.false w.if-i-ge-MOST_NAMES.true
+    ])
 
 pub returns : goal.returns
 returns c =

@@ -6,13 +6,13 @@ use lib.ListN.{drop}
 use lib.Seq.{drop-drop}
 use Rattle.laws.proofs.Parts.{part_tail}
 use Rattle.namearea.specs.Area.{span_in}
-use Rattle.namearea.proofs.SpanLaws.{none-past, span_part}
+use Rattle.namearea.proofs.SpanLaws.{blank, none-past, span_part}
 use Rattle.namearea.proofs.span_at.Goals as goal
 
 pub returns-then-area-lt4 : goal.returns-then-area-lt4
 returns-then-area-lt4 c =
     let x = c.args in
-    sym (none-past x.area.now (4 + 8 * x.i) (omega arith))
+    blank c.default.result c.default.ensures ∙ sym (none-past x.area.now (4 + 8 * x.i) (omega arith))
 
 pub returns-then-pairs-i : goal.returns-then-pairs-i
 returns-then-pairs-i c =
