@@ -21,6 +21,15 @@ fn is_fit(n: usize, s: Span) -> bool
         && s.size as usize <= LONGEST_NAME
 }
 
+// An area that has room for the pairs, and how many names of it are meant, the first ones.
+#[derive(Clone, Copy)]
+pub(crate) struct List<'a> {
+    pub(crate) area: &'a [u8],
+    pub(crate) count: usize,
+    ghost roomy: { text_from ≤ length area.now },
+    ghost few: { count ≤ most_names },
+}
+
 // What the numbers of the pairs tell: one of them does not fit, all do, or all do and their offsets rise.
 #[derive(Clone, Copy)]
 enum Order {
@@ -29,16 +38,15 @@ enum Order {
     Rising = 2,
 }
 
-// The order of the first `count` pairs.
-fn order_of(area: &[u8], count: usize) -> Order
-    requires { (text_from ≤ length area.now) × (count ≤ most_names) }
-    ensures { number_of result ≡ order_of (length area.now) (spans_of count area.now) }
+// The order of the pairs.
+fn order_of(list: List) -> Order
+    ensures { number_of result ≡ order_of (length list.entry.area.now) (spans_of list.entry.count list.entry.area.now) }
 {
     let mut rising = true;
     let mut low = 0;
-    for i in 0..count {
-        let s = pair_at(area, i);
-        if !is_fit(area.len(), s) {
+    for i in 0..list.count {
+        let s = pair_at(list.area, i);
+        if !is_fit(list.area.len(), s) {
             return Order::Unfit;
         }
         rising &= low <= s.offset as usize;
@@ -54,31 +62,30 @@ fn stretch(first: Span, last: Span) -> usize
     end_of(last).saturating_sub(first.offset as usize)
 }
 
-// The first of `count` names and the last are no farther from each other than 256 bytes a name.
-fn is_dense(area: &[u8], count: usize) -> bool
-    requires { 0 < count }
-    ensures { result ≡ dense count area.now }
+// The first of the names and the last are no farther from each other than 256 bytes a name.
+fn is_dense(list: List) -> bool
+    requires { 0 < list.count }
+    ensures { result ≡ dense list.entry.count list.entry.area.now }
 {
-    stretch(span_at(area, 0), span_at(area, count - 1)) / 256 <= count
+    stretch(span_at(list.area, 0), span_at(list.area, list.count - 1)) / 256 <= list.count
 }
 
-// No byte is zero from where the first of `count` names begins to where the last ends.
-fn no_zero_along(area: &[u8], count: usize) -> bool
-    requires { 0 < count }
-    ensures { result ≡ not (any (eqb 0) (along count area.now)) }
+// No byte is zero from where the first of the names begins to where the last ends.
+fn no_zero_along(list: List) -> bool
+    requires { 0 < list.count }
+    ensures { result ≡ not (any (eqb 0) (along list.entry.count list.entry.area.now)) }
 {
-    let first = span_at(area, 0);
-    let last = span_at(area, count - 1);
-    no_zero(after(front(area, end_of(last)), first.offset as usize))
+    let first = span_at(list.area, 0);
+    let last = span_at(list.area, list.count - 1);
+    no_zero(after(front(list.area, end_of(last)), first.offset as usize))
 }
 
-// Each of the first `count` names lies in the text and may be listed.
-fn all_listable(area: &[u8], count: usize) -> bool
-    requires { (text_from ≤ length area.now) × (count ≤ most_names) }
-    ensures { result ≡ all (listable area.now) (spans_of count area.now) }
+// Each of the names lies in the text and may be listed.
+fn all_listable(list: List) -> bool
+    ensures { result ≡ all (listable list.entry.area.now) (spans_of list.entry.count list.entry.area.now) }
 {
-    for i in 0..count {
-        if !is_listable(area, pair_at(area, i)) {
+    for i in 0..list.count {
+        if !is_listable(list.area, pair_at(list.area, i)) {
             return false;
         }
     }
@@ -93,54 +100,50 @@ fn are_apart(s: Span, t: Span) -> bool
 }
 
 // Pair i has no byte in common with a pair behind it.
-fn apart_behind(area: &[u8], count: usize, i: usize) -> bool
-    requires { (text_from ≤ length area.now) × (count ≤ most_names) × (i < count) }
-    ensures { let a = area.now in result ≡ all (apart (span_at a i)) (drop (i + 1) (spans_of count a)) }
+fn apart_behind(list: List, i: usize) -> bool
+    requires { i < list.count }
+    ensures { let a = list.entry.area.now in
+        result ≡ all (apart (span_at a i)) (drop (i + 1) (spans_of list.entry.count a)) }
 {
-    let s = pair_at(area, i);
-    for k in i + 1..count {
-        if !are_apart(s, pair_at(area, k)) {
+    let s = pair_at(list.area, i);
+    for k in i + 1..list.count {
+        if !are_apart(s, pair_at(list.area, k)) {
             return false;
         }
     }
     true
 }
 
-// No two of the first `count` names have a byte in common, pair by pair.
-fn all_apart(area: &[u8], count: usize) -> bool
-    requires { (text_from ≤ length area.now) × (count ≤ most_names) }
-    ensures { result ≡ pairwise apart (spans_of count area.now) }
+// No two of the names have a byte in common, pair by pair.
+fn all_apart(list: List) -> bool
+    ensures { result ≡ pairwise apart (spans_of list.entry.count list.entry.area.now) }
 {
-    for i in 0..count {
-        if !apart_behind(area, count, i) {
+    for i in 0..list.count {
+        if !apart_behind(list, i) {
             return false;
         }
     }
     true
 }
 
-// Each of the first `count` names lies in the text and may be listed, and no two have a byte in common: name by name.
-fn placed_by_name(area: &[u8], count: usize) -> bool
-    requires { (text_from ≤ length area.now) × (count ≤ most_names) }
-    ensures { result ≡ placed count area.now }
+// Each of the names lies in the text and may be listed, and no two have a byte in common: name by name.
+fn placed_by_name(list: List) -> bool
+    ensures { result ≡ placed list.entry.count list.entry.area.now }
 {
-    all_listable(area, count) && all_apart(area, count)
+    all_listable(list) && all_apart(list)
 }
 
 // The same. Where offsets rise, no two names have a byte in common, and a text without a zero byte has no name with
 // one; a zero byte may yet stand in a gap, and wide gaps are not gone through.
-pub(crate) fn all_placed(area: &[u8], count: usize) -> bool
-    requires { (text_from ≤ length area.now) × (count ≤ most_names) }
-    ensures { result ≡ placed count area.now }
+pub(crate) fn all_placed(list: List) -> bool
+    ensures { result ≡ placed list.entry.count list.entry.area.now }
 {
-    if count == 0 {
+    if list.count == 0 {
         return true;
     }
-    match order_of(area, count) {
+    match order_of(list) {
         Order::Unfit => false,
-        Order::Fit => placed_by_name(area, count),
-        Order::Rising => {
-            is_dense(area, count) && no_zero_along(area, count) || all_listable(area, count)
-        }
+        Order::Fit => placed_by_name(list),
+        Order::Rising => { is_dense(list) && no_zero_along(list) || all_listable(list) }
     }
 }

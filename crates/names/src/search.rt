@@ -6,7 +6,7 @@ ghost use Rattle.namearea.specs.Calls.{list_answer, finding, found_of};
 ghost use Rattle.names.specs.Chains.{Chained, Tested};
 
 use crate::chains::{Chains, hash};
-use crate::order::all_placed;
+use crate::order::{List, all_placed};
 use answer::Refusal;
 use namearea::{MOST_NAMES, TEXT_FROM, count_in, good_name};
 
@@ -20,7 +20,7 @@ fn tested(area: &[u8], chains: &mut Chains) -> Result<(), Refusal>
         return Err(Refusal::BadArea);
     }
     let count = count_in(area) as usize;
-    if MOST_NAMES < count || !all_placed(area, count) || !chains.chain(area, count) {
+    if MOST_NAMES < count || !all_placed(List { area, count }) || !chains.chain(area, count) {
         return Err(Refusal::NotInOrder);
     }
     Ok(())

@@ -10,17 +10,17 @@ loop-i-init c = refl
 
 pub returns-then-not-apart_behind : goal.returns-then-not-apart_behind
 returns-then-not-apart_behind c =
-    let x = c.args in
+    let x = c.args.list in
     let h = sym c.apart_behind.ensures ∙ c.if-not-apart_behind.true in
     sym (pairwise-stop x.count x.area.now c.loop-i.i apart (search rules) h) ∙ c.loop-i.invariant
 
 pub loop-i-preserved : goal.loop-i-preserved
 loop-i-preserved c =
-    let x = c.args in
+    let x = c.args.list in
     let h = sym c.apart_behind.ensures ∙ c.if-not-apart_behind.false in
     sym (pairwise-on x.count x.area.now c.loop-i.i apart (search rules) h) ∙ c.loop-i.invariant
 
 pub returns : goal.returns
 returns c =
-    let x = c.args in
+    let x = c.args.list in
     sym (pairwise-end x.count x.area.now c.loop-i.i apart (search rules)) ∙ c.loop-i.invariant

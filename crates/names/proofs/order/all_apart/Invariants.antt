@@ -7,4 +7,4 @@ use Rattle.names.proofs.order.all_apart.Given as goal
 
 abbrev pub invariant-loop-i : goal.invariant-loop-i
 invariant-loop-i l =
-    pairwise apart (drop l.i (spans_of l.count l.area)) ≡ pairwise apart (spans_of l.count l.area)
+    pairwise apart (drop l.i (spans_of l.list.count l.list.area.now)) ≡ pairwise apart (spans_of l.list.count l.list.area.now)

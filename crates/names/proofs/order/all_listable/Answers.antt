@@ -12,7 +12,7 @@ loop-i-init c = refl
 
 pub returns-then-not-is_listable : goal.returns-then-not-is_listable
 returns-then-not-is_listable c =
-    let x = c.args in
+    let x = c.args.list in
     let there = pair-there x.area.now c.loop-i.i (omega arith) (omega arith) in
     let e = rw (c.pair_at.ensures ∙ there) at c.is_listable.ensures in
     let h = sym e ∙ c.if-not-is_listable.true in
@@ -20,7 +20,7 @@ returns-then-not-is_listable c =
 
 pub loop-i-preserved : goal.loop-i-preserved
 loop-i-preserved c =
-    let x = c.args in
+    let x = c.args.list in
     let there = pair-there x.area.now c.loop-i.i (omega arith) (omega arith) in
     let e = rw (c.pair_at.ensures ∙ there) at c.is_listable.ensures in
     let h = sym e ∙ c.if-not-is_listable.false in
@@ -28,5 +28,5 @@ loop-i-preserved c =
 
 pub returns : goal.returns
 returns c =
-    let x = c.args in
+    let x = c.args.list in
     sym (each-end x.count x.area.now c.loop-i.i (listable x.area.now) (search rules)) ∙ c.loop-i.invariant

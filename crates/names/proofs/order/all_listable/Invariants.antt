@@ -8,4 +8,4 @@ use Rattle.names.proofs.order.all_listable.Given as goal
 
 abbrev pub invariant-loop-i : goal.invariant-loop-i
 invariant-loop-i l =
-    all (listable l.area) (drop l.i (spans_of l.count l.area)) ≡ all (listable l.area) (spans_of l.count l.area)
+    all (listable l.list.area.now) (drop l.i (spans_of l.list.count l.list.area.now)) ≡ all (listable l.list.area.now) (spans_of l.list.count l.list.area.now)

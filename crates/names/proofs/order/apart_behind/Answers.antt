@@ -13,26 +13,26 @@ loop-k-init c = refl
 
 pub returns-then-not-are_apart : goal.returns-then-not-are_apart
 returns-then-not-are_apart c =
-    let x = c.args in
-    let own = c.pair_at-s.ensures ∙ pair-there x.area.now x.i (omega arith) (omega arith) in
+    let x = c.args.list in
+    let own = c.pair_at-s.ensures ∙ pair-there x.area.now c.args.i (omega arith) (omega arith) in
     let there = pair-there x.area.now c.loop-k.k (omega arith) (omega arith) in
     let e = rw (own, c.pair_at.ensures ∙ there) at c.are_apart.ensures in
     let h = sym e ∙ c.if-not-are_apart.true in
-    sym (each-stop x.count x.area.now c.loop-k.k (apart (span_at x.area.now x.i)) (search rules) h)
+    sym (each-stop x.count x.area.now c.loop-k.k (apart (span_at x.area.now c.args.i)) (search rules) h)
     ∙ c.loop-k.invariant
 
 pub loop-k-preserved : goal.loop-k-preserved
 loop-k-preserved c =
-    let x = c.args in
-    let own = c.pair_at-s.ensures ∙ pair-there x.area.now x.i (omega arith) (omega arith) in
+    let x = c.args.list in
+    let own = c.pair_at-s.ensures ∙ pair-there x.area.now c.args.i (omega arith) (omega arith) in
     let there = pair-there x.area.now c.loop-k.k (omega arith) (omega arith) in
     let e = rw (own, c.pair_at.ensures ∙ there) at c.are_apart.ensures in
     let h = sym e ∙ c.if-not-are_apart.false in
-    sym (each_on x.count x.area.now c.loop-k.k (apart (span_at x.area.now x.i)) (search rules) h)
+    sym (each_on x.count x.area.now c.loop-k.k (apart (span_at x.area.now c.args.i)) (search rules) h)
     ∙ c.loop-k.invariant
 
 pub returns : goal.returns
 returns c =
-    let x = c.args in
-    sym (each-end x.count x.area.now c.loop-k.k (apart (span_at x.area.now x.i)) (search rules))
+    let x = c.args.list in
+    sym (each-end x.count x.area.now c.loop-k.k (apart (span_at x.area.now c.args.i)) (search rules))
     ∙ c.loop-k.invariant

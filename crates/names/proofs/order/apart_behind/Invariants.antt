@@ -9,5 +9,5 @@ use Rattle.names.proofs.order.apart_behind.Given as goal
 
 abbrev pub invariant-loop-k : goal.invariant-loop-k
 invariant-loop-k l =
-    all (apart (span_at l.area l.i)) (drop l.k (spans_of l.count l.area)) ≡ all (apart (span_at l.area l.i))
-    (drop (l.i + 1) (spans_of l.count l.area))
+    all (apart (span_at l.list.area.now l.i)) (drop l.k (spans_of l.list.count l.list.area.now)) ≡ all (apart (span_at l.list.area.now l.i))
+    (drop (l.i + 1) (spans_of l.list.count l.list.area.now))
