@@ -51,11 +51,18 @@ impl From<Result<u8, Refusal>> for Made {
     }
 }
 
+// Line k, with this table, is another than `line`, and the table is settled.
+fn has_say(line: u32, k: u32, table: Table) -> bool
+    ensures { result ≡ (is_other line k && eqb table.mark settled) }
+{
+    is_other(line, k) && table.mark == SETTLED
+}
+
 // For each line whether it has a say in what is sent by this one: another line, with a settled table.
 fn with_say(tables: [Table; 8], line: u32) -> [bool; 8]
     ensures { result ≡ each_line (λ k. is_other line k && eqb (get_or tables k no_table).mark settled) }
 {
-    array::from_fn(|k| is_other(line, k as u32) && tables[k].mark == SETTLED)
+    array::from_fn(|k| has_say(line, k as u32, tables[k]))
 }
 
 // All entries of the table to send: the tables of the other lines, then the own names.
