@@ -1,56 +1,91 @@
 -- Pairs behind a place moved up by one place, and a count of one less: the names are those without the one at the
 -- place.
-use Prim.Native.Nat.{ℕ, ◌+◌, ◌-◌, ◌≤◌, ◌<◌}
+use Prim.Native.Nat.{ℕ, ◌+◌, ◌-◌, ◌*◌, ◌≤◌, ◌<◌}
 use mathlib.Core.Path.{◌≡◌, refl, sym, ap, ◌∙◌}
 use mathlib.Core.Bool.{true}
 use mathlib.Core.Logic.{⊎_elim}
-use mathlib.Core.List.{List, []}
+use mathlib.Core.List.{List, [], ◌++◌}
 use native.Mathlib.Omega.{arith}
-use lib.ListN.{length, drop}
-use Rattle.namearea.specs.declared.Span.{Span}
+use lib.ListN.{length, take, drop, length-take, length-drop}
+use lib.Seq.{drop-drop, take-take, paste}
+use Rattle.std.proofs.Common.{append_assoc}
+use Rattle.std.proofs.lemmas.List.{drop-take}
+use Rattle.laws.specs.Bytes.{little}
+use Rattle.laws.specs.Parts.{over}
+use Rattle.laws.proofs.Over.{over-length}
+use Rattle.laws.proofs.Overlay.{over-read, over-ahead, over-behind}
 use Rattle.namearea.specs.Area.{most_names, text_from, count_in, span_at, name_of, name_at, names_in}
 use Rattle.namearea.specs.Good.{good_name, differ, good_list}
 use Rattle.namearea.specs.Calls.{Relisted}
+use Rattle.namearea.proofs.SpanLaws.{span_same}
 use Rattle.namearea.proofs.GoodLaws.{Listed, listed, of_listed, names-length, names_at}
-use Rattle.namelist.specs.Moves.{CountPut, PairPut}
+use Rattle.namelist.specs.Moves.{CountPut}
 use Rattle.namelist.proofs.ListLaws.{last_or, same_name, names-are, was, was-is, was-less, was-order}
 use Rattle.namelist.proofs.ListLaws.{less, less-length, less-at, less-all, less-pairwise}
 
--- the pairs behind `place` and before i stand one place further up
-pub record Shifted (a : List ℕ) (place i : ℕ) (b : List ℕ) : Type 0 where
+-- the pairs behind `place`, of the first `count`, stand one place further up
+pub record Shifted (a : List ℕ) (place count : ℕ) (b : List ℕ) : Type 0 where
   pub long : length b ≡ length a
-  pub count : count_in b ≡ count_in a
+  pub count_kept : count_in b ≡ count_in a
   pub text : drop text_from b ≡ drop text_from a
   pub before : (k : ℕ) → k < place → span_at b k ≡ span_at a k
-  pub moved : (k : ℕ) → place ≤ k → k + 1 < i → span_at b k ≡ span_at a (k + 1)
-  pub rest : (k : ℕ) → i ≤ k → k < most_names → span_at b k ≡ span_at a k
+  pub moved : (k : ℕ) → place ≤ k → k + 1 < count → span_at b k ≡ span_at a (k + 1)
 
-pub shifted_none : (a : List ℕ) (place : ℕ) → Shifted a place (place + 1) a
-shifted_none a place =
-    record {
-      long = refl;
-      count = refl;
-      text = refl;
-      before = λ k h. refl;
-      moved = λ k h g. absurd (omega arith);
-      rest = λ k h g. refl;
-    }
+-- eight bytes within the first n of a list
+eight_of : (n j : ℕ) (l : List ℕ) → j + 8 ≤ n → take 8 (drop j (take n l)) ≡ take 8 (drop j l)
+eight_of n j l h =
+    let e : n ≡ j + (n - j) = omega arith in
+    ap (λ m. take 8 (drop j (take m l))) e ∙ ap (take 8) (drop-take j (n - j) l)
+    ∙ take-take 8 (n - j) (drop j l) (omega arith)
 
--- pair i is written one place further up
-pub shifted-more : (a : List ℕ) (place i : ℕ) (b : List ℕ) (s : Span) (c : List ℕ) → place < i → i < most_names
-    → Shifted a place i b → s ≡ span_at b i → PairPut b (i - 1) s c → Shifted a place (i + 1) c
-shifted-more a place i b s c h g f e p =
-    record {
-      long = p.long ∙ f.long;
-      count = p.count ∙ f.count;
-      text = p.text ∙ f.text;
-      before = λ k l. let ne : k ≡ i - 1 → ⊥ = λ q. omega arith in p.others k (omega arith) ne ∙ f.before k l;
-      moved = λ k l m. ⊎_elim {C = span_at c k ≡ span_at a (k + 1)}
-          (λ q. let ne : k ≡ i - 1 → ⊥ = λ r. omega arith in p.others k (omega arith) ne ∙ f.moved k l q)
-          (λ q. let r : k ≡ i - 1 = omega arith in
-          ap (span_at c) r ∙ p.here ∙ e ∙ f.rest i (omega arith) g ∙ ap (span_at a) (sym q))
-          (last_or (k + 1) i m);
-      rest = λ k l m. let ne : k ≡ i - 1 → ⊥ = λ q. omega arith in p.others k m ne ∙ f.rest k (omega arith) m;
+-- their bytes were moved up by eight
+pub shifted : (a : List ℕ) (place count : ℕ) (b : List ℕ) → text_from ≤ length a → count ≤ most_names → place < count
+    → b ≡ paste a (4 + 8 * place) (drop (4 + 8 * place + 8) a) (4 + 8 * count - (4 + 8 * place + 8))
+    → Shifted a place count b
+unfolding count_in
+shifted a place count b long few some eb = rw e put
+  where
+    abbrev at : ℕ
+    at = 4 + 8 * place
+
+    abbrev n : ℕ
+    n = 4 + 8 * count - (at + 8)
+
+    abbrev x : List ℕ
+    x = take n (drop (at + 8) a)
+
+    size : length x ≡ n
+    size = simp (length-take, length-drop) (omega arith)
+
+    e : b ≡ over at x a
+    e = eb ∙ append_assoc (take at a) x (drop (at + n) a) ∙ ap (λ m. take at a ++ (x ++ drop (at + m) a)) (sym size)
+
+    fits : at + length x ≤ length a
+    fits = omega (arith, size)
+
+    within : (j : ℕ) → j + 8 ≤ n → take 8 (drop (at + j) (over at x a)) ≡ take 8 (drop (at + 8 + j) a)
+    within j h =
+        ap (take 8) (sym (drop-drop j at (over at x a)))
+        ∙ sym (eight_of n j (drop at (over at x a)) h)
+        ∙ ap (λ l. take 8 (drop j l))
+        (ap (λ m. take m (drop at (over at x a))) (sym size) ∙ over-read at x a (omega arith))
+        ∙ eight_of n j (drop (at + 8) a) h
+        ∙ ap (take 8) (drop-drop j (at + 8) a)
+
+    put : Shifted a place count (over at x a)
+    put = record {
+      long = over-length at x a fits;
+      count_kept = ap little (over-ahead at x a 0 4 (omega arith) (omega arith));
+      text = over-behind at x a text_from fits (omega (arith, size));
+      before = λ k h. span_same (drop (4 + 8 * k) (over at x a)) (drop (4 + 8 * k) a)
+          (over-ahead at x a (4 + 8 * k) 8 (omega arith) (omega arith));
+      moved = λ k h g.
+          let p : 4 + 8 * k ≡ at + 8 * (k - place) = omega arith in
+          let q : at + 8 + 8 * (k - place) ≡ 4 + 8 * (k + 1) = omega arith in
+          span_same (drop (4 + 8 * k) (over at x a)) (drop (4 + 8 * (k + 1)) a)
+          (ap (λ m. take 8 (drop m (over at x a))) p
+          ∙ within (8 * (k - place)) (omega arith)
+          ∙ ap (λ m. take 8 (drop m a)) q);
     }
 
 -- a is good and lists a name at `place`, in b the pairs behind it stand one place further up, and c counts one less
@@ -101,13 +136,13 @@ module _ (a b c : List ℕ) (place : ℕ) (l : Listed a) (h : place < count_in a
         distinct = rw unlisted-names (less-pairwise differ place (names_in a) l.distinct);
       }
 
-pub unlisted : (a : List ℕ) (count place i : ℕ) (b c : List ℕ) → good_list a ≡ true → count ≡ count_in a
-    → place < count → i ≡ count → Shifted a place i b → CountPut b (count - 1) c
+pub unlisted : (a : List ℕ) (count place : ℕ) (b c : List ℕ) → good_list a ≡ true → count ≡ count_in a
+    → place < count → Shifted a place count b → CountPut b (count - 1) c
     → Relisted a c (less place (names_in a))
-unlisted a count place i b c g q h e f n =
+unlisted a count place b c g q h f n =
     let l = listed a g in
     let k : place < count_in a = omega arith in
-    let f' = rw (e, q) at f in
+    let f' = rw q at f in
     let n' = rw q at n in
     record {
       long = unlisted-long a b c place l k f' n';

@@ -6,7 +6,7 @@ ghost use Rattle.namelist.specs.Moves.{GoodArea, Insertable};
 
 use crate::gaps::{place_for, total_size};
 use crate::moves::{put_count, put_pair, put_text};
-use namearea::{MOST_NAMES, Span, TEXT_FROM, count_in, pair_at};
+use namearea::{MOST_NAMES, Span, TEXT_FROM, count_in};
 
 // One name more, of n bytes, finds no place.
 pub(crate) fn no_room(area: &[u8], n: usize) -> bool
@@ -44,9 +44,7 @@ pub(crate) fn unlist(area: &mut [u8], place: usize)
         (take place (names_in area.old) ++ drop (place + 1) (names_in area.old)) }
 {
     let count = count_in(area);
-    for i in place + 1..count as usize {
-        let s = pair_at(area, i);
-        put_pair(area, i - 1, s);
-    }
+    let at = 4 + 8 * place;
+    area.copy_within(at + 8..4 + 8 * count as usize, at);
     put_count(area, count - 1);
 }
