@@ -38,27 +38,20 @@ eight_of n j l h =
     ap (λ m. take 8 (drop j (take m l))) e ∙ ap (take 8) (drop-take j (n - j) l)
     ∙ take-take 8 (n - j) (drop j l) (omega arith)
 
--- their bytes were moved up by eight
-pub shifted : (a : List ℕ) (place count : ℕ) (b : List ℕ) → text_from ≤ length a → count ≤ most_names → place < count
-    → b ≡ paste a (4 + 8 * place) (drop (4 + 8 * place + 8) a) (4 + 8 * count - (4 + 8 * place + 8))
-    → Shifted a place count b
-unfolding count_in
-shifted a place count b long few some eb = rw e put
-  where
-    abbrev at : ℕ
-    at = 4 + 8 * place
+-- their bytes, x, were moved up by eight, to `at`
+module _ (a : List ℕ) (place count : ℕ) where
+  abbrev at : ℕ
+  at = 4 + 8 * place
 
-    abbrev n : ℕ
-    n = 4 + 8 * count - (at + 8)
+  abbrev n : ℕ
+  n = 4 + 8 * count - (at + 8)
 
-    abbrev x : List ℕ
-    x = take n (drop (at + 8) a)
+  abbrev x : List ℕ
+  x = take n (drop (at + 8) a)
 
+  module _ (long : text_from ≤ length a) (few : count ≤ most_names) (some : place < count) where
     size : length x ≡ n
     size = simp (length-take, length-drop) (omega arith)
-
-    e : b ≡ over at x a
-    e = eb ∙ append_assoc (take at a) x (drop (at + n) a) ∙ ap (λ m. take at a ++ (x ++ drop (at + m) a)) (sym size)
 
     fits : at + length x ≤ length a
     fits = omega (arith, size)
@@ -72,21 +65,30 @@ shifted a place count b long few some eb = rw e put
         ∙ eight_of n j (drop (at + 8) a) h
         ∙ ap (take 8) (drop-drop j (at + 8) a)
 
+    moved_up : (k : ℕ) → place ≤ k → k + 1 < count → span_at (over at x a) k ≡ span_at a (k + 1)
+    moved_up k h g =
+        let p : 4 + 8 * k ≡ at + 8 * (k - place) = omega arith in
+        let q : at + 8 + 8 * (k - place) ≡ 4 + 8 * (k + 1) = omega arith in
+        span_same (drop (4 + 8 * k) (over at x a)) (drop (4 + 8 * (k + 1)) a)
+        (ap (λ m. take 8 (drop m (over at x a))) p
+        ∙ within (8 * (k - place)) (omega arith)
+        ∙ ap (λ m. take 8 (drop m a)) q)
+
     put : Shifted a place count (over at x a)
+    unfolding count_in
     put = record {
       long = over-length at x a fits;
       count_kept = ap little (over-ahead at x a 0 4 (omega arith) (omega arith));
       text = over-behind at x a text_from fits (omega (arith, size));
       before = λ k h. span_same (drop (4 + 8 * k) (over at x a)) (drop (4 + 8 * k) a)
           (over-ahead at x a (4 + 8 * k) 8 (omega arith) (omega arith));
-      moved = λ k h g.
-          let p : 4 + 8 * k ≡ at + 8 * (k - place) = omega arith in
-          let q : at + 8 + 8 * (k - place) ≡ 4 + 8 * (k + 1) = omega arith in
-          span_same (drop (4 + 8 * k) (over at x a)) (drop (4 + 8 * (k + 1)) a)
-          (ap (λ m. take 8 (drop m (over at x a))) p
-          ∙ within (8 * (k - place)) (omega arith)
-          ∙ ap (λ m. take 8 (drop m a)) q);
+      moved = moved_up;
     }
+
+    pub shifted : (b : List ℕ) → b ≡ paste a at (drop (at + 8) a) n → Shifted a place count b
+    shifted b e =
+        rw (e ∙ append_assoc (take at a) x (drop (at + n) a) ∙ ap (λ m. take at a ++ (x ++ drop (at + m) a)) (sym size))
+        put
 
 -- a is good and lists a name at `place`, in b the pairs behind it stand one place further up, and c counts one less
 module _ (a b c : List ℕ) (place : ℕ) (l : Listed a) (h : place < count_in a) (f : Shifted a place (count_in a) b)

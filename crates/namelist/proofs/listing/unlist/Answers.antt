@@ -4,8 +4,11 @@ use Rattle.namearea.proofs.GoodLaws.{listed}
 use Rattle.namelist.proofs.UnlistLaws.{shifted, unlisted}
 use Rattle.namelist.proofs.listing.unlist.Goals as goal
 
-pub copy_within-requires : goal.copy_within-requires
-copy_within-requires c = ?
+pub copy_within-requires-clause-in_bounds : goal.copy_within-requires-clause-in_bounds
+copy_within-requires-clause-in_bounds c = omega (arith, (listed c.args.area.now c.requires.0.good).few, c.requires.0.long)
+
+pub copy_within-requires-clause-dest_in_bounds : goal.copy_within-requires-clause-dest_in_bounds
+copy_within-requires-clause-dest_in_bounds c = omega (arith, (listed c.args.area.now c.requires.0.good).few, c.requires.0.long)
 
 pub returns : goal.returns
 returns c =
@@ -13,5 +16,5 @@ returns c =
     let few = (listed x.area.now c.requires.0.good).few in
     let count = c.count_in-count in
     unlisted x.area.now count.result x.place _ _ c.requires.0.good count.ensures (omega arith)
-    (shifted x.area.now x.place count.result _ c.requires.0.long (omega arith) (omega arith) c.copy_within.ensures.after)
+    (shifted x.area.now x.place count.result c.requires.0.long (omega arith) (omega arith) _ c.copy_within.ensures.after)
     c.put_count.ensures
