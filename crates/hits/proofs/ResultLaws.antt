@@ -1,14 +1,15 @@
 -- A result at the front of some bytes: how long its parts are, what is read off bytes that were written, and that what
 -- is read stands there.
 use Prim.Native.Nat.{ℕ, ◌+◌, ◌≤◌, ◌<◌}
-use mathlib.Core.Path.{◌≡◌, sym, ap, ap₂, ◌∙◌}
-use mathlib.Core.Bool.{true, false}
+use mathlib.Core.Path.{◌≡◌, refl, sym, ap, ap₂, ◌∙◌}
+use mathlib.Core.Bool.{Bool, true, false, cond, not}
 use mathlib.Core.List.{List, [], ◌∷◌, ◌++◌, append_assoc}
 use native.Mathlib.Omega.{arith}
 use lib.Dec.{eqb, ltb}
 use lib.ListN.{length, get_or, take, drop, length-append, length-drop, drop_of_length-le}
 use lib.ListN.{take-append-drop}
-use lib.Seq.{drop-drop, drop-append-add, get_or-drop}
+use lib.Seq.{drop-drop, drop-append-add, get_or-drop, get_or-take}
+use Rattle.std.specs.Int.{w32, from_le_bytes}
 use borrow.Author.Tests.{ltb-true, le-ltb, lt-ltb}
 use Rattle.laws.specs.Bytes.{little, little_bytes}
 use Rattle.laws.specs.Tests.{any}
@@ -21,46 +22,96 @@ use Rattle.laws.proofs.UntilZero.{until_stops, until_of, has-zero, ended}
 use Rattle.hits.specs.Results.{HitResult, result_bytes, name_in, behind_name, extension_in, is_whole, result_size}
 use Rattle.hits.specs.Results.{result_in}
 use Rattle.hits.specs.Words.{Tellable, NoResult}
-use Rattle.hits.specs.Reading.{lengths_of}
+use Rattle.std.proofs.Common.{Some, None}
+use Rattle.std.specs.List.{position_or_len}
+use Rattle.hits.specs.Reading.{zero_at, record_of}
 
--- ---- as the code measures
+-- ---- as the code reads
 
--- where a name is not ended, nothing stands behind it
-module _ (d : List ℕ) (h : length (drop 8 d) ≤ length (name_in d)) where
-  nothing-behind : behind_name d ≡ []
-  nothing-behind = drop_of_length-le d {i = 9 + length (name_in d)} (omega (arith, length-drop 8 d))
+-- the number of the first four bytes
+pub read_four : (d : List ℕ) → from_le_bytes w32 (take 4 d) ≡ little (take 4 d)
+read_four d =
+    let a : get_or (take 4 d) 0 0 ≡ get_or d 0 0 = get_or-take 4 d 0 0 (omega arith) in
+    let b : get_or (take 4 d) 1 0 ≡ get_or d 1 0 = get_or-take 4 d 1 0 (omega arith) in
+    let c : get_or (take 4 d) 2 0 ≡ get_or d 2 0 = get_or-take 4 d 2 0 (omega arith) in
+    let e : get_or (take 4 d) 3 0 ≡ get_or d 3 0 = get_or-take 4 d 3 0 (omega arith) in
+    omega (arith, little-four d)
 
-  unended : lengths_of d ≡ record { whole = false; namelen = length (name_in d); extlen = 0 }
-  unfolding is_whole until_zero
-  unended = rw (until_stops (drop 8 d), le-ltb _ _ h, nothing-behind)
+-- the library's search for the first zero byte
+zeros : (l : List ℕ) → position_or_len (λ b. eqb b 0) l ≡ length (until_zero l)
+unfolding until_zero
+zeros [] = refl
+zeros (b ∷ bs) = by (eqb b 0) (zeros bs)
+  where
+    by : (t : Bool) → position_or_len (λ x. eqb x 0) bs ≡ length (until_zero bs)
+        → cond (not t) (1 + position_or_len (λ x. eqb x 0) bs) 0 ≡ length (cond t [] (b ∷ until_zero bs))
+    by true e = refl
+    by false e = omega (arith, e)
+
+pub position-zero : (l : List ℕ)
+    → cond (ltb (position_or_len (λ b. eqb b 0) l) (length l)) (Some (position_or_len (λ b. eqb b 0) l)) None
+    ≡ zero_at l
+position-zero l = rw (zeros l, until_stops l)
+
+-- what the place of the first zero byte tells, and that there is none
+pub zero_some : (l : List ℕ) (n : ℕ) → zero_at l ≡ Some n
+    → (any (eqb 0) l ≡ true) × (length (until_zero l) ≡ n) × (n < length l)
+zero_some l n e = by (any (eqb 0) l) refl e
+  where
+    by : (t : Bool) → any (eqb 0) l ≡ t → cond t (Some (length (until_zero l))) None ≡ Some n
+        → (any (eqb 0) l ≡ true) × (length (until_zero l) ≡ n) × (n < length l)
+    by true h e =
+        let is : length (until_zero l) ≡ n = cc in
+        (h, is, omega (arith, ltb-true (length (until_zero l)) (length l) (sym (until_stops l) ∙ h)))
+    by false h e = cc
+
+pub zero_none : (l : List ℕ) → zero_at l ≡ None → any (eqb 0) l ≡ false
+zero_none l e = by (any (eqb 0) l) e
+  where
+    by : (t : Bool) → cond t (Some (length (until_zero l))) None ≡ None → t ≡ false
+    by true e = cc
+    by false e = refl
 
 -- what stands behind a name that is ended
 behind-rest : (d : List ℕ) (n : ℕ) → drop (n + 1) (drop 8 d) ≡ drop (9 + n) d
 behind-rest d n = let e : 8 + (n + 1) ≡ 9 + n = omega arith in drop-drop (n + 1) 8 d ∙ ap (λ k. drop k d) e
 
-named-whole : (d : List ℕ) → length (name_in d) < length (drop 8 d)
-    → is_whole d ≡ ltb (length (extension_in d)) (length (behind_name d))
-unfolding is_whole
-named-whole d h = rw (until_stops (drop 8 d), lt-ltb _ _ h) (until_stops (behind_name d))
+module _ (at : ℕ) (d : List ℕ) where
+  not-ended : any (eqb 0) (drop 8 d) ≡ false → record_of at d ≡ None
+  unfolding is_whole
+  not-ended e = rw e
 
-module _ (d names : List ℕ) (n : ℕ) (is : names ≡ drop 8 d) (name : n ≡ length (until_zero names)) where
-  measured : n ≡ length (name_in d)
-  measured = name ∙ ap (λ l. length (until_zero l)) is
+  -- no room for the numbers
+  pub no_numbers : length d < 8 → record_of at d ≡ None
+  no_numbers h = not-ended (ap (any (eqb 0)) (drop_of_length-le d {i = 8} (omega arith)))
 
-  pub unnamed : length names ≤ n → record { whole = false; namelen = n; extlen = 0 } ≡ lengths_of d
-  unnamed h = ap (λ k. record { whole = false; namelen = k; extlen = 0 }) measured
-      ∙ sym (unended d (omega (arith, measured, ap length is)))
+  -- the name is not ended
+  pub no_name : zero_at (drop 8 d) ≡ None → record_of at d ≡ None
+  no_name e = not-ended (zero_none (drop 8 d) e)
 
-  pub named : (rest : List ℕ) (m : ℕ) → n < length names → rest ≡ drop (n + 1) names → m ≡ length (until_zero rest)
-      → record { whole = ltb m (length rest); namelen = n; extlen = m } ≡ lengths_of d
-  named rest m h e f =
-      let behind : rest ≡ behind_name d =
-      e ∙ ap (drop (n + 1)) is ∙ behind-rest d n ∙ ap (λ k. drop (9 + k) d) measured in
-      let extension : m ≡ length (extension_in d) = f ∙ ap (λ l. length (until_zero l)) behind in
-      let whole : is_whole d ≡ ltb m (length rest) =
-      named-whole d (omega (arith, measured, ap length is)) ∙ ap₂ ltb (sym extension) (sym (ap length behind)) in
-      ap₂ (λ w k. record { whole = w; namelen = k; extlen = m }) (sym whole) measured
-      ∙ ap (λ k. record { whole = is_whole d; namelen = length (name_in d); extlen = k }) extension
+  module _ (n : ℕ) (e : zero_at (drop 8 d) ≡ Some n) where
+    pub behind_is : drop (n + 1) (drop 8 d) ≡ behind_name d
+    behind_is = behind-rest d n ∙ ap (λ k. drop (9 + k) d) (sym (zero_some (drop 8 d) n e).1)
+
+    -- nor its extension
+    pub no_extension : zero_at (behind_name d) ≡ None → record_of at d ≡ None
+    unfolding is_whole
+    no_extension f = rw ((zero_some (drop 8 d) n e).0, zero_none (behind_name d) f)
+
+    pub record_is : (m : ℕ) → zero_at (behind_name d) ≡ Some m
+        → Some record {
+          index = little (take 4 d);
+          size = little (take 4 (drop 4 d));
+          nameat = at + 8;
+          namelen = n;
+          extat = at + 9 + n;
+          extlen = m;
+        } ≡ record_of at d
+    unfolding is_whole
+    record_is m f =
+        let name = zero_some (drop 8 d) n e in
+        let extension = zero_some (behind_name d) m f in
+        rw (name.0, extension.0, extension.1, name.1)
 
 -- a whole result is no longer than the bytes
 pub whole-fits : (d : List ℕ) → is_whole d ≡ true → result_size d ≤ length d

@@ -1,10 +1,12 @@
 -- What the copies and stores of a writer leave.
-use Prim.Native.Nat.{ℕ, suc, ◌+◌, ◌-◌, ◌%◌, ◌/◌, ◌≤◌, ◌<◌}
-use mathlib.Core.Path.{◌≡◌, refl, ap, ap₂, ◌∙◌}
+use Prim.Native.Nat.{ℕ, suc, ◌+◌, ◌-◌, ◌%◌, ◌/◌, ◌^◌, ◌≤◌, ◌<◌}
+use mathlib.Core.Path.{◌≡◌, refl, sym, ap, ◌∙◌}
 use mathlib.Core.Bool.{cond}
 use mathlib.Core.List.{List, [], ◌∷◌, ◌++◌, append_assoc}
 use native.Mathlib.Omega.{arith}
 use lib.Dec.{leb}
+use lib.Seq.{drop-drop}
+use Rattle.std.specs.Int.{w16, to_le_bytes}
 use lib.ListN.{length, get_or, take, drop, set, length-append}
 use borrow.Author.Tests.{le-leb, lt-leb}
 use borrow.Rule.Slice.PartMut.{put_mid}
@@ -17,43 +19,24 @@ use Rattle.hits.specs.Results.{result_bytes, without_extension}
 use Rattle.hits.specs.Writing.{head_bytes, result_into, head_into}
 use Rattle.hits.proofs.ResultLaws.{result-length}
 
--- four elements are the list that has them
-four_of : (l : List ℕ) → length l ≡ 4 → get_or l 0 0 ∷ get_or l 1 0 ∷ get_or l 2 0 ∷ get_or l 3 0 ∷ [] ≡ l
-four_of [] e = absurd (omega arith)
-four_of (a ∷ []) e = absurd (omega arith)
-four_of (a ∷ b ∷ []) e = absurd (omega arith)
-four_of (a ∷ b ∷ c ∷ []) e = absurd (omega arith)
-four_of (a ∷ b ∷ c ∷ d ∷ []) e = refl
-four_of (a ∷ b ∷ c ∷ d ∷ f ∷ l) e = absurd (omega arith)
+-- the library's bytes of a number
+pub bytes-two : (n : ℕ) → to_le_bytes w16 n ≡ little_bytes 2 n
+bytes-two n = let one : n / 256 ^ 1 % 256 ≡ n / 256 % 256 = omega arith in cc
 
--- the head as the code has it
-pub head-made : (n port : ℕ) (a s : List ℕ) (speed : ℕ) → port < 65536 → length a ≡ 4 → s ≡ little_bytes 4 speed
-    → n ∷ port % 256 ∷ port / 256 ∷ get_or a 0 0 ∷ get_or a 1 0 ∷ get_or a 2 0 ∷ get_or a 3 0
-    ∷ get_or s 0 0 ∷ get_or s 1 0 ∷ get_or s 2 0 ∷ get_or s 3 0 ∷ []
-    ≡ n ∷ (little_bytes 2 port ++ (a ++ little_bytes 4 speed))
-head-made n port a s speed p l e =
-    let high : port / 256 ≡ port / 256 % 256 = omega arith in
-    ap₂ (λ h x. n ∷ port % 256 ∷ h ∷ (x ++ (get_or s 0 0 ∷ get_or s 1 0 ∷ get_or s 2 0 ∷ get_or s 3 0 ∷ []))) high (four_of a l)
-    ∙ ap (λ x. n ∷ port % 256 ∷ port / 256 % 256
-    ∷ (a ++ (get_or x 0 0 ∷ get_or x 1 0 ∷ get_or x 2 0 ∷ get_or x 3 0 ∷ []))) e
+-- a part that is copied whole stands over the list
+pub over-put : (a k : ℕ) (bs area : List ℕ) → length bs ≡ k → put_mid a k area bs ≡ over a bs area
+over-put a k bs area e =
+    ap (λ l. take a area ++ (bs ++ l)) (drop-drop k a area)
+    ∙ ap (λ n. take a area ++ (bs ++ drop (a + n) area)) (sym e)
 
--- a head that is copied stands at the front, where there is room for it
-pub head-copied : (n : ℕ) (from : Responder) (head part : List ℕ) → length head ≡ 11 → 11 ≤ length part
-    → head ≡ head_bytes n from → copied head part ≡ head_into n from part
-unfolding head_into
-head-copied n from head part l h e =
-    copied-whole head part (omega arith) ∙ rw (le-leb 11 (length part) h) (ap (λ x. over 0 x part) e)
+-- behind what stands at the front already
+put_next : (n k : ℕ) (xs bs area mid : List ℕ) → length xs ≡ n → length bs ≡ k → mid ≡ over 0 xs area
+    → put_mid n k mid bs ≡ over 0 (xs ++ bs) area
+put_next n k xs bs area mid l h e = over-put n k bs mid h ∙ ap (over n bs) e ∙ written_next n xs bs area l
 
 pub result-long : (index size : ℕ) (name : List ℕ)
     → length (result_bytes (without_extension index size name)) ≡ 10 + length name
 result-long index size name = omega (arith, result-length (without_extension index size name))
-
--- how many bytes the code says it has written
-pub count_none : (n room : ℕ) → room < 10 + n → 0 ≡ cond (leb (10 + n) room) (10 + n) 0
-count_none n room h = rw (lt-leb (10 + n) room h)
-
-pub count-all : (n room : ℕ) → 10 + n ≤ room → 10 + n ≡ cond (leb (10 + n) room) (10 + n) 0
-count-all n room h = rw (le-leb (10 + n) room h)
 
 pub no_room : (index size : ℕ) (name part : List ℕ) → length part < 10 + length name
     → result_into (without_extension index size name) part ≡ part
@@ -78,33 +61,37 @@ pub head-room : (n : ℕ) (from : Responder) (area : List ℕ) → 11 ≤ length
 unfolding head_into
 head-room n from area h = rw (le-leb 11 (length area) h)
 
--- numbers and name copied, and two zero bytes stored behind them
-module _ (index size : ℕ) (name part mid left : List ℕ) (room : 10 + length name ≤ length part)
-    (m : mid ≡ copied (little_bytes 4 index ++ little_bytes 4 size) part)
-    (e : left ≡ copied name (take (length mid - 8) (drop 8 mid))) where
-  abbrev front : List ℕ
-  front = little_bytes 4 index ++ little_bytes 4 size
+-- the parts of a result, one behind another
+pub result-stored : (index size : ℕ) (name part i s l z : List ℕ) (k m : ℕ) → 10 + length name ≤ length part
+    → i ≡ little_bytes 4 index → s ≡ little_bytes 4 size → l ≡ name → z ≡ 0 ∷ 0 ∷ [] → k ≡ length name → m ≡ 2
+    → put_mid (8 + length name) m (put_mid 8 k (put_mid 4 4 (put_mid 0 4 part i) s) l) z
+    ≡ result_into (without_extension index size name) part
+unfolding result_bytes
+result-stored index size name part i s l z k m h a b c d e f =
+    let la : length i ≡ 4 = ap length a in
+    let lb : length s ≡ 4 = ap length b in
+    let lc : length l ≡ k = ap length c ∙ sym e in
+    let ld : length z ≡ m = ap length d ∙ sym f in
+    let one = over-put 0 4 i part la in
+    let two = put_next 4 4 i s part _ la lb one in
+    let three = put_next 8 k (i ++ s) l part _ (simp length-append (omega arith)) lc two in
+    put_next (8 + length name) m ((i ++ s) ++ l) z part _ (simp length-append (omega arith)) ld three
+    ∙ rw (a, b, c, d) (ap (λ q. over 0 q part)
+    (append_assoc (little_bytes 4 index ++ little_bytes 4 size) name (0 ∷ 0 ∷ [])))
+    ∙ sym (has_room index size name part h)
 
-  front-over : mid ≡ over 0 front part
-  front-over = m ∙ copied-whole front part (omega arith)
-
-  long : length mid ≡ length part
-  long = ap length front-over ∙ over-length 0 front part (omega arith)
-
-  name-next : put_mid 8 (length mid - 8) mid left ≡ over 0 (front ++ name) part
-  name-next =
-      copied-part 8 (length mid - 8) name mid left (omega (arith, long)) (omega (arith, long)) e
-      ∙ ap (over 8 name) front-over
-      ∙ written_next 8 front name part refl
-
-  pub result-stored : set (set (put_mid 8 (length mid - 8) mid left) (8 + length name) 0) (9 + length name) 0
-      ≡ result_into (without_extension index size name) part
-  unfolding result_into result_bytes
-  result-stored =
-      let k : 9 + length name ≡ suc (8 + length name) = omega arith in
-      let fits = le-leb (10 + length name) (length part) room in
-      ap (λ i. set (set (put_mid 8 (length mid - 8) mid left) (8 + length name) 0) i 0) k
-      ∙ stored_next (8 + length name) (front ++ name) (0 ∷ 0 ∷ []) part _ (length-append front name) (omega arith)
-      name-next
-      ∙ ap (λ l. over 0 l part) (append_assoc front name (0 ∷ 0 ∷ []))
-      ∙ rw (result-long index size name, fits)
+-- what stands before the results
+pub head-stored : (n : ℕ) (from : Responder) (part p a s : List ℕ) → length from.address ≡ 4 → 11 ≤ length part
+    → p ≡ little_bytes 2 from.port → a ≡ from.address → s ≡ little_bytes 4 from.speed
+    → put_mid 7 4 (put_mid 3 4 (put_mid 1 2 (set part 0 n) p) a) s ≡ head_into n from part
+unfolding head_bytes
+head-stored n from [] p a s l h c d e = absurd (omega arith)
+head-stored n from (b ∷ part) p a s l h c d e =
+    let lp : length p ≡ 2 = ap length c in
+    let la : length a ≡ 4 = ap length d ∙ l in
+    let ls : length s ≡ 4 = ap length e in
+    let two = put_next 1 2 (n ∷ []) p (b ∷ part) _ refl lp refl in
+    let three = put_next 3 4 ((n ∷ []) ++ p) a (b ∷ part) _ (ap suc lp) la two in
+    put_next 7 4 (((n ∷ []) ++ p) ++ a) s (b ∷ part) _ (simp length-append (omega arith)) ls three
+    ∙ rw (c, d, e) (ap (λ x. over 0 x (b ∷ part)) (append_assoc (n ∷ little_bytes 2 from.port) from.address (little_bytes 4 from.speed)))
+    ∙ sym (head-room n from (b ∷ part) h)

@@ -1,12 +1,15 @@
 -- A hit's payload read (RULES 25.1 to 25.5): what stands at its front, and what a call of the reader gives.
-use Rattle.std.specs.Prelude.{ℕ, ◌+◌, ◌-◌, Bool, true, false, cond, not, ◌&&◌, List, [], ◌∷◌, eqb, leb, ltb, length, get_or, take, drop}
+use Rattle.std.specs.Prelude.{ℕ, ◌+◌, ◌-◌, Bool, true, false, cond, not, ◌&&◌, List, [], ◌∷◌, eqb, leb, ltb, length, get_or, take, drop, Option, Some, None, Result, Ok, Err}
 use Rattle.laws.specs.Bytes.{little}
-use Rattle.laws.specs.Tests.{first_of}
+use Rattle.laws.specs.Tests.{any, first_of}
+use Rattle.laws.specs.Text.{until_zero}
+use Rattle.answer.specs.declared.Refusal.{Refusal}
+use Rattle.answer.specs.Numbers.{number_of}
 use Rattle.hits.specs.declared.reading.HitCursor.{HitCursor}
 use Rattle.hits.specs.declared.reading.HitRecord.{HitRecord}
 use Rattle.hits.specs.declared.reading.HitNext.{HitNext}
 use Rattle.hits.specs.declared.reading.HitHead.{HitHead}
-use Rattle.hits.specs.declared.reading.Lengths.{Lengths}
+use Rattle.hits.specs.declared.reading.Front.{Front}
 use Rattle.hits.specs.Results.{name_in, extension_in, is_whole, result_size}
 
 -- how many bytes the least payload, what stands before the results, and the mark have
@@ -104,24 +107,40 @@ hands c d =
 unfoldable pub next_of : HitCursor → List ℕ → HitNext
 next_of c p = cond (is_found c p) (hands c (body_from c.at p)) (stays (next_answer c p) c)
 
--- what the code measures of a result
-abbrev pub lengths_of : List ℕ → Lengths
-lengths_of d = record { whole = is_whole d; namelen = length (name_in d); extlen = length (extension_in d) }
+-- ---- the same as the code has it
 
--- the result that bytes at a cursor begin with, by what was measured of it
-abbrev pub handed : HitCursor → List ℕ → Lengths → HitNext
-handed c d e =
+-- what a caller in C gets of the front of a payload, and of a call of the reader that left this cursor
+abbrev pub head_of : Result Front Refusal → HitHead
+head_of (Ok f) =
     record {
       answer = 0;
-      found = true;
-      result =
-          record {
-            index = little (take 4 d);
-            size = little (take 4 (drop 4 d));
-            nameat = c.at + 8;
-            namelen = e.namelen;
-            extat = c.at + 9 + e.namelen;
-            extlen = e.extlen;
-          };
-      cursor = cursor_at (c.at + 9 + e.namelen + e.extlen + 1) (c.left - 1);
+      results = f.results;
+      port = f.port;
+      address = f.address;
+      speed = f.speed;
+      markat = f.markat;
+      cursor = f.cursor;
     }
+head_of (Err refusal) =
+    record {
+      answer = number_of refusal;
+      results = 0;
+      port = 0;
+      address = 0 ∷ 0 ∷ 0 ∷ 0 ∷ [];
+      speed = 0;
+      markat = 0;
+      cursor = cursor_at 0 0;
+    }
+
+abbrev pub told_of : Result (Option HitRecord) Refusal → HitCursor → HitNext
+told_of (Ok (Some r)) c = record { answer = 0; found = true; result = r; cursor = c }
+told_of (Ok None) c = stays 0 c
+told_of (Err refusal) c = stays (number_of refusal) c
+
+-- the place of the first zero byte
+abbrev pub zero_at : List ℕ → Option ℕ
+zero_at l = cond (any (eqb 0) l) (Some (length (until_zero l))) None
+
+-- the result that some bytes begin with which stand at a place, if it is whole
+abbrev pub record_of : ℕ → List ℕ → Option HitRecord
+record_of at d = cond (is_whole d) (Some (record_in at d)) None

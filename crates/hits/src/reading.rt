@@ -1,22 +1,18 @@
-// A hit's payload read: what stands at its front, and then one result a call. The reader's state is a cursor that goes
-// in by value and comes back moved on by one result.
-ghost use Rattle.std.specs.Prelude.{◌+◌, ◌≤◌, ◌<◌, ◌≡◌, [], ◌∷◌, length};
-ghost use Rattle.laws.specs.Bytes.{little};
-ghost use Rattle.hits.specs.Reading.{lengths_of, handed, stays, beginning, next_of};
+// A hit's payload read: what stands at its front, and then one result a call. The reader's state is a cursor, which a
+// call moves on by one result.
+ghost use Rattle.std.specs.Prelude.{◌+◌, ◌^◌, ◌<◌, ◌≡◌, length, IfSome};
+ghost use Rattle.hits.specs.Reading.{head_of, beginning, zero_at, record_of, told_of, next_of};
 
-use ascii::until_zero;
-use wire::little4;
+use answer::Refusal;
 
-// The least payload of a hit, and how many bytes its last part has, the mark of the station that answers.
-pub const SMALLEST: usize = 27;
-
+// How many bytes the last part of a payload has, the mark of the station that answers.
 pub const MARK_SIZE: usize = 16;
 
 // How many bytes stand before the results.
 pub const HEAD_SIZE: usize = 11;
 
-// The least result: two numbers, and the zero bytes that end an empty name and an empty extension.
-const LEAST_RESULT: usize = 10;
+// The least payload of a hit.
+const SMALLEST: usize = HEAD_SIZE + MARK_SIZE;
 
 // Where a reader is: the place of the next result in the payload, and how many of the stated number are left.
 #[repr(C)]
@@ -38,8 +34,8 @@ pub struct HitRecord {
     pub extlen: usize,
 }
 
-// What a call of the reader gives: its answer, whether there is a result, the result, which is zeros where there is
-// none, and the cursor for the next call.
+// What a call of the reader gives a caller in C: its answer, whether there is a result, the result, which is zeros where
+// there is none, and the cursor for the next call.
 #[repr(C)]
 #[derive(Clone, Copy)]
 pub struct HitNext {
@@ -49,8 +45,18 @@ pub struct HitNext {
     pub cursor: HitCursor,
 }
 
-// What stands at the front of a payload, where the mark stands, and the cursor for the first result; zeros where the
-// payload is refused.
+// What stands at the front of a payload, where the mark stands, and the cursor for the first result.
+#[derive(Clone, Copy)]
+pub struct Front {
+    pub results: u8,
+    pub port: u16,
+    pub address: [u8; 4],
+    pub speed: u32,
+    pub markat: usize,
+    pub cursor: HitCursor,
+}
+
+// The same for a caller in C, with the answer; zeros where the payload is refused.
 #[repr(C)]
 #[derive(Clone, Copy)]
 pub struct HitHead {
@@ -63,146 +69,142 @@ pub struct HitHead {
     pub cursor: HitCursor,
 }
 
-// Whether bytes begin with a whole result, and how long its name and its extension are.
-#[derive(Clone, Copy)]
-pub struct Lengths {
-    pub whole: bool,
-    pub namelen: usize,
-    pub extlen: usize,
+impl From<Result<Front, Refusal>> for HitHead {
+    ghost from_gives = { λ front head. head ≡ head_of front };
+
+    fn from(front: Result<Front, Refusal>) -> HitHead {
+        match front {
+            Ok(front) => {
+                let address = front.address;
+                HitHead {
+                    answer: 0,
+                    results: front.results,
+                    port: front.port,
+                    address,
+                    speed: front.speed,
+                    markat: front.markat,
+                    cursor: front.cursor,
+                }
+            }
+            Err(refusal) => HitHead {
+                answer: u8::from(refusal),
+                results: 0,
+                port: 0,
+                address: [0; 4],
+                speed: 0,
+                markat: 0,
+                cursor: HitCursor { at: 0, left: 0 },
+            },
+        }
+    }
 }
 
-// The little-endian number of two bytes.
-fn two(a: u8, b: u8) -> u16
-    ensures { result ≡ little (a ∷ b ∷ []) }
-{
-    u16::from_le_bytes([a, b])
-}
+impl From<(Result<Option<HitRecord>, Refusal>, HitCursor)> for HitNext {
+    ghost from_gives = { λ read next. next ≡ told_of read.0 read.1 };
 
-// How long the result is that some bytes begin with.
-fn extent(body: &[u8]) -> Lengths
-    requires { 10 ≤ length body.now }
-    ensures { result ≡ lengths_of body.now }
-{
-    let names = &body[8..];
-    let namelen = until_zero(names);
-    if names.len() <= namelen {
-        return Lengths {
-            whole: false,
-            namelen,
-            extlen: 0,
+    fn from(read: (Result<Option<HitRecord>, Refusal>, HitCursor)) -> HitNext {
+        let (outcome, cursor) = read;
+        let (answer, found) = match outcome {
+            Ok(result) => (0, result),
+            Err(refusal) => (u8::from(refusal), None),
         };
-    }
-    let rest = &names[namelen + 1..];
-    let extlen = until_zero(rest);
-    Lengths {
-        whole: extlen < rest.len(),
-        namelen,
-        extlen,
-    }
-}
-
-// No result, and the cursor as it was.
-fn stay(answer: u8, cursor: HitCursor) -> HitNext
-    ensures { result ≡ stays answer cursor }
-{
-    HitNext {
-        answer,
-        found: false,
-        result: HitRecord {
-            index: 0,
-            size: 0,
-            nameat: 0,
-            namelen: 0,
-            extat: 0,
-            extlen: 0,
-        },
-        cursor,
+        match found {
+            Some(result) => HitNext {
+                answer,
+                found: true,
+                result,
+                cursor,
+            },
+            None => HitNext {
+                answer,
+                found: false,
+                result: HitRecord {
+                    index: 0,
+                    size: 0,
+                    nameat: 0,
+                    namelen: 0,
+                    extat: 0,
+                    extlen: 0,
+                },
+                cursor,
+            },
+        }
     }
 }
 
-// The result that bytes at a cursor begin with, by what was measured of it, and the cursor behind it.
-fn hand(cursor: HitCursor, body: &[u8], e: Lengths) -> HitNext
-    requires { (cursor.at + (10 + (e.namelen + e.extlen)) < 18446744073709551616)
-        × ((1 ≤ cursor.left) × (10 ≤ length body.now)) }
-    ensures { result ≡ handed cursor body.now e }
-{
-    let at = cursor.at;
-    let extat = at + 9 + e.namelen;
-    HitNext {
-        answer: 0,
-        found: true,
-        result: HitRecord {
-            index: little4(body),
-            size: little4(&body[4..]),
-            nameat: at + 8,
-            namelen: e.namelen,
-            extat,
-            extlen: e.extlen,
-        },
-        cursor: HitCursor {
-            at: extat + e.extlen + 1,
-            left: cursor.left - 1,
-        },
-    }
-}
-
-// The front of a payload: 6 for one that is shorter than a hit's.
-pub fn begin(payload: &[u8]) -> HitHead
-    ensures { result ≡ beginning payload.now }
+// The front of a payload: BadPayload for one that is shorter than a hit's.
+pub fn begin(payload: &[u8]) -> Result<Front, Refusal>
+    ensures { head_of result ≡ beginning payload.now }
 {
     if payload.len() < SMALLEST {
-        return HitHead {
-            answer: 6,
-            results: 0,
-            port: 0,
-            address: [0, 0, 0, 0],
-            speed: 0,
-            markat: 0,
-            cursor: HitCursor { at: 0, left: 0 },
-        };
+        return Err(Refusal::BadPayload);
     }
-    let results = payload[0];
-    HitHead {
-        answer: 0,
-        results,
-        port: two(payload[1], payload[2]),
-        address: [payload[3], payload[4], payload[5], payload[6]],
-        speed: little4(&payload[7..]),
-        markat: payload.len() - MARK_SIZE,
-        cursor: HitCursor {
-            at: HEAD_SIZE,
-            left: results,
-        },
+    match payload {
+        [results, p0, p1, a0, a1, a2, a3, s0, s1, s2, s3, ..] => Ok(Front {
+            results: *results,
+            port: u16::from_le_bytes([*p0, *p1]),
+            address: [*a0, *a1, *a2, *a3],
+            speed: u32::from_le_bytes([*s0, *s1, *s2, *s3]),
+            markat: payload.len() - MARK_SIZE,
+            cursor: HitCursor {
+                at: HEAD_SIZE,
+                left: *results,
+            },
+        }),
+        _ => Err(Refusal::BadPayload),
     }
+}
+
+// The place of the first zero byte.
+fn zero_at(bytes: &[u8]) -> Option<usize>
+    ensures value { result ≡ zero_at bytes.now }
+    ensures inside { IfSome result (λ i. i < length bytes.now) }
+{
+    bytes.iter().position(|b| *b == 0)
+}
+
+// The result that some bytes begin with, which stand at a place of the payload; none where its name or its extension is
+// not ended.
+fn record_at(at: usize, bytes: &[u8]) -> Option<HitRecord>
+    requires { at + length bytes.now + 9 < 2 ^ 64 }
+    ensures { result ≡ record_of at bytes.now }
+{
+    let (index, rest) = bytes.split_first_chunk()?;
+    let (size, names) = rest.split_first_chunk()?;
+    let namelen = zero_at(names)?;
+    let extlen = zero_at(&names[namelen + 1..])?;
+    Some(HitRecord {
+        index: u32::from_le_bytes(*index),
+        size: u32::from_le_bytes(*size),
+        nameat: at + 8,
+        namelen,
+        extat: at + 9 + namelen,
+        extlen,
+    })
 }
 
 impl HitCursor {
-    // The next result, and the cursor moved on behind it. 6 for a payload that is shorter than a hit's; nothing where
-    // none of the stated number is left; 6 where the next does not end before the mark. Any cursor is taken, from this
-    // payload or not.
-    pub fn next(self, payload: &[u8]) -> HitNext
-        ensures { result ≡ next_of self payload.now }
+    // The next result, and moves on behind it. BadPayload for a payload that is shorter than a hit's; no result where
+    // none of the stated number is left; BadPayload where the next does not end before the mark. Any cursor is taken,
+    // from this payload or not.
+    pub fn next(&mut self, payload: &[u8]) -> Result<Option<HitRecord>, Refusal>
+        ensures { told_of result self.new ≡ next_of self.old payload.now }
     {
-        let at = self.at;
-        let left = self.left;
         if payload.len() < SMALLEST {
-            return stay(6, HitCursor { at, left });
+            return Err(Refusal::BadPayload);
         }
-        if left == 0 {
-            return stay(0, HitCursor { at, left });
+        if self.left == 0 {
+            return Ok(None);
         }
-        let before = payload.len() - MARK_SIZE;
-        if before < at {
-            return stay(6, HitCursor { at, left });
-        }
-        if before - at < LEAST_RESULT {
-            return stay(6, HitCursor { at, left });
-        }
-        let body = &payload[at..before];
-        let e = extent(body);
-        if !e.whole {
-            return stay(6, HitCursor { at, left });
-        }
-        hand(HitCursor { at, left }, body, e)
+        let results = &payload[..payload.len() - MARK_SIZE];
+        let Some(bytes) = results.get(self.at..) else {
+            return Err(Refusal::BadPayload);
+        };
+        let Some(record) = record_at(self.at, bytes) else {
+            return Err(Refusal::BadPayload);
+        };
+        self.at = record.extat + record.extlen + 1;
+        self.left -= 1;
+        Ok(Some(record))
     }
 }

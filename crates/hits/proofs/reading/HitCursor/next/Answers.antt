@@ -1,65 +1,56 @@
 -- Each answer has its case of the definition; a whole result lies in the payload, so that no sum of its places wraps.
-use Prim.Native.Nat.{◌-◌}
-use mathlib.Core.Path.{sym, refl, ◌∙◌}
-use native.Mathlib.Omega.{arith}
-use lib.ListN.{length, take, drop, length-take, length-drop}
-use Rattle.hits.proofs.NextLaws.{next-short, next-ended, next-no-room, none-at, ends-at, result-at}
+use Rattle.std.proofs.Common.{◌≡◌, ◌+◌, ◌-◌, ◌≤◌, ◌<◌, Some, Ok, length, take, drop, sym, ap, ◌∙◌, arith, rules}
+use Rattle.std.proofs.Math.ListN.{length-take}
+use Rattle.laws.proofs.Parts.{part_tail}
+use Rattle.hits.specs.Reading.{cursor_at, body_from, record_of, told_of, next_of}
+use Rattle.hits.proofs.NextLaws.{next-short, next-ended, next-past, next-nothing, next-one}
+use Rattle.hits.proofs.reading.HitCursor.next.Goals.{In-Some, In-Some-record_at}
 use Rattle.hits.proofs.reading.HitCursor.next.Goals as goal
 
 pub returns-then-payload-lt-SMALLEST : goal.returns-then-payload-lt-SMALLEST
-returns-then-payload-lt-SMALLEST c =
-    let x = c.args in
-    c.stay.ensures ∙ sym (next-short x.self x.payload.now c.if-payload-lt-SMALLEST.true)
+returns-then-payload-lt-SMALLEST c = sym (next-short c.args.self.now c.args.payload.now c.if-payload-lt-SMALLEST.true)
 
-pub returns-then-left-eq0 : goal.returns-then-left-eq0
-returns-then-left-eq0 c =
-    let x = c.args in
-    c.stay-then-left-eq0.ensures
-    ∙ sym (next-ended x.self x.payload.now c.if-payload-lt-SMALLEST.false c.if-left-eq0.true)
+pub returns-then-self-eq0 : goal.returns-then-self-eq0
+returns-then-self-eq0 c =
+    sym (next-ended c.args.self.now c.args.payload.now c.if-payload-lt-SMALLEST.false c.if-self-eq0.true)
 
-pub returns-then-before-at : goal.returns-then-before-at
-returns-then-before-at c =
-    let x = c.args in
-    c.stay-then-before-at.ensures
-    ∙ sym (next-no-room x.self x.payload.now c.if-payload-lt-SMALLEST.false (omega (arith, c.if-left-eq0.false))
-    (omega arith))
+pub returns-in_default : goal.returns-in_default
+returns-in_default c =
+    let p = c.args.payload.now in
+    let past : length p - 16 < c.args.self.now.at =
+    omega (arith, c.in_default.ensures.lookup.0, length-take (length p - 16) p) in
+    sym (next-past c.args.self.now p c.if-payload-lt-SMALLEST.false (omega arith) past)
 
-pub returns-then-before-at-lt-LEAST_RESULT : goal.returns-then-before-at-lt-LEAST_RESULT
-returns-then-before-at-lt-LEAST_RESULT c =
-    let x = c.args in
-    c.stay-then-before-at-lt-LEAST_RESULT.ensures
-    ∙ sym (next-no-room x.self x.payload.now c.if-payload-lt-SMALLEST.false (omega (arith, c.if-left-eq0.false))
-    (omega arith))
+-- the bytes that are read are those before the mark, from the cursor on
+body : (c : In-Some) → c.in-Some.bytes.now ≡ body_from c.args.self.now.at c.args.payload.now
+body c =
+    let p = c.args.payload.now in
+    c.in-Some.ensures.lookup.0.2 ∙ part_tail c.args.self.now.at (take (length p - 16) p)
 
-pub returns-then-not-e : goal.returns-then-not-e
-returns-then-not-e c =
-    let x = c.args in
-    let p = x.payload.now in
-    let body = take (length p - 16 - x.self.at) (drop x.self.at p) in
-    c.stay-then-not-e.ensures
-    ∙ sym (none-at x.self p body c.extent-e.result c.if-payload-lt-SMALLEST.false refl c.extent-e.ensures
-    (omega (arith, c.if-left-eq0.false))
-    c.if-not-e.true)
+pub returns-in_default-record_at : goal.returns-in_default-record_at
+returns-in_default-record_at c =
+    let s = c.args.self.now in
+    let e = body (goal.at.returns-in_default-record_at c).In-Some in
+    sym (next-nothing s c.args.payload.now c.if-payload-lt-SMALLEST.false (omega arith)
+    (sym (c.in_default-record_at.ensures ∙ ap (record_of s.at) e)))
 
-pub hand-requires : goal.hand-requires
-hand-requires c =
-    let x = c.args in
-    let p = x.payload.now in
-    let body = take (length p - 16 - x.self.at) (drop x.self.at p) in
-    let ends = ends-at x.self p body c.extent-e.result c.if-payload-lt-SMALLEST.false refl c.extent-e.ensures
-    (omega (arith, c.if-left-eq0.false))
-    c.if-not-e.false in
-    let long = length-take (length p - 16 - x.self.at) (drop x.self.at p) in (
-      omega arith,
-      (omega (arith, c.if-left-eq0.false), omega (arith, long, length-drop x.self.at p)),
-    )
+one : (c : In-Some-record_at)
+    → let s = c.args.self.now in
+    let r = c.in-Some-record_at.record in
+    (told_of (Ok (Some r)) (cursor_at (r.extat + r.extlen + 1) (s.left - 1)) ≡ next_of s c.args.payload.now)
+    × (r.extat + r.extlen + 1 + 16 ≤ length c.args.payload.now)
+one c =
+    let s = c.args.self.now in
+    let p = c.args.payload.now in
+    let e = c.in-Some.ensures.lookup.0.2 ∙ part_tail s.at (take (length p - 16) p) in
+    next-one s p c.if-payload-lt-SMALLEST.false (omega arith) c.in-Some-record_at.record
+    (sym (c.in-Some-record_at.ensures ∙ ap (record_of s.at) e))
+
+pub overflow_add-self : goal.overflow_add-self
+overflow_add-self c = omega (arith, (one (goal.at.overflow_add-self c).In-Some-record_at).1)
+
+pub overflow_add-self-2 : goal.overflow_add-self-2
+overflow_add-self-2 c = omega (arith, (one (goal.at.overflow_add-self-2 c).In-Some-record_at).1)
 
 pub returns : goal.returns
-returns c =
-    let x = c.args in
-    let p = x.payload.now in
-    let body = take (length p - 16 - x.self.at) (drop x.self.at p) in
-    c.hand.ensures
-    ∙ result-at x.self p body c.extent-e.result c.if-payload-lt-SMALLEST.false refl c.extent-e.ensures
-    (omega (arith, c.if-left-eq0.false))
-    c.if-not-e.false
+returns c = (one (goal.at.returns c).In-Some-record_at).0
