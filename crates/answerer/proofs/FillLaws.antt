@@ -1,5 +1,7 @@
 -- Results laid one behind another: those that were written and what is left of the places make the whole.
 use Prim.Native.Nat.{ℕ, zero, suc, ◌+◌, ◌-◌, ◌≤◌, ◌<◌}
+use Rattle.std.proofs.Common.{Option, Some, None}
+use Rattle.std.specs.Prelude.{unwrap_or}
 use mathlib.Core.Path.{◌≡◌, refl, sym, ap, ap₂, ◌∙◌}
 use mathlib.Core.Bool.{Bool, true, false, cond}
 use mathlib.Core.List.{List, [], ◌∷◌, ◌++◌, append_assoc, append-nil}
@@ -69,6 +71,15 @@ pub record Laying (found : List Bool) (a sizes part₀ : List ℕ) (results size
   pub inside : size ≤ length part₀
   pub whole : done ++ fitting (255 - results) (length part₀ - size) (left found a sizes i)
       ≡ filling_of found a sizes (length part₀)
+
+-- how many bytes a result has that was put, and 0 where there was no room for it
+pub room-told : (room : Bool) (k : ℕ) (o : Option ℕ) → o ≡ cond room (Some k) None → unwrap_or o 0 ≡ cond room k 0
+room-told true k o e = ap (λ p. unwrap_or p 0) e
+room-told false k o e = ap (λ p. unwrap_or p 0) e
+
+pub some-told : (room : Bool) (k n : ℕ) → Some n ≡ cond room (Some k) None → n ≡ k
+some-told true k n e = cc
+some-told false k n e = cc
 
 -- a result was put behind them, and n bytes of it are told: none, and the results end, or they are one more
 pub record Turned (found : List Bool) (a sizes part₀ : List ℕ) (results size n : ℕ) (part : List ℕ) (i : ℕ) : Type 0

@@ -32,23 +32,19 @@ pub(crate) fn put_results(
     let count = count_in(names) as usize;
     let mut results: u8 = 0;
     let mut size = 0;
-    let mut i = 0;
-    while i < count {
+    for i in 0..count {
         if !found[i] {
-            i += 1;
             continue;
         }
         if results == MOST_RESULTS {
             return Filled { results, size };
         }
         let name = name_of(names, pair_at(names, i));
-        let n = put_result(i as u32, sizes[i], name, &mut part[size..]);
-        if n == 0 {
+        let Some(n) = put_result(i as u32, sizes[i], name, &mut part[size..]) else {
             return Filled { results, size };
-        }
+        };
         results += 1;
         size += n;
-        i += 1;
     }
     Filled { results, size }
 }

@@ -1,12 +1,11 @@
 -- The cases of a call of the reader.
 use Prim.Native.Nat.{ℕ, ◌+◌, ◌-◌, ◌≤◌, ◌<◌}
-use mathlib.Core.Path.{◌≡◌, refl, sym, ap, ap₂, ◌∙◌}
+use mathlib.Core.Path.{◌≡◌, refl, sym, ap, ◌∙◌}
 use mathlib.Core.Bool.{Bool, true, false, cond}
 use mathlib.Core.List.{List}
 use native.Mathlib.Omega.{arith}
-use lib.ListN.{length, take, drop, length-take, length-drop}
-use borrow.Author.Tests.{lt-ltb, le-ltb, le-leb, not-true, not-false}
-use Rattle.laws.proofs.Over.{rest-front}
+use lib.ListN.{length, take, length-take, length-drop}
+use borrow.Author.Tests.{lt-ltb, le-ltb, le-leb}
 use Rattle.laws.proofs.Words.{refuted}
 use Rattle.hits.specs.declared.reading.HitCursor.{HitCursor}
 use Rattle.hits.specs.declared.reading.HitRecord.{HitRecord}

@@ -10,7 +10,7 @@ use lib.ListN.{length, get_or, take, drop, length-append, length-drop, drop_of_l
 use lib.ListN.{take-append-drop}
 use lib.Seq.{drop-drop, drop-append-add, get_or-drop, get_or-take}
 use Rattle.std.specs.Int.{w32, from_le_bytes}
-use borrow.Author.Tests.{ltb-true, le-ltb, lt-ltb}
+use borrow.Author.Tests.{ltb-true}
 use Rattle.laws.specs.Bytes.{little, little_bytes}
 use Rattle.laws.specs.Tests.{any}
 use Rattle.laws.specs.Text.{until_zero}

@@ -1,19 +1,16 @@
 -- What the copies and stores of a writer leave.
-use Prim.Native.Nat.{ℕ, suc, ◌+◌, ◌-◌, ◌%◌, ◌/◌, ◌^◌, ◌≤◌, ◌<◌}
+use Prim.Native.Nat.{ℕ, suc, ◌+◌, ◌%◌, ◌/◌, ◌^◌, ◌≤◌, ◌<◌}
 use mathlib.Core.Path.{◌≡◌, refl, sym, ap, ◌∙◌}
-use mathlib.Core.Bool.{cond}
 use mathlib.Core.List.{List, [], ◌∷◌, ◌++◌, append_assoc}
 use native.Mathlib.Omega.{arith}
-use lib.Dec.{leb}
 use lib.Seq.{drop-drop}
 use Rattle.std.specs.Int.{w16, to_le_bytes}
-use lib.ListN.{length, get_or, take, drop, set, length-append}
+use lib.ListN.{length, take, drop, set, length-append}
 use borrow.Author.Tests.{le-leb, lt-leb}
 use borrow.Rule.Slice.PartMut.{put_mid}
 use Rattle.laws.specs.Bytes.{little_bytes}
-use Rattle.laws.specs.Parts.{over, copied}
-use Rattle.laws.proofs.Over.{over-length, copied-whole}
-use Rattle.laws.proofs.Writing.{written_next, stored_next, copied-part}
+use Rattle.laws.specs.Parts.{over}
+use Rattle.laws.proofs.Writing.{written_next}
 use Rattle.hits.specs.declared.writing.Responder.{Responder}
 use Rattle.hits.specs.Results.{result_bytes, without_extension}
 use Rattle.hits.specs.Writing.{head_bytes, result_into, head_into}

@@ -12,14 +12,16 @@ use hits::writing::Responder;
 pub fn lunozhar_hit_begin(payload: &[u8]) -> HitHead
     ensures { result ≡ beginning payload.now }
 {
-    hits::reading::begin(payload)
+    hits::reading::begin(payload).into()
 }
 
 // The next result of a hit, and the cursor moved on behind it.
 pub fn lunozhar_hit_next(cursor: HitCursor, payload: &[u8]) -> HitNext
     ensures { result ≡ next_of cursor payload.now }
 {
-    cursor.next(payload)
+    let mut cursor = cursor;
+    let read = cursor.next(payload);
+    HitNext::from((read, cursor))
 }
 
 // The hit for a query that the station's own names give, at the front of the output.

@@ -1,14 +1,15 @@
 -- The results laid so far and those left that fit make the whole: a place that is not found is passed, 255 results, no
 -- room or no place left end it.
 use Prim.Native.Nat.{◌-◌, ◌<◌}
-use mathlib.Core.Path.{◌≡◌, ◌∙◌}
+use mathlib.Core.Path.{◌≡◌, ap, ◌∙◌}
+use Rattle.std.specs.Prelude.{unwrap_or}
 use native.Mathlib.Omega.{arith}
 use lib.ListN.{length}
 use borrow.Rule.Slice.PartMut.{put_mid}
 use Rattle.namearea.specs.Area.{count_in}
 use Rattle.answerer.proofs.FillLaws.{Turned, lay_none, lay_long, lay_full, lay_end, lay_pass, lay_put}
-use Rattle.answerer.proofs.FillLaws.{name-here}
-use Rattle.answerer.proofs.filling.put_results.Goals.{After-put_result-n, At-loop-i}
+use Rattle.answerer.proofs.FillLaws.{name-here, room-told, some-told}
+use Rattle.answerer.proofs.filling.put_results.Goals.{After-put_result, At-loop-i}
 use Rattle.answerer.proofs.filling.put_results.Goals as goal
 
 -- the part keeps its length
@@ -54,12 +55,12 @@ slice_bounds-put_result-start c =
     omega (arith, c.loop-i.invariant.inside, kept (goal.at.slice_bounds-put_result-start c).At-loop-i)
 
 -- what a result that is put comes to
-turned : (c : After-put_result-n)
+turned : (c : After-put_result)
     → let l = c.loop-i in
     let x = c.args in
     Turned x.found.now x.names.now x.sizes.now x.part.now l.results l.size
-    c.put_result-n.result
-    (put_mid l.size (length l.part - l.size) l.part c.put_result-n.new.part)
+    (unwrap_or c.put_result.result 0)
+    (put_mid l.size (length l.part - l.size) l.part c.put_result.new.part)
     l.i
 turned c =
     let l = c.loop-i in
@@ -74,19 +75,18 @@ turned c =
     (name-here x.names.now l.i _ _ c.pair_at.ensures c.name_of-name.ensures c.requires.2
     (omega (arith, c.requires.0)))
     _
-    c.put_result-n.ensures.count
+    (room-told _ _ _ c.put_result.ensures.count)
     _
-    c.put_result-n.ensures.bytes
+    c.put_result.ensures.bytes
 
-pub shape_of-part-then-n-eq0 : goal.shape_of-part-then-n-eq0
-shape_of-part-then-n-eq0 c =
-    c.part-1.given.1 ∙ kept (goal.at.shape_of-part-then-n-eq0 c).At-loop-i
-
-pub returns-then-n-eq0 : goal.returns-then-n-eq0
-returns-then-n-eq0 c = (turned (goal.at.returns-then-n-eq0 c).After-put_result-n).stop c.if-n-eq0.true
+pub returns-in_default : goal.returns-in_default
+returns-in_default c =
+    (turned (goal.at.returns-in_default c).After-put_result).stop (ap (λ o. unwrap_or o 0) c.in_default.is)
 
 pub loop-i-preserved : goal.loop-i-preserved
-loop-i-preserved c = (turned (goal.at.loop-i-preserved c).After-put_result-n).more c.if-n-eq0.false
+loop-i-preserved c =
+    let t = rw c.in-Some.is at (turned (goal.at.loop-i-preserved c).After-put_result).more in
+    t (λ e. omega (arith, some-told _ _ _ c.in-Some.ensures.count))
 
 pub overflow_add-results : goal.overflow_add-results
 overflow_add-results c = omega (arith, (loop-i-preserved c).few)

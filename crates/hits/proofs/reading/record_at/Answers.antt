@@ -1,5 +1,5 @@
 -- Two numbers, a name and an extension, each told by its end.
-use Rattle.std.proofs.Common.{◌≡◌, ◌+◌, ◌<◌, ℕ, List, length, drop, Some, None, sym, ap, ◌∙◌, arith, rules}
+use Rattle.std.proofs.Common.{◌≡◌, ◌+◌, ℕ, List, drop, Some, sym, ap, ◌∙◌, arith}
 use Rattle.std.proofs.Math.Seq.{drop-drop}
 use Rattle.laws.proofs.Parts.{part_tail}
 use Rattle.hits.specs.Results.{behind_name}

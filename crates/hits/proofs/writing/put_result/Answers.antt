@@ -1,6 +1,5 @@
 -- Where there is room the parts are written one behind another; else nothing is.
-use Rattle.std.proofs.Common.{◌≡◌, ◌-◌, ◌+◌, length, ◌∙◌, sym, arith, refl}
-use borrow.Author.Tests.{le-leb, lt-leb}
+use Rattle.std.proofs.Common.{◌∙◌, sym, arith}
 use Rattle.wire.proofs.NumberLaws.{bytes-four}
 use Rattle.hits.proofs.WriteLaws.{no_room, result-stored}
 use Rattle.hits.proofs.writing.put_result.Goals as goal

@@ -1,5 +1,5 @@
 -- Each answer has its case of the definition; a whole result lies in the payload, so that no sum of its places wraps.
-use Rattle.std.proofs.Common.{◌≡◌, ◌+◌, ◌-◌, ◌≤◌, ◌<◌, Some, Ok, length, take, drop, sym, ap, ◌∙◌, arith, rules}
+use Rattle.std.proofs.Common.{◌≡◌, ◌+◌, ◌-◌, ◌≤◌, ◌<◌, Some, Ok, length, take, sym, ap, ◌∙◌, arith}
 use Rattle.std.proofs.Math.ListN.{length-take}
 use Rattle.laws.proofs.Parts.{part_tail}
 use Rattle.hits.specs.Reading.{cursor_at, body_from, record_of, told_of, next_of}
