@@ -1,11 +1,11 @@
 -- A result at the front of some bytes: how long its parts are, what is read off bytes that were written, and that what
 -- is read stands there.
-use Prim.Native.Nat.{ℕ, ◌+◌, ◌≤◌, ◌<◌}
+use Prim.Native.Nat.{ℕ, zero, suc, ◌+◌, ◌≤◌, ◌<◌}
 use mathlib.Core.Path.{◌≡◌, refl, sym, ap, ap₂, ◌∙◌}
-use mathlib.Core.Bool.{Bool, true, false, cond, not}
+use mathlib.Core.Bool.{Bool, true, false, cond}
 use mathlib.Core.List.{List, [], ◌∷◌, ◌++◌, append_assoc}
 use native.Mathlib.Omega.{arith}
-use lib.Dec.{eqb, ltb}
+use lib.Dec.{eqb, eqb-zero-suc, eqb-suc-zero}
 use lib.ListN.{length, get_or, take, drop, length-append, length-drop, drop_of_length-le}
 use lib.ListN.{take-append-drop}
 use lib.Seq.{drop-drop, drop-append-add, get_or-drop, get_or-take}
@@ -23,7 +23,6 @@ use Rattle.hits.specs.Results.{HitResult, result_bytes, name_in, behind_name, ex
 use Rattle.hits.specs.Results.{result_in}
 use Rattle.hits.specs.Words.{Tellable, NoResult}
 use Rattle.std.proofs.Common.{Some, None}
-use Rattle.std.specs.List.{position_or_len}
 use Rattle.hits.specs.Reading.{zero_at, record_of}
 
 -- ---- as the code reads
@@ -37,21 +36,30 @@ read_four d =
     let e : get_or (take 4 d) 3 0 ≡ get_or d 3 0 = get_or-take 4 d 3 0 (omega arith) in
     omega (arith, little-four d)
 
--- the library's search for the first zero byte
-zeros : (l : List ℕ) → position_or_len (λ b. eqb b 0) l ≡ length (until_zero l)
-unfolding until_zero
-zeros [] = refl
-zeros (b ∷ bs) = by (eqb b 0) (zeros bs)
-  where
-    by : (t : Bool) → position_or_len (λ x. eqb x 0) bs ≡ length (until_zero bs)
-        → cond (not t) (1 + position_or_len (λ x. eqb x 0) bs) 0 ≡ length (cond t [] (b ∷ until_zero bs))
-    by true e = refl
-    by false e = omega (arith, e)
+-- no byte before a place is zero
+abbrev pub NoneBefore : List ℕ → ℕ → Type 0
+NoneBefore l n = (k : ℕ) → k < n → get_or l k 0 ≡ 0 → ⊥
 
-pub position-zero : (l : List ℕ)
-    → cond (ltb (position_or_len (λ b. eqb b 0) l) (length l)) (Some (position_or_len (λ b. eqb b 0) l)) None
-    ≡ zero_at l
-position-zero l = rw (zeros l, until_stops l)
+tail-none : (b : ℕ) (l : List ℕ) (n : ℕ) → NoneBefore (b ∷ l) (suc n) → NoneBefore l n
+tail-none b l n f k h e = f (suc k) (omega arith) e
+
+-- the first zero byte is at a place, or there is none
+pub zero_here : (l : List ℕ) (n : ℕ) → n < length l → NoneBefore l n → get_or l n 0 ≡ 0
+    → (any (eqb 0) l ≡ true) × (length (until_zero l) ≡ n)
+unfolding until_zero
+zero_here [] n h f e = absurd (omega arith)
+zero_here (b ∷ l) zero h f e =
+    let z : b ≡ 0 = e in
+    rw z (refl, refl)
+zero_here (zero ∷ l) (suc n) h f e = absurd (f 0 (omega arith) refl)
+zero_here (suc b ∷ l) (suc n) h f e =
+    let t = zero_here l n (omega arith) (tail-none (suc b) l n f) e in
+    rw (eqb-zero-suc b, eqb-suc-zero b) (t.0, ap suc t.1)
+
+pub zero_nowhere : (l : List ℕ) → NoneBefore l (length l) → any (eqb 0) l ≡ false
+zero_nowhere [] f = refl
+zero_nowhere (zero ∷ l) f = absurd (f 0 (omega arith) refl)
+zero_nowhere (suc b ∷ l) f = rw (eqb-zero-suc b) (zero_nowhere l (tail-none (suc b) l (length l) f))
 
 -- what the place of the first zero byte tells, and that there is none
 pub zero_some : (l : List ℕ) (n : ℕ) → zero_at l ≡ Some n

@@ -1,14 +1,13 @@
--- The library's search, of the bytes that are zero.
-use Rattle.std.proofs.Common.{◌∙◌, eqb, rules}
-use borrow.Author.Tests.{tests}
-use Rattle.std.proofs.lemmas.Iterator.{YieldsList-from_slice}
-use Rattle.std.proofs.lemmas.Iterator.Search.{position_from_yields_List}
-use Rattle.hits.proofs.ResultLaws.{position-zero}
+-- The first byte that is zero.
+use Rattle.std.proofs.Common.{arith}
+use Rattle.hits.proofs.ResultLaws.{zero_here, zero_nowhere}
 use Rattle.hits.proofs.reading.zero_at.Goals as goal
+
+pub returns-then-b-eq0-clause-value : goal.returns-then-b-eq0-clause-value
+returns-then-b-eq0-clause-value c =
+    let t = zero_here c.args.bytes.now c.loop-i.i c.loop-i-test.true c.loop-i.invariant c.if-b-eq0.true in
+    rw (t.0, t.1)
 
 pub returns-clause-value : goal.returns-clause-value
 returns-clause-value c =
-    let bytes = c.args.bytes.now in
-    position_from_yields_List (λ b. eqb b 0) _ _ c.position.result c.position.ensures.ran
-    (YieldsList-from_slice bytes c.iter.ensures.rest) (λ x b q k. search (rules, tests))
-    ∙ position-zero bytes
+    rw (zero_nowhere c.args.bytes.now (λ k h. c.loop-i.invariant k (omega arith)))
