@@ -2,12 +2,14 @@
 -- what passes; and of the lines that a query goes on to.
 use Prim.Native.Nat.{ℕ, ◌+◌, ◌*◌, ◌-◌, ◌≤◌, ◌<◌, min}
 use mathlib.Core.Path.{◌≡◌, refl, sym, ap, ap₂, ◌∙◌}
-use mathlib.Core.Bool.{Bool, false, not, ◌&&◌, ◌||◌, and-true, and-false, and_assoc}
+use mathlib.Core.Bool.{Bool, true, false, beq, not, ◌&&◌, ◌||◌, and-true, and-false, and_assoc}
 use mathlib.Core.List.{List, [], ◌∷◌, ◌++◌, map}
 use native.Mathlib.Omega.{arith}
 use lib.ListN.{length, get_or, set, take, drop}
 use lib.Seq.{ext_get_or}
 use borrow.Author.Tests.{le-leb, lt-leb}
+use Rattle.std.specs.List.{list_any}
+use Rattle.laws.specs.Tests.{any}
 use Rattle.laws.proofs.Rings.{map-get_or}
 use Rattle.keywords.specs.Keywords.{lower, words_of}
 use Rattle.keywords.specs.Hash.{hash_of}
@@ -37,6 +39,11 @@ module _ {A : Type 0} (f : ℕ → A) (old : List A) (n : length old ≡ 8) (k :
   each_last h = element_last (map f line_numbers) old k h (omega arith)
 
 -- ---- eight flags
+
+pub some-flag : (flags : List Bool) → list_any (λ b. beq b true) flags ≡ any (λ b. b) flags
+some-flag [] = refl
+some-flag (true ∷ flags) = refl
+some-flag (false ∷ flags) = some-flag flags
 
 pub flag_of : (f : ℕ → Bool) (k : ℕ) → k < 8 → get_or (each_line f) k false ≡ f k
 flag_of f k h = each_line-at f k (omega arith)

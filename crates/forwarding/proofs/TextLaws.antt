@@ -1,12 +1,13 @@
 -- Laws of a query's text, which the first zero byte ends.
 use Prim.Native.Nat.{ℕ, ◌+◌, ◌-◌, ◌≤◌, ◌<◌}
-use mathlib.Core.Path.{◌≡◌, sym, ap, ◌∙◌}
+use mathlib.Core.Path.{◌≡◌, refl, sym, ap, ◌∙◌}
 use mathlib.Core.Bool.{true, false}
-use mathlib.Core.List.{List}
+use mathlib.Core.List.{List, ◌∷◌}
+use native.Mathlib.Numerals.{add-one}
 use native.Mathlib.Omega.{arith}
 use lib.Dec.{ltb}
 use lib.ListN.{length, take, drop, drop_of_length-le, length-drop}
-use borrow.Author.Tests.{ltb-true}
+use borrow.Author.Tests.{ltb-true, eq-eqb, ne_eqb}
 use Rattle.laws.proofs.Parts.{part_tail}
 use Rattle.laws.proofs.UntilZero.{until_stops, until_front}
 use Rattle.protocol.specs.Queries.{until_zero, text_in, has_text}
@@ -31,3 +32,12 @@ pub text-within : (p : List ℕ) (n : ℕ) → n ≡ length (text_in p) → has_
 text-within p n e h =
     let k : length (text_in p) < length (drop 2 p) = ltb-true _ _ (sym (until_stops (drop 2 p)) ∙ h) in
     omega (arith, e, length-drop 2 p)
+
+-- what stands before the first zero byte is as long as that byte's place
+pub zero_here : (b : ℕ) (bs : List ℕ) → b ≡ 0 → length (until_zero (b ∷ bs)) ≡ 0
+unfolding until_zero
+zero_here b bs e = rw (eq-eqb b 0 e) refl
+
+pub zero_on : (b : ℕ) (bs : List ℕ) → (b ≡ 0 → ⊥) → length (until_zero (b ∷ bs)) ≡ length (until_zero bs) + 1
+unfolding until_zero
+zero_on b bs n = rw (ne_eqb b 0 n) (sym (add-one (length (until_zero bs))))

@@ -17,20 +17,7 @@ use tables::Table;
 pub fn any_line(to: [bool; 8]) -> bool
     ensures { result ≡ any (λ b. b) to }
 {
-    let mut k = 0;
-    while k < 8 {
-        if to[k] {
-            return true;
-        }
-        k += 1;
-    }
-    false
-}
-
-fn smaller(a: usize, b: usize) -> usize
-    ensures { result ≡ min a b }
-{
-    if a <= b { a } else { b }
+    to.contains(&true)
 }
 
 // Whether a line is left among those that a query may go to, by one more of its keywords: its table does not stop it.
@@ -54,12 +41,10 @@ fn left_by(
 {
     let mut left = flags;
     let mut area = route;
-    let mut k = 0;
-    while k < 8 {
-        let n = smaller(room, area.len());
+    for k in 0..8 {
+        let n = room.min(area.len());
         left[k] = is_left(flags[k], tables[k], &area[..n], ttl, hash);
         area = &area[n..];
-        k += 1;
     }
     left
 }
@@ -88,7 +73,7 @@ pub fn passing(
 fn is_open_other(line: u32, k: u32, live: bool) -> bool
     ensures { result ≡ (is_other line k && live) }
 {
-    if is_other(line, k) { live } else { false }
+    is_other(line, k) && live
 }
 
 // The open lines but for this one.
@@ -96,10 +81,8 @@ fn open_others(live: [bool; 8], line: u32) -> [bool; 8]
     ensures { result ≡ each_line (λ k. is_other line k && get_or live k false) }
 {
     let mut others = live;
-    let mut k = 0;
-    while k < 8 {
+    for k in 0..8 {
         others[k] = is_open_other(line, k as u32, live[k]);
-        k += 1;
     }
     others
 }

@@ -11,13 +11,7 @@ pub fn pass_on(m: &[u8], n: usize, ttl: u8, hops: u8, out: &mut [u8]) -> usize
     ensures count { result ≡ count_if (passable m.now n out.old) n }
     ensures bytes { out.new ≡ passed_into m.now n ttl hops out.old }
 {
-    if n < HEADER_SIZE {
-        return 0;
-    }
-    if m.len() < n {
-        return 0;
-    }
-    if out.len() < n {
+    if n < HEADER_SIZE || m.len() < n || out.len() < n {
         return 0;
     }
     copy_onto(&m[..n], &mut *out);
@@ -44,10 +38,7 @@ pub fn own_query(number: [u8; 16], limit: u8, text: &[u8], out: &mut [u8]) -> us
     ensures bytes { out.new ≡ own_into number limit text.now out.old }
 {
     let n = text.len();
-    if LARGEST_TEXT < n {
-        return 0;
-    }
-    if out.len() < 26 + n {
+    if LARGEST_TEXT < n || out.len() < 26 + n {
         return 0;
     }
     put_header(

@@ -16,21 +16,14 @@ pub struct Text {
 fn until_zero(part: &[u8]) -> usize
     ensures { result ≡ length (until_zero part.now) }
 {
-    let mut i = 0;
-    while i < part.len() {
-        if part[i] == 0 {
-            return i;
-        }
-        i += 1;
-    }
-    i
+    part.iter().position(|b| *b == 0).unwrap_or(part.len())
 }
 
 // Whether a text has a zero byte.
 pub fn any_zero(text: &[u8]) -> bool
     ensures { result ≡ any (eqb 0) text.now }
 {
-    until_zero(text) < text.len()
+    text.contains(&0)
 }
 
 // The text of a query's payload: behind the two bytes of the speed, up to the first zero byte.

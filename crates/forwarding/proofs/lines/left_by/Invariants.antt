@@ -1,6 +1,6 @@
 -- The lines passed have the flag that the keyword leaves them, the others their own; what is left of the area starts at
 -- the next part.
-use Prim.Native.Nat.{◌-◌, ◌*◌, ◌≤◌}
+use Prim.Native.Nat.{◌*◌}
 use mathlib.Core.Path.{◌≡◌}
 use mathlib.Core.List.{◌++◌}
 use lib.ListN.{take, drop}
@@ -9,9 +9,5 @@ use Rattle.forwarding.proofs.lines.left_by.Given as goal
 
 abbrev pub invariant-loop-k : goal.invariant-loop-k
 invariant-loop-k l =
-    (l.k ≤ 8)
-    × (l.area ≡ drop (l.k * l.room) l.route)
+    (l.area ≡ drop (l.k * l.room) l.route)
     × (l.left ≡ take l.k (left_by l.flags (held_of l.tables l.room l.route) l.ttl l.hash) ++ drop l.k l.flags)
-
-abbrev pub decreases-loop-k : goal.decreases-loop-k
-decreases-loop-k l = 8 - l.k

@@ -8,18 +8,16 @@ use Rattle.forwarding.proofs.LineLaws.{each_next, each_last}
 use Rattle.forwarding.proofs.lines.open_others.Goals as goal
 
 pub loop-k-init : goal.loop-k-init
-loop-k-init c = (omega arith, refl)
+loop-k-init c = refl
 
 pub loop-k-preserved : goal.loop-k-preserved
 loop-k-preserved c =
-    let x = c.args in (
-      omega arith,
-      each_next (λ k. is_other x.line k && get_or x.live k false) x.live (omega arith) c.loop-k.k (omega arith) _ _
-          c.loop-k.invariant.1 c.is_open_other.ensures,
-    )
+    let x = c.args in
+    each_next (λ k. is_other x.line k && get_or x.live k false) x.live (omega arith) c.loop-k.k (omega arith) _ _
+    c.loop-k.invariant c.is_open_other.ensures
 
 pub returns : goal.returns
 returns c =
     let x = c.args in
-    c.loop-k.invariant.1
+    c.loop-k.invariant
     ∙ each_last (λ k. is_other x.line k && get_or x.live k false) x.live (omega arith) c.loop-k.k (omega arith)

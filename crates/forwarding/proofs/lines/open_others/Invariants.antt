@@ -1,5 +1,4 @@
 -- Line by line.
-use Prim.Native.Nat.{◌-◌, ◌≤◌}
 use mathlib.Core.Path.{◌≡◌}
 use mathlib.Core.Bool.{false, ◌&&◌}
 use mathlib.Core.List.{◌++◌}
@@ -9,7 +8,4 @@ use Rattle.forwarding.proofs.lines.open_others.Given as goal
 
 abbrev pub invariant-loop-k : goal.invariant-loop-k
 invariant-loop-k l =
-    (l.k ≤ 8) × (l.others ≡ take l.k (each_line (λ k. is_other l.line k && get_or l.live k false)) ++ drop l.k l.live)
-
-abbrev pub decreases-loop-k : goal.decreases-loop-k
-decreases-loop-k l = 8 - l.k
+    l.others ≡ take l.k (each_line (λ k. is_other l.line k && get_or l.live k false)) ++ drop l.k l.live

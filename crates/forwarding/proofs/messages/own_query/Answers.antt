@@ -7,13 +7,16 @@ use borrow.Author.Tests.{lt-leb, le-leb}
 use Rattle.forwarding.specs.Messages.{sendable}
 use Rattle.forwarding.proofs.MessageLaws.{begun-length, own-stored}
 use borrow.Author.Rules.{rules}
+use Rattle.forwarding.proofs.messages.own_query.Goals.{then-n-gt-LARGEST_TEXT-via-then-n-gt-LARGEST_TEXT}
+use Rattle.forwarding.proofs.messages.own_query.Goals.{then-n-gt-LARGEST_TEXT-via-else-n-gt-LARGEST_TEXT+then-out-n}
 use Rattle.forwarding.proofs.messages.own_query.Goals as goal
 
 pub returns-then-n-gt-LARGEST_TEXT : goal.returns-then-n-gt-LARGEST_TEXT
-returns-then-n-gt-LARGEST_TEXT c = search (rules, lt-leb, le-leb)
-
-pub returns-then-out-n : goal.returns-then-out-n
-returns-then-out-n c = search (rules, lt-leb, le-leb)
+returns-then-n-gt-LARGEST_TEXT c =
+    elim c.then-n-gt-LARGEST_TEXT.branch [
+      | then-n-gt-LARGEST_TEXT-via-then-n-gt-LARGEST_TEXT w ↦ search (rules, lt-leb, le-leb)
+      | then-n-gt-LARGEST_TEXT-via-else-n-gt-LARGEST_TEXT+then-out-n w ↦ search (rules, lt-leb, le-leb)
+    ]
 
 pub bounds-out-24 : goal.bounds-out-24
 bounds-out-24 c = simp length-set (omega arith)

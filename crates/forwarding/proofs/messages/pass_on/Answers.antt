@@ -7,16 +7,18 @@ use borrow.Author.Tests.{lt-leb, le-leb}
 use Rattle.forwarding.specs.Messages.{passable}
 use Rattle.forwarding.proofs.MessageLaws.{passed-stored}
 use borrow.Author.Rules.{rules}
+use Rattle.forwarding.proofs.messages.pass_on.Goals.{then-n-lt-HEADER_SIZE-via-then-n-lt-HEADER_SIZE}
+use Rattle.forwarding.proofs.messages.pass_on.Goals.{then-n-lt-HEADER_SIZE-via-else-n-lt-HEADER_SIZE+then-m-n}
+use Rattle.forwarding.proofs.messages.pass_on.Goals.{then-n-lt-HEADER_SIZE-via-else-n-lt-HEADER_SIZE+else-m-n+then-out-n}
 use Rattle.forwarding.proofs.messages.pass_on.Goals as goal
 
 pub returns-then-n-lt-HEADER_SIZE : goal.returns-then-n-lt-HEADER_SIZE
-returns-then-n-lt-HEADER_SIZE c = search (rules, lt-leb, le-leb)
-
-pub returns-then-m-n : goal.returns-then-m-n
-returns-then-m-n c = search (rules, lt-leb, le-leb)
-
-pub returns-then-out-n : goal.returns-then-out-n
-returns-then-out-n c = search (rules, lt-leb, le-leb)
+returns-then-n-lt-HEADER_SIZE c =
+    elim c.then-n-lt-HEADER_SIZE.branch [
+      | then-n-lt-HEADER_SIZE-via-then-n-lt-HEADER_SIZE w ↦ search (rules, lt-leb, le-leb)
+      | then-n-lt-HEADER_SIZE-via-else-n-lt-HEADER_SIZE+then-m-n w ↦ search (rules, lt-leb, le-leb)
+      | then-n-lt-HEADER_SIZE-via-else-n-lt-HEADER_SIZE+else-m-n+then-out-n w ↦ search (rules, lt-leb, le-leb)
+    ]
 
 pub slice_bounds-copy_onto-end : goal.slice_bounds-copy_onto-end
 slice_bounds-copy_onto-end c =

@@ -1,24 +1,17 @@
--- What was passed and what is left before a zero byte are all that stands before one.
-use mathlib.Core.Path.{ap}
-use native.Mathlib.Omega.{arith}
-use lib.ListN.{length, drop_of_length-le}
-use borrow.Author.Rules.{rules}
+-- The place of the first zero byte is how many bytes stand before it.
+use Rattle.std.proofs.Common.{rules, ◌≡◌, sym, ◌∙◌, refl, length}
+use borrow.Author.Tests.{tests}
+use Rattle.std.proofs.lemmas.Iterator.{YieldsList-from_slice, IsFirst-from_position, index_from_first}
 use Rattle.laws.specs.Text.{until_zero}
-use Rattle.laws.proofs.UntilZero.{until_here, until_on}
+use Rattle.forwarding.proofs.TextLaws.{zero_here, zero_on}
 use Rattle.forwarding.proofs.texts.until_zero.Goals as goal
-
-pub returns-then-part-i-eq0 : goal.returns-then-part-i-eq0
-returns-then-part-i-eq0 c =
-    let z = ap length (until_here c.args.part.now c.loop-i.i (search rules) c.if-part-i-eq0.true) in
-    omega arith
-
-pub loop-i-preserved : goal.loop-i-preserved
-loop-i-preserved c =
-    let z = ap length (until_on c.args.part.now c.loop-i.i (search rules) c.if-part-i-eq0.false) in
-    (search rules, omega arith)
 
 pub returns : goal.returns
 unfolding until_zero
 returns c =
-    let h = rw (drop_of_length-le c.args.part.now c.loop-i-test.false) at c.loop-i.invariant.1 in
-    omega arith
+    let part = c.args.part.now in
+    let first =
+    IsFirst-from_position _ _ c.position.result (λ b. b ≡ 0) (λ b. b ≡ 0 → ⊥) c.position.ensures.ran
+    (YieldsList-from_slice part cc) (λ x q k. search (rules, tests)) (λ x q k. search (rules, tests)) in
+    c.unwrap_or.ensures
+    ∙ sym (index_from_first (λ l. length (until_zero l)) (λ b. b ≡ 0) (λ b. b ≡ 0 → ⊥) refl zero_here zero_on part c.position.result first)
