@@ -10,16 +10,7 @@ use protocol::{Line, PONG_HOPS, Pong};
 fn empty_when_closed(live: bool, mark: u8, count: usize, pinged: bool) -> bool
     ensures { result ≡ (live || (eqb mark 0 && (eqb count 0 && not pinged))) }
 {
-    if live {
-        return true;
-    }
-    if mark != 0 {
-        return false;
-    }
-    if count != 0 {
-        return false;
-    }
-    !pinged
+    live || (mark == 0 && count == 0 && !pinged)
 }
 
 // The Hops at the ten places of a ring. The loop below goes through these, and the ring itself is not copied.

@@ -1,6 +1,7 @@
 // What a walk over the stored pongs of the eight lines reads. The counts, the next places and the rings are read off
 // the lines once, and no line is copied.
-ghost use Rattle.std.specs.Prelude.{◌≡◌, min};
+ghost use Rattle.std.specs.Prelude.{◌≡◌, ◌<◌, min, IfSome};
+ghost use Rattle.std.specs.Option.{unwrap_or};
 ghost use Rattle.pongrings.specs.Ring.{counts_in, nexts_in, rings_in, place_for, largest};
 
 use protocol::lines::is_other;
@@ -66,35 +67,22 @@ pub fn most_of(counts: [usize; 8]) -> usize
     ensures { result ≡ min 10 (largest counts) }
 {
     let mut most = 0;
-    let mut k = 0;
-    while k < 8 {
-        let count = counts[k];
-        if most < count {
-            most = count;
-        }
-        k += 1;
+    for count in counts {
+        most = most.max(count);
     }
-    if most < 10 { most } else { 10 }
+    most.min(10)
 }
 
-// The place of line k's pong of this rank, and 10 where the walk for a ping from `line` finds none there.
-pub fn place_for(line: u32, k: u32, count: usize, next: usize, rank: usize) -> usize
-    ensures { result ≡ place_for line k count next rank }
+// The place of line k's pong of this rank, if the walk for a ping from `line` finds one there.
+pub fn place_for(line: u32, k: u32, count: usize, next: usize, rank: usize) -> Option<usize>
+    ensures place { unwrap_or result 10 ≡ place_for line k count next rank }
+    ensures within { IfSome result (λ place. place < 10) }
 {
-    if !is_other(line, k) {
-        return 10;
-    }
-    if 10 < count {
-        return 10;
-    }
-    if 10 <= next {
-        return 10;
-    }
-    if count <= rank {
-        return 10;
+    if !is_other(line, k) || 10 < count || 10 <= next || count <= rank {
+        return None;
     }
     if rank < next {
-        return next - 1 - rank;
+        return Some(next - 1 - rank);
     }
-    next + 9 - rank
+    Some(next + 9 - rank)
 }
