@@ -11,7 +11,7 @@ use wire::Header;
 pub fn is_probe(h: Header) -> bool
     ensures { result ≡ is_probe h }
 {
-    if h.ttl == 1 { h.hops <= 1 } else { false }
+    h.ttl == 1 && h.hops <= 1
 }
 
 // A ping: TTL 0 is 8; one that is no probe is 13 less than a second after the last accepted one of its line.

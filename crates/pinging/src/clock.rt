@@ -6,5 +6,5 @@ ghost use Rattle.protocol.specs.Lines.{elapsed};
 pub fn elapsed_ms(now: u32, then: u32) -> u32
     ensures { result ≡ elapsed now then }
 {
-    std::num::wrapping_sub_u32(now, then)
+    now.wrapping_sub(then)
 }

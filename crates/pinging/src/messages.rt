@@ -7,14 +7,14 @@ ghost use Rattle.protocol.specs.Pings.{one_hop_more};
 pub fn pong_ttl(hops: u8) -> u8
     ensures { result ≡ max 1 hops }
 {
-    if hops == 0 { 1 } else { hops }
+    hops.max(1)
 }
 
 // Hops plus 1, and 255 where it is 255 already.
 pub fn one_hop_more(hops: u8) -> u8
     ensures { result ≡ one_hop_more hops }
 {
-    if hops < 255 { hops + 1 } else { 255 }
+    hops.saturating_add(1)
 }
 
 // The 14 bytes of this station's own pong.

@@ -16,7 +16,14 @@ fn put_pong(number: [u8; 16], pinghops: u8, hops: u8, bytes: [u8; 14], part: &mu
     requires { 37 ≤ length part.old }
     ensures { PongsPut 1 (pong_bytes number pinghops hops bytes) part.old part.new 37 }
 {
-    put_header(number, Kind::Pong.into(), pong_ttl(pinghops), hops, 14, &mut *part);
+    put_header(
+        number,
+        Kind::Pong.into(),
+        pong_ttl(pinghops),
+        hops,
+        14,
+        &mut *part,
+    );
     copy_onto(&bytes, &mut part[HEADER_SIZE..]);
 }
 
@@ -24,7 +31,7 @@ fn put_pong(number: [u8; 16], pinghops: u8, hops: u8, bytes: [u8; 14], part: &mu
 fn sends_own(probe: bool, calls: bool) -> bool
     ensures { result ≡ (probe || calls) }
 {
-    if probe { true } else { calls }
+    probe || calls
 }
 
 // The own pong at the front of the part, if it is sent; how many bytes.
@@ -75,17 +82,14 @@ fn put_stored(
     let rings = rings_in(lines);
     let turns = 8 * most_of(counts);
     let mut sent = 0;
-    let mut i = 0;
-    while i < turns {
+    for i in 0..turns {
         if 370 <= sent {
             return sent;
         }
         let k = i % 8;
-        let place = place_for(line, k as u32, counts[k], nexts[k], i / 8);
-        i += 1;
-        if 10 <= place {
+        let Some(place) = place_for(line, k as u32, counts[k], nexts[k], i / 8) else {
             continue;
-        }
+        };
         let pong = rings[k][place];
         let put = put_fresh(pong, clock, number, pinghops, &mut part[sent..]);
         sent += put;

@@ -1,5 +1,5 @@
 // Ten pongs are kept for each line; a new one takes the oldest's place.
-ghost use Rattle.std.specs.Prelude.{◌≡◌, ◌+◌, min};
+ghost use Rattle.std.specs.Prelude.{◌≡◌};
 ghost use Rattle.protocol.specs.Lines.{with_pong};
 ghost use Rattle.pinging.specs.Filled.{pong_filled};
 
@@ -15,13 +15,6 @@ pub fn first_bytes(payload: &[u8]) -> [u8; 14]
     bytes
 }
 
-// One more is kept, up to ten.
-fn one_more(count: usize) -> usize
-    ensures { result ≡ min 10 (count + 1) }
-{
-    if count < 10 { count + 1 } else { 10 }
-}
-
 // The line with an arrived pong at the ring's next place.
 pub fn store_pong(x: Line, bytes: [u8; 14], hops: u8, clock: u32) -> Line
     ensures { result ≡ with_pong x (record { bytes = bytes; hops = hops; clock = clock }) }
@@ -30,7 +23,7 @@ pub fn store_pong(x: Line, bytes: [u8; 14], hops: u8, clock: u32) -> Line
     let place = x.pongnext % 10;
     let mut kept = x;
     kept.pongs[place] = pong;
-    kept.pongcount = one_more(x.pongcount);
+    kept.pongcount = x.pongcount.min(9) + 1;
     kept.pongnext = (place + 1) % 10;
     kept
 }

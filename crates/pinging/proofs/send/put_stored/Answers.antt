@@ -17,19 +17,17 @@ returns-then-sent-ge370 c =
       few = c.loop-i.invariant.few;
     }
 
-pub loop-i-preserved-then-place-ge10 : goal.loop-i-preserved-then-place-ge10
-loop-i-preserved-then-place-ge10 c =
+pub loop-i-preserved-in_default : goal.loop-i-preserved-in_default
+loop-i-preserved-in_default c =
     let x = c.args in
     turned-past x.number x.pinghops _ c.loop-i.i c.loop-i.sent x.part.now
-    c.loop-i.part c.loop-i.invariant (omega arith) c.place_for-place.result c.place_for-place.ensures
-    c.if-place-ge10.true
+    c.loop-i.part c.loop-i.invariant (omega arith) 10 c.in_default.ensures.place (omega arith)
 
 pub loop-i-preserved : goal.loop-i-preserved
 loop-i-preserved c =
     let x = c.args in
     turned-put x.number x.pinghops _ c.loop-i.i c.loop-i.sent x.part.now
-    c.loop-i.part c.loop-i.invariant (omega arith) c.place_for-place.result c.place_for-place.ensures
-    c.if-place-ge10.false
+    c.loop-i.part c.loop-i.invariant (omega arith) c.in-Some.place c.in-Some.ensures.place c.in-Some.ensures.within
     (omega arith) (omega arith) c.put_fresh-put.result _ c.put_fresh-put.ensures.few c.put_fresh-put.ensures.stored_put
 
 pub shape_of-part : goal.shape_of-part

@@ -15,16 +15,16 @@ pub returns-then-not-is_other-clause-place : goal.returns-then-not-is_other-clau
 unfolding place_for
 returns-then-not-is_other-clause-place c =
     elim c.then-not-is_other.branch [
-      then-not-is_other-via-then-not-is_other w ↦ rw (sym c.is_other.ensures ∙ w.if-not-is_other.true)
+      | then-not-is_other-via-then-not-is_other w ↦ rw (sym c.is_other.ensures ∙ w.if-not-is_other.true)
       | then-not-is_other-via-else-not-is_other+then-count-gt10 w ↦
-        let other = sym c.is_other.ensures ∙ w.if-not-is_other.false in
-        simp (other, lt-leb _ _ w.if-count-gt10.true)
+          let other = sym c.is_other.ensures ∙ w.if-not-is_other.false in
+          simp (other, lt-leb _ _ w.if-count-gt10.true)
       | then-not-is_other-via-else-not-is_other+else-count-gt10+then-next-ge10 w ↦
-        let other = sym c.is_other.ensures ∙ w.if-not-is_other.false in
-        simp (other, le-leb _ _ w.if-count-gt10.false, le-ltb _ _ w.if-next-ge10.true)
+          let other = sym c.is_other.ensures ∙ w.if-not-is_other.false in
+          simp (other, le-leb _ _ w.if-count-gt10.false, le-ltb _ _ w.if-next-ge10.true)
       | then-not-is_other-via-else-not-is_other+else-count-gt10+else-next-ge10+then-count-rank w ↦
-        let other = sym c.is_other.ensures ∙ w.if-not-is_other.false in
-        simp (other, le-leb _ _ w.if-count-gt10.false, lt-ltb _ _ w.if-next-ge10.false, le-ltb _ _ w.if-count-rank.true)
+          let other = sym c.is_other.ensures ∙ w.if-not-is_other.false in
+          simp (other, le-leb _ _ w.if-count-gt10.false, lt-ltb _ _ w.if-next-ge10.false, le-ltb _ _ w.if-count-rank.true)
     ]
 
 -- the rank is kept
