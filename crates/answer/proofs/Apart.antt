@@ -1,11 +1,12 @@
--- No two refusals have one number.
+-- No two refusals have one number, and none has 0.
 use Rattle.std.proofs.Common.{ℕ, ◌≡◌, refl, sym, ap, ◌∙◌, List, [], ◌∷◌, get_or}
 use Rattle.answer.specs.declared.Refusal.{Refusal}
 use Rattle.answer.specs.declared.Refusal.TheVariants.{NotInOrder, BadArea, BadLine, NotWhole, TooLong, BadPayload, UnknownType}
 use Rattle.answer.specs.declared.Refusal.TheVariants.{BadTtlOrHops, Repeated, NotFound, AskerClosed, HopsFull, PingTooSoon}
 use Rattle.answer.specs.declared.Refusal.TheVariants.{BadUpdate, OutOfTurn, EntryOutOfRange, BadHandshake, NoGroupEnd, Shut}
 use Rattle.answer.specs.declared.Refusal.TheVariants.{ListFull, AnsweredEnough}
-use Rattle.answer.specs.Numbers.{number_of, TellsApart}
+use Rattle.std.specs.Prelude.{Result, Ok, Err}
+use Rattle.answer.specs.Numbers.{number_of, answer_of, TellsApart}
 
 -- the refusals from 1 on, at the places of their numbers
 refusals : List Refusal
@@ -68,3 +69,8 @@ never_zero NoGroupEnd e = cc
 never_zero Shut e = cc
 never_zero ListFull e = cc
 never_zero AnsweredEnough e = cc
+
+-- what ends with no refusal is answered 0
+pub done_is : {A : Type 0} (r : Result A Refusal) → ((e : Refusal) → r ≡ Err e → ⊥) → answer_of r ≡ 0
+done_is (Ok x) none = refl
+done_is (Err e) none = absurd (none e refl)

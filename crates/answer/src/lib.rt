@@ -1,7 +1,7 @@
 // Floor 1: why a call is refused, by name, and the number that RULES 2.1 gives each refusal.
 #![tactic(auto)]
 
-ghost use Rattle.std.specs.Prelude.{◌≡◌};
+ghost use Rattle.std.specs.Prelude.{◌≡◌, cond};
 ghost use Rattle.answer.specs.Numbers.{number_of, answer_of};
 
 // The refusals; each has its number in RULES 2.1, where the table says when it is given.
@@ -46,4 +46,12 @@ pub fn answer<T: Copy>(outcome: Result<T, Refusal>) -> u8
         Ok(_) => 0,
         Err(refusal) => u8::from(refusal),
     }
+}
+
+// Refused so, unless this holds.
+#[inline]
+pub fn require(holds: bool, refusal: Refusal) -> Result<(), Refusal>
+    ensures { result ≡ cond holds (Ok tt) (Err refusal) }
+{
+    if holds { Ok(()) } else { Err(refusal) }
 }

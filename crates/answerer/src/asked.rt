@@ -6,8 +6,8 @@ ghost use Rattle.protocol.specs.Queries.{has_text};
 ghost use Rattle.protocol.specs.Calls.{extent_rules};
 ghost use Rattle.answering.specs.Writing.{asked_rules, asked_text};
 
+use answer::answer;
 use forwarding::texts::text_length;
-use protocol::Lookup;
 use wire::{HEADER_SIZE, Kind, LARGEST_PAYLOAD, copy_onto, read_header};
 
 // 4 and 5 for a message of which `len` bytes are there, and whose header says `size` for its payload.
@@ -42,17 +42,7 @@ pub(crate) fn query_answer(limit: u8, query: &[u8]) -> u8
     let end = HEADER_SIZE + (h.size as usize);
     let text = text_length(&query[HEADER_SIZE..end]);
     // the number is not looked up: nothing is known of it
-    refusals::query(
-        limit,
-        h,
-        text.ended,
-        Lookup {
-            found: false,
-            after: 0,
-            asker: 0,
-            hits: 0,
-        },
-    )
+    answer(refusals::query(limit, h, text.ended, None))
 }
 
 // The text of a query that is whole and has one.

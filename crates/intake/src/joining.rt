@@ -5,13 +5,6 @@ ghost use Rattle.intake.specs.Joining.{held_with};
 
 use wire::{HEADER_SIZE, Header, copy_onto, read_header};
 
-// How many of `count` bytes there are in an area of this length.
-pub fn there(length: usize, count: usize) -> usize
-    ensures { result ≡ min count length }
-{
-    if length < count { length } else { count }
-}
-
 // The first 23 of `count` held bytes and those brought, and zeros for the ones that are not there; fewer than 23 are
 // held.
 fn first_bytes(held: &[u8], count: usize, bytes: &[u8]) -> [u8; 23]
@@ -19,7 +12,7 @@ fn first_bytes(held: &[u8], count: usize, bytes: &[u8]) -> [u8; 23]
     ensures { result ≡ take 23 ((take count held.now ++ bytes.now) ++ replicate 23 0) }
 {
     let mut first = [0u8; 23];
-    let n = there(held.len(), count);
+    let n = count.min(held.len());
     copy_onto(&held[..n], &mut first);
     copy_onto(bytes, &mut first[n..]);
     first
@@ -32,22 +25,17 @@ pub fn joined_header(held: &[u8], count: usize, bytes: &[u8]) -> Header
     if count == 0 {
         return read_header(bytes);
     }
-    if HEADER_SIZE <= there(held.len(), count) {
+    if HEADER_SIZE <= count.min(held.len()) {
         return read_header(held);
     }
-    let first = first_bytes(held, count, bytes);
-    read_header(&first)
+    read_header(&first_bytes(held, count, bytes))
 }
 
 // The bytes stand in the held area from `at` on, if they have room there.
 pub fn hold(held: &mut [u8], at: usize, bytes: &[u8])
     ensures { held.new ≡ held_with at bytes.now held.old }
 {
-    if held.len() < at {
-        return;
+    if at <= held.len() && bytes.len() <= held.len() - at {
+        copy_onto(bytes, &mut held[at..]);
     }
-    if held.len() - at < bytes.len() {
-        return;
-    }
-    copy_onto(bytes, &mut held[at..]);
 }

@@ -2,6 +2,7 @@
 use mathlib.Core.Path.{◌≡◌, refl}
 use mathlib.Core.Bool.{Bool, true, false, ◌&&◌}
 use mathlib.Core.List.{List, [], ◌∷◌}
+use Rattle.std.specs.List.{list_all}
 use Rattle.laws.specs.Tests.{all}
 
 pub both_left : (x y : Bool) → (x && y) ≡ true → x ≡ true
@@ -24,3 +25,8 @@ module _ {A : Type 0} (f g : A → Bool) where
   all_more h [] e = refl
   all_more h (x ∷ xs) e = both_true (g x) (all g xs) (h x (both_left (f x) (all f xs) e))
       (all_more h xs (both_right (f x) (all f xs) e))
+
+-- as the library tests a list
+pub all-is : {A : Type 0} (f : A → Bool) (xs : List A) → all f xs ≡ list_all f xs
+all-is f [] = refl
+all-is f (x ∷ xs) = rw (all-is f xs)

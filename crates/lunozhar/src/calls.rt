@@ -3,7 +3,7 @@
 // comes back.
 ghost use Rattle.std.specs.Prelude.{◌≡◌, ◌%◌, false, length, set, get_or};
 ghost use Rattle.protocol.specs.Memory.{memory_of, number_from, number_in, capacity, memory_in_order, queries_in};
-ghost use Rattle.protocol.specs.Memory.{find, lookup_of};
+ghost use Rattle.protocol.specs.Memory.{find, lookup_of, lookup_in};
 ghost use Rattle.protocol.specs.Lines.{lives_in};
 ghost use Rattle.protocol.specs.State.{station_of};
 ghost use Rattle.protocol.specs.Order.{in_order};
@@ -73,7 +73,7 @@ fn survey_ring<'a>(
         result.order ≡ memory_in_order capacity (λ k. get_or (lives_in lines) k false) memory }
     ensures known { let memory = memory_of lo.now hi.now asker.now
         hits.now count next in
-        result.known ≡ lookup_of (find (queries_in capacity memory) (number_from low high)) }
+        lookup_in result.known ≡ lookup_of (find (queries_in capacity memory) (number_from low high)) }
 {
     let live = lives(lines);
     survey(lo, hi, asker, hits, count, next, live, low, high)
@@ -178,14 +178,11 @@ pub fn lunozhar_message_lent(
     let s = survey_ring(lo, hi, asker, hits, *count, *next, at, h.lo, h.hi);
     let a = arrive(s, room, at, line, clock, own, message, out, route);
     let by = (line % 8) as u8;
-    let known = s.known;
-    raise(hits, *next, known.after, a.answered);
+    raise(hits, *next, s.known, a.answered);
     remember(lo, hi, asker, hits, count, next, a.remember, h.lo, h.hi, by);
-    let after = a.line;
-    let report = a.report;
     Arrival {
-        line: after,
-        report,
+        line: a.line,
+        report: a.report,
     }
 }
 
@@ -223,16 +220,13 @@ pub fn lunozhar_feed_lent(
     let f = feed(s, room, at, line, clock, own, bytes, held, out, route);
     let a = f.action;
     let from = (line % 8) as u8;
-    let known = s.known;
-    raise(hits, *next, known.after, a.answered);
+    raise(hits, *next, s.known, a.answered);
     remember(
         lo, hi, asker, hits, count, next, a.remember, h.lo, h.hi, from,
     );
-    let after = a.line;
-    let report = a.report;
     Fed {
-        line: after,
-        report,
+        line: a.line,
+        report: a.report,
         within: f.within,
         waits: f.waits,
     }
@@ -291,9 +285,8 @@ pub fn lunozhar_look_up_lent<'a>(
     let bytes = number.bytes;
     let h = read_header(&bytes);
     let s = survey_ring(lo, hi, asker, hits, count, next, at, h.lo, h.hi);
-    let known = s.known;
     let order = in_order(s.order, room, at);
-    look_up(order, known)
+    Finding::from(look_up(order, s.known))
 }
 
 // The table to send the neighbour of a line, at the front of the output.
@@ -349,7 +342,5 @@ pub fn lunozhar_in_order_lent<'a>(
 pub fn lunozhar_count(tally: &mut Tally, answer: u8)
     ensures { tally.new ≡ counted tally.old answer }
 {
-    let old = *tally;
-    let new = tally::counted(old, answer);
-    *tally = new;
+    *tally = tally::counted(*tally, answer);
 }

@@ -11,7 +11,10 @@ use Rattle.laws.specs.Tests.{any}
 use Rattle.laws.specs.Ring.{places_before}
 use Rattle.laws.proofs.Truth.{both_true, all_more}
 use Rattle.laws.proofs.RingScan.{back-pos, places-more, places-rest}
-use Rattle.protocol.specs.declared.Lookup.{Lookup}
+use Rattle.std.specs.Prelude.{Option, Some, None}
+use Rattle.std.specs.Option.{is_some}
+use Rattle.protocol.specs.declared.Remembered.{Remembered}
+use Rattle.protocol.specs.Memory.{lookup_in}
 use Rattle.protocol.specs.Memory.{Memory, memory_of, Query, query_at, queries_in, number_from, no_twice}
 use Rattle.protocol.specs.Memory.{Found, Absent, At, later, pick_found, find, is_found, lookup_of}
 use Rattle.memory.specs.Queries.{queries_before}
@@ -31,13 +34,18 @@ found-any (x ∷ xs) q = by (same_as q x) (find xs q.number) (found-any xs q)
     by false Absent e = e
     by false (At n a h) e = e
 
+found-is : (r : Option Remembered) → is_some r ≡ (lookup_in r).found
+found-is None = refl
+found-is (Some x) = refl
+
 -- the number at the ring's next place, looked up among those before it
-pub found_before : (n : ℕ) (q : Memory) (hi : ℕ) (r : Lookup)
+pub found_before : (n : ℕ) (q : Memory) (hi : ℕ) (r : Option Remembered)
     → q.next < n → q.count ≤ n → hi ≡ get_or q.hi q.next 0
-    → r ≡ lookup_of (find (queries_in n q) (number_from (get_or q.lo q.next 0) hi))
-    → r.found ≡ any (same_as (query_at q q.next)) (queries_before n q)
+    → lookup_in r ≡ lookup_of (find (queries_in n q) (number_from (get_or q.lo q.next 0) hi))
+    → is_some r ≡ any (same_as (query_at q q.next)) (queries_before n q)
 found_before n q hi r h m e f =
-    rw (f, e, kept-all n q (rw (le-leb q.count n m, lt-ltb q.next n h)))
+    found-is r
+    ∙ rw (f, e, kept-all n q (rw (le-leb q.count n m, lt-ltb q.next n h)))
     (found-any (queries_before n q) (query_at q q.next))
 
 found_none : (f : Found) → is_found f ≡ false → f ≡ Absent

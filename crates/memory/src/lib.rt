@@ -12,12 +12,11 @@ pub mod places;
 pub mod remember;
 pub mod search;
 
-use protocol::Lookup;
+use protocol::Remembered;
 
 // Whether the remembered queries are in order, and what is known of a number.
-#[repr(C)]
 #[derive(Clone, Copy)]
 pub struct Survey {
     pub order: bool,
-    pub known: Lookup,
+    pub known: Option<Remembered>,
 }

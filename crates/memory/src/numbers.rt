@@ -50,7 +50,7 @@ fn no_twice_in<'a>(
 {
     let mut p = fill(lo, from, to, filter);
     while p < to {
-        let r = find(
+        let found = find(
             lo,
             hi,
             asker,
@@ -60,7 +60,7 @@ fn no_twice_in<'a>(
             lo[p],
             word_at(hi, p),
         );
-        if r.found {
+        if found.is_some() {
             return false;
         }
         p = fill(lo, p + 1, to, filter);

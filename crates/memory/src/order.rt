@@ -1,14 +1,14 @@
 // Whether the remembered queries are in order: no number twice, every asker an open line, here or gone, and no count of
 // hits over 200.
 ghost use Rattle.std.specs.Prelude.{◌≡◌, true, false, length, get_or};
-ghost use Rattle.protocol.specs.Memory.{capacity, memory_of, number_from, queries_in, find, lookup_of, memory_in_order};
+ghost use Rattle.protocol.specs.Memory.{capacity, memory_of, number_from, queries_in, find, lookup_of, lookup_in, memory_in_order};
 ghost use Rattle.memory.specs.Order.{Passed};
 
 use crate::Survey;
 use crate::askers::askers_fit;
 use crate::hits::hits_fit;
 use crate::numbers::no_twice;
-use crate::search::{absent, find};
+use crate::search::find;
 
 // Where they are in order, the filter has the numbers of all.
 fn in_order<'a>(
@@ -59,7 +59,7 @@ pub fn survey<'a>(
         result.order ≡ memory_in_order capacity (λ k. get_or live k false) before }
     ensures known { let before = memory_of lo.now hi.now asker.now
         hits.now count next in
-        result.known ≡ lookup_of (find (queries_in capacity before) (number_from low high)) }
+        lookup_in result.known ≡ lookup_of (find (queries_in capacity before) (number_from low high)) }
 {
     let mut filter = [0; 1024];
     let order = in_order(lo, hi, asker, hits, count, next, live, &mut filter);
@@ -67,8 +67,7 @@ pub fn survey<'a>(
     let word = filter[h];
     if order {
         if word | low != word {
-            let known = absent();
-            return Survey { order, known };
+            return Survey { order, known: None };
         }
     }
     let known = find(lo, hi, asker, hits, count, next, low, high);

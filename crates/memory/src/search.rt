@@ -1,21 +1,10 @@
 // Looking a query's number up among the remembered ones, the newest first.
 ghost use Rattle.std.specs.Prelude.{◌+◌, ◌<◌, ◌≤◌, ◌≡◌, length};
-ghost use Rattle.protocol.specs.Memory.{Absent, memory_of, number_from, queries_in, find, lookup_of};
+ghost use Rattle.protocol.specs.Memory.{memory_of, number_from, queries_in, find, lookup_of, lookup_in};
 ghost use Rattle.memory.specs.Queries.{queries_before, behind};
 
 use crate::places::{below, byte_at, word_at};
-use protocol::{Lookup, NOBODY};
-
-pub(crate) fn absent() -> Lookup
-    ensures { result ≡ lookup_of Absent }
-{
-    Lookup {
-        found: false,
-        after: 0,
-        asker: NOBODY,
-        hits: 0,
-    }
-}
+use protocol::Remembered;
 
 // The newest query with the number (a, b) among the n before place `from`, behind `passed` newer ones. One comparison
 // passes over nearly every other query.
@@ -29,27 +18,26 @@ fn newest<'a>(
     passed: usize,
     a: u64,
     b: u64,
-) -> Lookup
+) -> Option<Remembered>
     requires { (n ≤ from) × (from ≤ length lo.now) × (passed + n < 18446744073709551616) }
     ensures { let ring = memory_of lo.now hi.now asker.now hits.now n from in
-        result ≡ lookup_of (behind passed (find (queries_before (length lo.now) ring) (number_from a b))) }
+        lookup_in result ≡ lookup_of (behind passed (find (queries_before (length lo.now) ring) (number_from a b))) }
 {
     let mut i = 0;
     while i < n {
         let p = from - 1 - i;
         if lo[p] == a {
             if word_at(hi, p) == b {
-                return Lookup {
-                    found: true,
+                return Some(Remembered {
                     after: passed + i,
                     asker: byte_at(asker, p),
                     hits: byte_at(hits, p),
-                };
+                });
             }
         }
         i += 1;
     }
-    absent()
+    None
 }
 
 // What is remembered of the number (a, b).
@@ -62,19 +50,18 @@ pub fn find<'a>(
     next: usize,
     a: u64,
     b: u64,
-) -> Lookup
+) -> Option<Remembered>
     ensures { let ring = memory_of lo.now hi.now asker.now hits.now count next in
-        result ≡ lookup_of (find (queries_in (length lo.now) ring) (number_from a b)) }
+        lookup_in result ≡ lookup_of (find (queries_in (length lo.now) ring) (number_from a b)) }
 {
     let capacity = lo.len();
     let fits = (count <= capacity) & (next < capacity);
     if !fits {
-        return absent();
+        return None;
     }
     let first = below(count, next);
-    let r = newest(lo, hi, asker, hits, next, first, 0, a, b);
-    if r.found {
-        return r;
+    match newest(lo, hi, asker, hits, next, first, 0, a, b) {
+        Some(query) => Some(query),
+        None => newest(lo, hi, asker, hits, capacity, count - first, first, a, b),
     }
-    newest(lo, hi, asker, hits, capacity, count - first, first, a, b)
 }

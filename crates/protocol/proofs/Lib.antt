@@ -36,3 +36,4 @@ pub mod Extent
 pub mod Exactly
 pub mod HopsFull
 pub mod QueryText
+pub mod EachLine

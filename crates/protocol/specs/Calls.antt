@@ -1,6 +1,6 @@
 -- The six calls: fresh, opening, closing, an arriving message, an own query, a look-up. Contracts cite these. A rule
 -- takes what it reads; a call applies the rules to its state, and stores what they come to.
-use Rattle.std.specs.Prelude.{ℕ, ◌+◌, ◌*◌, ◌/◌, Bool, true, false, cond, not, ◌||◌, List, [], ◌∷◌, ◌++◌, eqb, ltb, length, replicate}
+use Rattle.std.specs.Prelude.{ℕ, ◌+◌, ◌*◌, ◌/◌, Bool, true, false, cond, not, ◌||◌, Result, Ok, Err, List, [], ◌∷◌, ◌++◌, eqb, ltb, length, replicate}
 use Rattle.laws.specs.Tests.{first_of, any}
 use Rattle.laws.specs.Parts.{over}
 use Rattle.wire.specs.Header.{
@@ -16,9 +16,12 @@ use Rattle.wire.specs.Header.{
   query_type,
   hit_type,
 }
+use Rattle.answer.specs.declared.Refusal.{Refusal}
+use Rattle.answer.specs.Numbers.{number_of}
 use Rattle.tables.specs.Updates.{update_answer, updated}
 use Rattle.protocol.specs.declared.Line.{Line}
-use Rattle.protocol.specs.declared.Lookup.{Lookup}
+use Rattle.protocol.specs.Memory.{Lookup}
+use Rattle.protocol.specs.declared.Remembered.{Remembered}
 use Rattle.protocol.specs.declared.Age.{Age}
 use Rattle.protocol.specs.declared.Finding.{Finding}
 use Rattle.protocol.specs.declared.Report.{Report}
@@ -170,6 +173,11 @@ found_by asker after = record { answer = 0; asker = asker; after = after }
 
 abbrev pub unfound : ℕ → Finding
 unfound n = record { answer = n; asker = nobody_asked; after = 0 }
+
+-- as the code tells it
+abbrev pub finding_in : Result Remembered Refusal → Finding
+finding_in (Ok query) = found_by query.asker query.after
+finding_in (Err refusal) = unfound (number_of refusal)
 
 abbrev pub pick_finding : Bool → Finding → Finding → Finding
 pick_finding true a b = a

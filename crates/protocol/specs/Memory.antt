@@ -1,9 +1,9 @@
 -- The remembered queries: the last 512 (RULES 7.3), as a newest-first list over a ring.
-use Rattle.std.specs.Prelude.{ℕ, suc, ◌+◌, ◌%◌, min, ◌≡◌, Bool, true, false, cond, not, ◌&&◌, ◌||◌, List, [], ◌∷◌, map, eqb, leb, ltb, get_or, set, take, drop}
+use Rattle.std.specs.Prelude.{ℕ, suc, ◌+◌, ◌%◌, min, ◌≡◌, Bool, true, false, cond, not, ◌&&◌, ◌||◌, Option, Some, None, List, [], ◌∷◌, map, eqb, leb, ltb, get_or, set, take, drop}
 use Rattle.laws.specs.Tests.{first_of, any, every, all}
 use Rattle.laws.specs.Bytes.{little}
 use Rattle.laws.specs.Ring.{kept_places, onward, ring_place}
-use Rattle.protocol.specs.declared.Lookup.{Lookup}
+use Rattle.protocol.specs.declared.Remembered.{Remembered}
 use Rattle.protocol.specs.declared.Age.{Age}
 use Rattle.protocol.specs.Lines.{line_count}
 
@@ -111,9 +111,20 @@ abbrev pub hits_of : Found → ℕ
 hits_of Absent = 0
 hits_of (At n a h) = h
 
--- as the code hands it on, and the rules read it
+-- as the rules read it
+pub record Lookup : Type 0 where
+  pub found : Bool
+  pub after : ℕ
+  pub asker : ℕ
+  pub hits : ℕ
+
 abbrev pub lookup_of : Found → Lookup
 lookup_of f = record { found = is_found f; after = after_of f; asker = asker_of f; hits = hits_of f }
+
+-- what the code knows of a number, as the rules read it
+abbrev pub lookup_in : Option Remembered → Lookup
+lookup_in None = record { found = false; after = 0; asker = nobody_asked; hits = 0 }
+lookup_in (Some r) = record { found = true; after = r.after; asker = r.asker; hits = r.hits }
 
 -- where a query is found, it stands: the look-up tells its place in the ring
 abbrev pub FoundThere : Type 0
@@ -129,6 +140,11 @@ no_age = record { known = false; after = 0 }
 
 abbrev pub age_after : ℕ → Age
 age_after n = record { known = true; after = n }
+
+-- as the code tells it
+abbrev pub age_in : Option ℕ → Age
+age_in None = no_age
+age_in (Some n) = age_after n
 
 abbrev pub pick_age : Bool → Age → Age → Age
 pick_age true a b = a

@@ -5,6 +5,11 @@
 
 pub mod lines;
 
+ghost use Rattle.std.specs.Prelude.{◌≡◌};
+ghost use Rattle.protocol.specs.Memory.{age_in};
+ghost use Rattle.protocol.specs.Calls.{finding_in};
+
+use answer::Refusal;
 use tables::Table;
 use wire::LARGEST_PAYLOAD;
 
@@ -77,12 +82,10 @@ pub struct Own {
     pub calls: bool,
 }
 
-// What a look-up of a number finds among the remembered queries: whether it is there, how many were remembered after
-// it, who asked, and how many hits of it were passed back or delivered.
-#[repr(C)]
+// What is known of a number that is among the remembered queries: how many were remembered after it, who asked, and how
+// many hits of it were passed back or delivered.
 #[derive(Clone, Copy)]
-pub struct Lookup {
-    pub found: bool,
+pub struct Remembered {
     pub after: usize,
     pub asker: u8,
     pub hits: u8,
@@ -91,10 +94,21 @@ pub struct Lookup {
 // The age of a query: whether its number was looked up and found, and how many queries were remembered after it, which
 // is 0 for the newest, and where there is no age.
 #[repr(C)]
-#[derive(Clone, Copy)]
+#[derive(Clone, Copy, Default)]
 pub struct Age {
     pub known: bool,
     pub after: usize,
+}
+
+impl From<Option<usize>> for Age {
+    ghost from_gives = { λ after age. age ≡ age_in after };
+
+    fn from(after: Option<usize>) -> Age {
+        match after {
+            Some(after) => Age { known: true, after },
+            None => Age::default(),
+        }
+    }
 }
 
 // What a caller is told of a look-up: the answer, who asked, and how many queries were remembered after it. Refused, it
@@ -107,12 +121,31 @@ pub struct Finding {
     pub after: usize,
 }
 
+impl From<Result<Remembered, Refusal>> for Finding {
+    ghost from_gives = { λ outcome finding. finding ≡ finding_in outcome };
+
+    fn from(outcome: Result<Remembered, Refusal>) -> Finding {
+        match outcome {
+            Ok(query) => Finding {
+                answer: 0,
+                asker: query.asker,
+                after: query.after,
+            },
+            Err(refusal) => Finding {
+                answer: u8::from(refusal),
+                asker: NOBODY,
+                after: 0,
+            },
+        }
+    }
+}
+
 // What a caller is told of a message or an own query: the answer, the bytes it used of the message and wrote to the
 // output area, the lines to send those to, whether a query is offered to the local search (with its text's place and
 // length in the message), whether a hit is delivered here, and the age of the query that a hit answers or a query
 // repeats, where that was found.
 #[repr(C)]
-#[derive(Clone, Copy)]
+#[derive(Clone, Copy, Default)]
 pub struct Report {
     pub answer: u8,
     pub used: usize,

@@ -7,7 +7,6 @@ ghost use Rattle.relaying.specs.Calls.{told_by};
 use keeper::Keeper;
 use lunozhar::Number;
 use protocol::{Finding, Own, Report};
-use refusals::ages::no_age;
 use relaying::Made;
 
 // By which line the last call brought bytes, and whether the message that was taken stands in the held area.
@@ -31,14 +30,7 @@ pub(crate) struct Held {
 fn quiet(answer: u8) -> Report {
     Report {
         answer,
-        used: 0,
-        written: 0,
-        to: [false; 8],
-        search: false,
-        delivered: false,
-        textat: 0,
-        textlen: 0,
-        age: no_age(),
+        ..Report::default()
     }
 }
 

@@ -23,7 +23,7 @@ use Rattle.tables.specs.Updates.{Updated}
 use Rattle.tables.specs.Tables.{Held, held_in}
 use Rattle.tables.specs.Updates.{update_answer, updated, answered, part_with}
 use Rattle.protocol.specs.declared.Line.{Line}
-use Rattle.protocol.specs.declared.Lookup.{Lookup}
+use Rattle.protocol.specs.Memory.{Lookup}
 use Rattle.protocol.specs.declared.Age.{Age}
 use Rattle.protocol.specs.declared.Report.{Report}
 use Rattle.protocol.specs.Memory.{no_age, age_after, pick_age, age_behind}

@@ -15,7 +15,12 @@ use borrow.Author.Tests.{le-leb, eq-eqb, ne_eqb, eqb-true, ltb-true, ltb-false, 
 use Rattle.laws.specs.Parts.{over}
 use Rattle.laws.specs.Tests.{first_of, any, all, every}
 use Rattle.laws.proofs.Refusals.{or_fst, or_snd, no-refusal, NoRefusal}
+use Rattle.std.specs.Prelude.{Result as Named}
+use Rattle.std.specs.Prelude.{Ok, Err}
 use Rattle.wire.specs.declared.Header.{Header}
+use Rattle.wire.specs.declared.Kind.{Kind}
+use Rattle.wire.specs.declared.Kind.TheVariants.{Ping, Pong, RouteUpdate, Query, Hit}
+use Rattle.wire.specs.declared.UnknownKind.{UnknownKind}
 use Rattle.wire.specs.Header.{
   header_in,
   kind_of,
@@ -28,9 +33,11 @@ use Rattle.wire.specs.Header.{
   query_type,
   hit_type,
   message,
+  byte_of,
+  kind_named,
 }
 use Rattle.protocol.specs.declared.Line.{Line}
-use Rattle.protocol.specs.declared.Lookup.{Lookup}
+use Rattle.protocol.specs.Memory.{Lookup}
 use Rattle.protocol.specs.declared.Age.{Age}
 use Rattle.protocol.specs.declared.Report.{Report}
 use Rattle.protocol.specs.Memory.{Memory, no_age, age_after, pick_age, age_behind, memory_of, capacity, here, gone, Number, number_in, number_from, queries_in, find, lookup_of, no_twice, asker_fits, memory_in_order, hits_fit, remember_if, raised, raise, raise_if, left, left_all}
@@ -93,75 +100,63 @@ module _ (room : ℕ) (lines : List Line) (l : ℕ) (k : Lookup) (m : List ℕ) 
     rw (ne_eqb n 0 z),
   )
 
--- a message that no first refusal has met, its header, and types that are not its own
-abbrev NoneOf : List ℕ → List ℕ → Type 0
-NoneOf m [] = Unit {0}
-NoneOf m (kind ∷ kinds) = (eqb (kind_of m) kind ≡ false) × NoneOf m kinds
-
-pub record Other (n : ℕ) (h : Header) (m kinds : List ℕ) : Type 0 where
-  pub unrefused : n ≡ 0
-  pub header : h ≡ header_in m
-  pub others : NoneOf m kinds
-
-module _ {n : ℕ} {h : Header} {m kinds : List ℕ} (o : Other n h m kinds) (kind : ℕ) where
-  kind-is : kind_of m ≡ h.kind
-  kind-is = sym (ap (λ (h : Header). h.kind) o.header)
-
-  its : h.kind ≡ kind → eqb (kind_of m) kind ≡ true
-  its e = eq-eqb (kind_of m) kind (kind-is ∙ e)
-
-  pub not-its : (h.kind ≡ kind → ⊥) → Other n h m (kind ∷ kinds)
-  not-its e =
-      record {
-        unrefused = o.unrefused;
-        header = o.header;
-        others = (ne_eqb (kind_of m) kind (λ f. e (sym kind-is ∙ f)), o.others);
-      }
-
--- the types in the order in which they are asked for: all before the hit's are not its own
-abbrev pub after_ping : List ℕ
-after_ping = ping_type ∷ []
-
-abbrev pub after_pong : List ℕ
-after_pong = pong_type ∷ after_ping
-
-abbrev pub after_update : List ℕ
-after_update = route_update ∷ after_pong
-
-abbrev pub after_query : List ℕ
-after_query = query_type ∷ after_update
-
-abbrev pub after_hit : List ℕ
-after_hit = hit_type ∷ after_query
-
 -- it is done as its type's step is; x is its line's record as the step has it
 module _ (room : ℕ) (lines : List Line) (l : ℕ) (k : Lookup) (m : List ℕ) (t : Terms) (route out : List ℕ) where
   abbrev unchanged : Change
   unchanged = line_only (line_in lines l)
 
-  by-step : {n : ℕ} (r : Step) {a : Action} {out' route' : List ℕ} → n ≡ 0
-      → by_type usual_limit room lines l k m t route ≡ r
-      → Does r a out out' → route' ≡ r.route → Done room lines l k m t route out n a out' route'
-  by-step {n} r {a} {out'} {route'} z e d f =
-      rw (eq-eqb n 0 z) (subst (λ (r : Step). Does r a out out' × (route' ≡ r.route)) (sym e) (d, f))
+  -- the step of a type by its name
+  abbrev named : Named Kind UnknownKind → Step
+  named (Ok Ping) = ping_step lines l t m route
+  named (Ok Pong) = pong_step (line_in lines l) t.clock m route
+  named (Ok RouteUpdate) = update_step room l (line_in lines l) m route
+  named (Ok Query) = query_step usual_limit room lines l k m route
+  named (Ok Hit) = hit_step (line_in lines l) k m route
+  named (Err other) = quiet 7 unchanged route
 
-  module _ {n : ℕ} {h : Header} {a : Action} where
-    pub act-ping : Other n h m [] → h.kind ≡ ping_type → {out' : List ℕ}
+  -- the tests of the types, in their order, and the name that they come to
+  tests : (a b c d e : Bool) (other : UnknownKind)
+      → pick_result a (named (Ok Ping)) (pick_result b (named (Ok Pong)) (pick_result c (named (Ok RouteUpdate))
+      (pick_result d (named (Ok Query)) (pick_result e (named (Ok Hit)) (named (Err other))))))
+      ≡ named (cond a (Ok Ping) (cond b (Ok Pong) (cond c (Ok RouteUpdate) (cond d (Ok Query) (cond e (Ok Hit)
+      (Err other))))))
+  tests true b c d e other = refl
+  tests false true c d e other = refl
+  tests false false true d e other = refl
+  tests false false false true e other = refl
+  tests false false false false true other = refl
+  tests false false false false false other = refl
+
+  module _ {h : Header} (eh : h ≡ header_in m) {kind : Named Kind UnknownKind} (ek : kind ≡ kind_named h.kind) where
+    step-is : by_type usual_limit room lines l k m t route ≡ named kind
+    unfolding by_type
+    step-is =
+        tests (eqb (kind_of m) ping_type) (eqb (kind_of m) pong_type) (eqb (kind_of m) route_update)
+        (eqb (kind_of m) query_type) (eqb (kind_of m) hit_type) (record { 0 = kind_of m })
+        ∙ ap named (sym (ek ∙ ap (λ (h : Header). kind_named h.kind) eh))
+
+    done : {a : Action} {out' route' : List ℕ} → Does (named kind) a out out' → route' ≡ (named kind).route
+        → Done room lines l k m t route out 0 a out' route'
+    done {a} {out'} {route'} d f =
+        subst (λ (r : Step). Does r a out out' × (route' ≡ r.route)) (sym step-is) (d, f)
+
+  module _ {h : Header} (eh : h ≡ header_in m) {a : Action} where
+    pub act-ping : Ok Ping ≡ kind_named h.kind → {out' : List ℕ}
         → ((area : List ℕ) → Does (ping_step lines l t m area) a out out')
-        → Done room lines l k m t route out n a out' route
-    unfolding by_type ping_step
-    act-ping o e d =
-        by-step (ping_step lines l t m route) o.unrefused (rw (its o ping_type e)) (d route)
+        → Done room lines l k m t route out 0 a out' route
+    unfolding ping_step
+    act-ping e d =
+        done eh e (d route)
         (route-kept (first_of (ping_rules (line_in lines l).pinged (line_in lines l).pingtime t.clock (header_in m)))
         unchanged route
         (ping_taken lines l t m route) refl)
 
-    pub act-pong : {x : Line} → x ≡ line_in lines l → Other n h m after_ping → h.kind ≡ pong_type
+    pub act-pong : {x : Line} → x ≡ line_in lines l → Ok Pong ≡ kind_named h.kind
         → ((area : List ℕ) → a ≡ action_of (pong_step x t.clock m area))
-        → Done room lines l k m t route out n a out route
-    unfolding by_type pong_step
-    act-pong ex o e d =
-        by-step (pong_step (line_in lines l) t.clock m route) o.unrefused (rw (o.others.0, its o pong_type e))
+        → Done room lines l k m t route out 0 a out route
+    unfolding pong_step
+    act-pong ex e d =
+        done eh e
         (record {
           action = d route ∙ ap (λ (x : Line). action_of (pong_step x t.clock m route)) ex;
           output = silent (first_of (pong_rules (header_in m))) unchanged route stays out refl;
@@ -171,42 +166,61 @@ module _ (room : ℕ) (lines : List Line) (l : ℕ) (k : Lookup) (m : List ℕ) 
         stays : Step
         stays = quiet 0 (line_only (with_pong (line_in lines l) (arrived_pong t.clock m))) route
 
-    pub act-update : {x : Line} → x ≡ line_in lines l → Other n h m after_pong → h.kind ≡ route_update → {route' : List ℕ}
+    pub act-update : {x : Line} → x ≡ line_in lines l → Ok RouteUpdate ≡ kind_named h.kind → {route' : List ℕ}
         → a ≡ action_of (update_step room l x m route) → route' ≡ (update_step room l x m route).route
-        → Done room lines l k m t route out n a out route'
-    unfolding by_type update_step
-    act-update ex o e d f =
-        by-step (update_step room l (line_in lines l) m route) o.unrefused
-        (rw (o.others.1.0, o.others.0, its o route_update e))
+        → Done room lines l k m t route out 0 a out route'
+    unfolding update_step
+    act-update ex e d f =
+        done eh e
         (record { action = d ∙ ap (λ (x : Line). action_of (update_step room l x m route)) ex; output = refl })
         (f ∙ ap (λ (x : Line). (update_step room l x m route).route) ex)
 
-    pub act-query : Other n h m after_update → h.kind ≡ query_type → {out' : List ℕ}
+    pub act-query : Ok Query ≡ kind_named h.kind → {out' : List ℕ}
         → Does (query_step usual_limit room lines l k m route) a out out'
-        → Done room lines l k m t route out n a out' route
-    unfolding by_type query_step
-    act-query o e d =
-        by-step (query_step usual_limit room lines l k m route) o.unrefused
-        (rw (o.others.1.1.0, o.others.1.0, o.others.0, its o query_type e)) d
+        → Done room lines l k m t route out 0 a out' route
+    unfolding query_step
+    act-query e d =
+        done eh e d
         (route-kept (first_of (query_rules usual_limit (header_in m) (has_text (payload_of m)) k)) unchanged route
         (query_taken usual_limit room lines l m route) refl)
 
-    pub act-hit : {x : Line} → x ≡ line_in lines l → Other n h m after_query → h.kind ≡ hit_type → {out' : List ℕ}
-        → ((area : List ℕ) → Does (hit_step x k m area) a out out') → Done room lines l k m t route out n a out' route
-    unfolding by_type hit_step
-    act-hit ex o e {out'} d =
-        by-step (hit_step (line_in lines l) k m route) o.unrefused
-        (rw (o.others.1.1.1.0, o.others.1.1.0, o.others.1.0, o.others.0, its o hit_type e))
+    pub act-hit : {x : Line} → x ≡ line_in lines l → Ok Hit ≡ kind_named h.kind → {out' : List ℕ}
+        → ((area : List ℕ) → Does (hit_step x k m area) a out out') → Done room lines l k m t route out 0 a out' route
+    unfolding hit_step
+    act-hit ex e {out'} d =
+        done eh e
         (subst (λ (x : Line). Does (hit_step x k m route) a out out') ex (d route))
         (route-kept (first_of (hit_rules (header_in m) k)) unchanged route (hit_taken (line_in lines l) k m route) refl)
 
-    pub act-none : {x : Line} → x ≡ line_in lines l → Other n h m after_hit → a ≡ quiet_action 7 x
-        → Done room lines l k m t route out n a out route
-    unfolding by_type
-    act-none ex o d =
-        by-step (quiet 7 unchanged route) o.unrefused
-        (rw (o.others.1.1.1.1.0, o.others.1.1.1.0, o.others.1.1.0, o.others.1.0, o.others.0))
-        (record { action = d ∙ ap (λ (x : Line). quiet_action 7 x) ex; output = refl }) refl
+    pub act-none : {x : Line} → x ≡ line_in lines l → {other : UnknownKind} → Err other ≡ kind_named h.kind
+        → a ≡ quiet_action 7 x → Done room lines l k m t route out 0 a out route
+    act-none ex e d = done eh e (record { action = d ∙ ap (λ (x : Line). quiet_action 7 x) ex; output = refl }) refl
+
+-- a byte that is named is that of its name
+byte_in : Named Kind UnknownKind → ℕ
+byte_in (Ok kind) = byte_of kind
+byte_in (Err other) = other.0
+
+byte-back : (b : ℕ) → byte_in (kind_named b) ≡ b
+unfolding byte_in
+byte-back b = by (eqb b ping_type) (eqb b pong_type) (eqb b route_update) (eqb b query_type) (eqb b hit_type) refl refl refl
+    refl refl
+  where
+    by : (p q r s t : Bool) → eqb b ping_type ≡ p → eqb b pong_type ≡ q → eqb b route_update ≡ r → eqb b query_type ≡ s
+        → eqb b hit_type ≡ t
+        → byte_in (cond p (Ok Ping) (cond q (Ok Pong) (cond r (Ok RouteUpdate) (cond s (Ok Query) (cond t (Ok Hit)
+        (Err (record { 0 = b })))))))
+        ≡ b
+    by true q r s t e f g h i = sym (eqb-true b ping_type e)
+    by false true r s t e f g h i = sym (eqb-true b pong_type f)
+    by false false true s t e f g h i = sym (eqb-true b route_update g)
+    by false false false true t e f g h i = sym (eqb-true b query_type h)
+    by false false false false true e f g h i = sym (eqb-true b hit_type i)
+    by false false false false false e f g h i = refl
+
+pub kind-is : {kind : Kind} {b : ℕ} → Ok kind ≡ kind_named b → b ≡ byte_of kind
+unfolding byte_in
+kind-is {kind} {b} e = sym (ap byte_in e ∙ byte-back b)
 
 -- ---- the first refusal of a call, given what is read off the lines
 
@@ -273,11 +287,10 @@ module _ (lines : List Line) (room l : ℕ) {v : View} (ev : v ≡ view_of lines
 
   -- a line opened or closed: its record as it stands, or, where the answer is 0, another
   pub changed-is : (f : Bool → Bool → ℕ) (order live : Bool) {n : ℕ} → n ≡ f (order && v.order) v.line.live
-      → {y : Line} → y ≡ cond (eqb n 0) (empty_line live) v.line
-      → ◌≡◌ {A = LineChange} (record { answer = n; line = y })
-      (changed_by (f (both_in_order order room lines) (line_in lines l).live) live (line_in lines l))
-  changed-is f order live en ey =
-      rw ey (ap (λ k. changed_by k live v.line) en)
+      → {r : LineChange} → r ≡ changed_by n live v.line
+      → r ≡ changed_by (f (both_in_order order room lines) (line_in lines l).live) live (line_in lines l)
+  changed-is f order live en er =
+      er ∙ ap (λ k. changed_by k live v.line) en
       ∙ ap (λ (v : View). changed_by (f (order && v.order) v.line.live) live v.line) ev
 
 pub line-is : (lines : List Line) (room l : ℕ) {v : View} → v ≡ view_of lines room l → v.line ≡ line_in lines l
@@ -371,33 +384,30 @@ Arrives before line m t route a out out' route' =
 -- given what is read off the lines, the step is that of the definition
 module _ (order : Bool) (known : Lookup) (room : ℕ) (lines : List Line) (line : ℕ) (m : List ℕ) (t : Terms)
     (route out : List ℕ) {v : View} (ev : v ≡ view_of lines room (line % 8)) {h : Header} (eh : h ≡ header_in m) {n : ℕ}
-    (en : n ≡ first_of (early_rules (order && v.order) room t.out (length route) line
-    (get_or v.live (line % 8) false) (length m) h.size)) where
-  first : n ≡ first_refusal order room lines line m t.out (length route)
-  first =
-      en
-      ∙ ap (λ (v : View). first_of (early_rules (order && v.order) room t.out (length route) line
-      (get_or v.live (line % 8) false) (length m) h.size)) ev
-      ∙ ap (λ b. first_of (early_rules (both_in_order order room lines) room t.out (length route) line b
-      (length m) h.size)) (each_line-at (λ k. (line_in lines k).live) (line % 8) (omega arith))
-      ∙ ap (λ (h : Header). first_of (early_rules (both_in_order order room lines) room t.out (length route) line
-      (line_in lines (line % 8)).live (length m) h.size)) eh
+    (en : n ≡ first_of (early_rules (order && v.order) room t.out (length route) line v.line.live (length m) h.size))
+  where
+    first : n ≡ first_refusal order room lines line m t.out (length route)
+    first =
+        en
+        ∙ ap (λ (v : View). first_of (early_rules (order && v.order) room t.out (length route) line v.line.live
+        (length m) h.size)) ev
+        ∙ ap (λ (h : Header). first_of (early_rules (both_in_order order room lines) room t.out (length route) line
+        (line_in lines (line % 8)).live (length m) h.size)) eh
 
-  pub handed-by : {a : Action} {out' route' : List ℕ}
-      → Done room lines (line % 8) known m t route out n a out' route'
-      → {used : ℕ} → used ≡ cond (unused a.report.answer) 0 (23 + h.size)
-      → Handed (arrival_step order known room lines line m t route) m (used_by a used) out out' route'
-  unfolding arrival_step
-  handed-by {a} {out'} {route'} d {used} eu =
-      let e = subst (λ n. Done room lines (line % 8) known m t route out n a out' route') first d in
-      let u : used ≡ cond (unused a.report.answer) 0 (23 + size_of m)
-      = eu ∙ ap (λ (h : Header). cond (unused a.report.answer) 0 (23 + h.size)) eh in
-      record {
-        action = rw u
-            (ap (λ (a : Action). used_by a (cond (unused a.report.answer) 0 (23 + size_of m))) e.0.action);
-        output = e.0.output;
-        area = e.1;
-      }
+    pub handed-by : {a : Action} {out' route' : List ℕ}
+        → Done room lines (line % 8) known m t route out n a out' route'
+        → {b : Action} → b ≡ used_by a (cond (unused a.report.answer) 0 (23 + h.size))
+        → Handed (arrival_step order known room lines line m t route) m b out out' route'
+    unfolding arrival_step
+    handed-by {a} {out'} {route'} d eb =
+        let e = subst (λ n. Done room lines (line % 8) known m t route out n a out' route') first d in
+        record {
+          action = eb
+              ∙ ap (λ (h : Header). used_by a (cond (unused a.report.answer) 0 (23 + h.size))) eh
+              ∙ ap (λ (a : Action). used_by a (cond (unused a.report.answer) 0 (23 + size_of m))) e.0.action;
+          output = e.0.output;
+          area = e.1;
+        }
 
 module _ (room : ℕ) (lines : List Line) (q : Memory) (m : List ℕ) (t : Terms) (route out : List ℕ) where
   abbrev S : Station

@@ -17,7 +17,7 @@ use Rattle.laws.proofs.Refusals.{or_fst, or_snd, no-refusal, NoRefusal}
 use Rattle.wire.specs.declared.Header.{Header}
 use Rattle.wire.specs.Header.{header_in, size_of}
 use Rattle.protocol.specs.declared.Line.{Line}
-use Rattle.protocol.specs.declared.Lookup.{Lookup}
+use Rattle.protocol.specs.Memory.{Lookup}
 use Rattle.protocol.specs.Lines.{line_in, line_numbers}
 use Rattle.protocol.specs.State.{Change, line_only}
 use Rattle.protocol.specs.Outcomes.{Terms}
@@ -140,15 +140,6 @@ begun-extent p bytes {size} e = by (ltb (length p) 23) refl
     by true z = refl
     by false z = ap on (e ∙ size-more p bytes (ltb-false (length p) 23 z))
 
--- the bytes held of one line, among those of each
-pub count_at : (lines : List Line) (line : ℕ) {counts : List ℕ}
-    → counts ≡ map (λ k. (line_in lines k).pending.count) line_numbers
-    → get_or counts (line % 8) 0 ≡ (line_in lines (line % 8)).pending.count
-count_at lines line e =
-    ap (λ (l : List ℕ). get_or l (line % 8) 0) e
-    ∙ map-get_or (λ k. (line_in lines k).pending.count) line_numbers (line % 8) 0 0 (omega arith)
-    ∙ ap (λ k. (line_in lines k).pending.count) (numbers-at (line % 8) (omega arith))
-
 -- what is read off the lines, and off the held bytes and those brought: the view, how many bytes are held, the header,
 -- how many of the held bytes are there, what they are of a message, and the first refusal
 pub record Found (order : Bool) (known : Lookup) (room : ℕ) (lines : List Line) (line : ℕ) (bytes held : List ℕ)
@@ -270,6 +261,9 @@ module _ {order : Bool} {known : Lookup} {room : ℕ} {lines : List Line} {line 
             by (Four e) = absurd (eqb-false part 4 q (part-is ∙ e))
             by (Five e) = e
             by (Zero e) = absurd (w (part-is ∙ e))
+
+        pub too_large : eqb part 4 ≡ false → part ≡ 5
+        too_large q = part-is ∙ large q
 
         count-is : v.line.pending.count ≡ had
         count-is = ap (λ (v : View). v.line.pending.count) f.view

@@ -1,6 +1,7 @@
 // An own query: its refusals, and the lines it goes to.
 ghost use Rattle.std.specs.Prelude.{◌≡◌, List, ℕ, ◌≤◌, length};
 ghost use Rattle.protocol.specs.declared.Line.{Line};
+ghost use Rattle.protocol.specs.Memory.{lookup_in};
 ghost use Rattle.protocol.specs.Outcomes.{hands_up};
 ghost use Rattle.protocol.specs.Queries.{usual_limit};
 ghost use Rattle.station.specs.Actions.{view_of};
@@ -15,10 +16,9 @@ use memory::Survey;
 use protocol::{LIMIT, Line, Report};
 use refusals::ages::repeat_age;
 
-// An own query that is answered so is written where it goes to some line.
+// An own query that is not refused is written where it goes to some line.
 fn send_own(
     limit: u8,
-    answer: u8,
     room: usize,
     v: View,
     number: [u8; 16],
@@ -26,23 +26,19 @@ fn send_own(
     out: &mut [u8],
     route: &[u8],
 ) -> Report
-    requires { answer ≡ 0 → (length text.now ≤ 4093) × (4119 ≤ length out.old) }
+    requires { (length text.now ≤ 4093) × (4119 ≤ length out.old) }
     ensures { (lines : List Line) (l : ℕ) → v ≡ view_of lines room l
-        → Sends (own_query_sent limit answer room lines number text.now route.now) result out.old out.new }
+        → Sends (own_query_sent limit 0 room lines number text.now route.now) result out.old out.new }
 {
-    let mut report = quiet(answer);
-    if answer != 0 {
-        return report;
-    }
-    let live = v.live;
-    let tables = v.tables;
-    let to = passing(live, tables, room, route, text, limit);
-    report.to = to;
+    let to = passing(v.live, v.tables, room, route, text, limit);
     if !any_line(to) {
-        return report;
+        return Report { to, ..quiet(0) };
     }
-    report.written = own_query(number, limit, text, out);
-    report
+    Report {
+        written: own_query(number, limit, text, out),
+        to,
+        ..quiet(0)
+    }
 }
 
 // A query of this station's own, given whether the ring is in order and what it knows of the number, which the ring
@@ -56,25 +52,31 @@ pub fn ask(
     out: &mut [u8],
     route: &[u8],
 ) -> Report
-    ensures { let n = own_answer_by s.order s.known room lines text.now (length out.old) (length route.now) in
-        let age = own_age_by s.order s.known room lines text.now (length out.old) (length route.now) in
+    ensures { let known = lookup_in s.known in
+        let n = own_answer_by s.order known room lines text.now (length out.old) (length route.now) in
+        let age = own_age_by s.order known room lines text.now (length out.old) (length route.now) in
         let sent = own_query_sent usual_limit n room lines number text.now route.now in
         Sends (hands_up age sent) result out.old out.new }
 {
     let v = read_lines(lines, room, 0);
-    let zero = any_zero(text);
-    let known = s.known;
-    let answer = refusals::own(
+    let outcome = refusals::own(
         s.order & v.order,
         room,
         out.len(),
         route.len(),
         text.len(),
-        zero,
-        known,
+        any_zero(text),
+        s.known,
     );
-    let mut report = send_own(LIMIT, answer, room, v, number, text, out, route);
-    let age = repeat_age(answer, known);
-    report.age = age;
-    report
+    let age = repeat_age(outcome, s.known);
+    match outcome {
+        Ok(()) => Report {
+            age,
+            ..send_own(LIMIT, room, v, number, text, out, route)
+        },
+        Err(refusal) => Report {
+            age,
+            ..quiet(u8::from(refusal))
+        },
+    }
 }

@@ -1,11 +1,14 @@
 // A fresh state, and lines opened and closed.
 ghost use Rattle.std.specs.Prelude.{◌≡◌, cond, ◌%◌, eqb};
+ghost use Rattle.std.specs.Result.{result_unwrap_or};
+ghost use Rattle.answer.specs.Numbers.{answer_of};
 ghost use Rattle.protocol.specs.Memory.{gone};
 ghost use Rattle.protocol.specs.Lines.{empty_line};
 ghost use Rattle.protocol.specs.Calls.{fresh_room, fresh_answer};
-ghost use Rattle.station.specs.Calls.{begun_over, opened_by, closed_by};
+ghost use Rattle.station.specs.Calls.{begun_over, changed_by, opened_by, closed_by};
 
 use crate::lines::read_lines;
+use answer::{Refusal, answer};
 use protocol::{GONE, Line, Pending, Pong};
 use tables::no_table;
 
@@ -30,17 +33,10 @@ pub struct Beginning {
 fn empty_line(live: bool) -> Line
     ensures { result ≡ empty_line live }
 {
-    let bytes = [0u8; 14];
     let pong = Pong {
-        bytes,
+        bytes: [0; 14],
         hops: 0,
         clock: 0,
-    };
-    let pongs = [pong; 10];
-    let table = no_table();
-    let pending = Pending {
-        count: 0,
-        shut: false,
     };
     Line {
         live,
@@ -48,23 +44,25 @@ fn empty_line(live: bool) -> Line
         pingtime: 0,
         pongcount: 0,
         pongnext: 0,
-        pongs,
-        table,
-        pending,
+        pongs: [pong; 10],
+        table: no_table(),
+        pending: Pending {
+            count: 0,
+            shut: false,
+        },
     }
 }
 
-// The room for each neighbour's table in a route area of n bytes.
-fn room_of(n: usize) -> usize
-    ensures { result ≡ fresh_room n }
+// The room for each neighbour's table in a route area of n bytes; refused, the fresh state has none.
+fn room_of(n: usize) -> Result<usize, Refusal>
+    ensures answer { answer_of result ≡ fresh_answer n }
+    ensures room { result_unwrap_or result 0 ≡ fresh_room n }
 {
-    if n < 32 { 0 } else { n / 8 }
-}
-
-fn area_answer(n: usize) -> u8
-    ensures { result ≡ fresh_answer n }
-{
-    if n < 32 { 2 } else { 0 }
+    if n < 32 {
+        Err(Refusal::BadArea)
+    } else {
+        Ok(n / 8)
+    }
 }
 
 // The answer, the room and the lines of a fresh state over a route area of so many bytes.
@@ -72,24 +70,21 @@ pub fn begin(length: usize) -> Beginning
     ensures { result ≡ begun_over length }
 {
     let room = room_of(length);
-    let answer = area_answer(length);
-    let line = empty_line(false);
-    let lines = [line; 8];
     Beginning {
-        answer,
-        room,
-        lines,
+        answer: answer(room),
+        room: room.unwrap_or(0),
+        lines: [empty_line(false); 8],
     }
 }
 
-// The line's record after an opening or closing that is answered so.
-fn line_after(answer: u8, live: bool, x: Line) -> Line
-    ensures { result ≡ cond (eqb answer 0) (empty_line live) x }
+// A line with this record after an opening or closing that ends so.
+fn changed(outcome: Result<(), Refusal>, live: bool, x: Line) -> LineChange
+    ensures { result ≡ changed_by (answer_of outcome) live x }
 {
-    if answer != 0 {
-        return x;
+    LineChange {
+        answer: answer(outcome),
+        line: if outcome.is_ok() { empty_line(live) } else { x },
     }
-    empty_line(live)
 }
 
 // A line is opened, given whether the ring is in order. The record that comes back belongs at line % 8.
@@ -97,20 +92,15 @@ pub fn open_line(order: bool, room: usize, lines: [Line; 8], line: u32) -> LineC
     ensures { result ≡ opened_by order room lines line }
 {
     let v = read_lines(lines, room, line % 8);
-    let x = v.line;
-    let answer = refusals::opening(order & v.order, line, x.live);
-    let y = line_after(answer, true, x);
-    LineChange { answer, line: y }
+    let outcome = refusals::opening(order & v.order, line, v.line.live);
+    changed(outcome, true, v.line)
 }
 
 // The line whose queries are marked gone; gone itself, which marks nothing, where the closing is refused.
 pub fn leaver(answer: u8, line: u32) -> u8
     ensures { result ≡ cond (eqb answer 0) (line % 8) gone }
 {
-    if answer != 0 {
-        return GONE;
-    }
-    (line % 8) as u8
+    if answer == 0 { (line % 8) as u8 } else { GONE }
 }
 
 // A line is closed, given whether the ring is in order. The record that comes back belongs at line % 8; the ring
@@ -119,8 +109,6 @@ pub fn close_line(order: bool, room: usize, lines: [Line; 8], line: u32) -> Line
     ensures { result ≡ closed_by order room lines line }
 {
     let v = read_lines(lines, room, line % 8);
-    let x = v.line;
-    let answer = refusals::closing(order & v.order, line, x.live);
-    let y = line_after(answer, false, x);
-    LineChange { answer, line: y }
+    let outcome = refusals::closing(order & v.order, line, v.line.live);
+    changed(outcome, false, v.line)
 }

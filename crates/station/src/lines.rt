@@ -9,7 +9,6 @@ use protocol::Line;
 use tables::Table;
 
 // Whether all lines are in order, the record of one, and for each whether it is open, and its table.
-#[repr(C)]
 #[derive(Clone, Copy)]
 pub struct View {
     pub order: bool,
@@ -22,14 +21,7 @@ pub struct View {
 fn lines_in_order(lines: [Line; 8], room: usize) -> bool
     ensures { result ≡ lines_in_order room lines }
 {
-    let mut k = 0;
-    while k < 8 {
-        if !line_in_order(lines[k], room) {
-            return false;
-        }
-        k += 1;
-    }
-    true
+    lines.iter().all(|x| line_in_order(*x, room))
 }
 
 // Which lines are open.
@@ -52,14 +44,10 @@ pub fn lives(lines: [Line; 8]) -> [bool; 8]
 pub fn tables_of(lines: [Line; 8]) -> [Table; 8]
     ensures { result ≡ tables_in lines }
 {
-    let x = lines[0];
-    let table = x.table;
-    let mut tables = [table; 8];
+    let mut tables = [lines[0].table; 8];
     let mut k = 1;
     while k < 8 {
-        let x = lines[k];
-        let table = x.table;
-        tables[k] = table;
+        tables[k] = lines[k].table;
         k += 1;
     }
     tables
@@ -70,15 +58,10 @@ pub(crate) fn read_lines(lines: [Line; 8], room: usize, l: u32) -> View
     requires { l < 8 }
     ensures { result ≡ view_of lines room l }
 {
-    let order = lines_in_order(lines, room);
-    let live = lives(lines);
-    let tables = tables_of(lines);
-    let j = l as usize;
-    let line = lines[j];
     View {
-        order,
-        line,
-        live,
-        tables,
+        order: lines_in_order(lines, room),
+        line: lines[l as usize],
+        live: lives(lines),
+        tables: tables_of(lines),
     }
 }

@@ -9,6 +9,5 @@ use protocol::Line;
 pub fn in_order(order: bool, room: usize, lines: [Line; 8]) -> bool
     ensures { result ≡ both_in_order order room lines }
 {
-    let v = read_lines(lines, room, 0);
-    order & v.order
+    order & read_lines(lines, room, 0).order
 }

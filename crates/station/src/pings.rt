@@ -11,7 +11,7 @@ use pinging::answers::{is_probe, ping_answer, pong_answer};
 use pinging::number::number_of;
 use pinging::send::send_pongs;
 use pinging::store::{first_bytes, store_pong};
-use protocol::{Line, Own};
+use protocol::{Line, Own, Report};
 use wire::{HEADER_SIZE, Header};
 
 // The line after an accepted ping: a probe's time is not kept.
@@ -19,12 +19,14 @@ fn time_kept(x: Line, probe: bool, clock: u32) -> Line
     ensures { result ≡ time_kept x probe clock }
 {
     if probe {
-        return x;
+        x
+    } else {
+        Line {
+            pinged: true,
+            pingtime: clock,
+            ..x
+        }
     }
-    let mut y = x;
-    y.pinged = true;
-    y.pingtime = clock;
-    y
 }
 
 // Pongs go back to the ping's line, if any are written.
@@ -33,9 +35,10 @@ fn back_to(written: usize, l: u32) -> [bool; 8]
     ensures { result ≡ back_to written l }
 {
     if written == 0 {
-        return [false; 8];
+        [false; 8]
+    } else {
+        only_to(l as u8)
     }
-    only_to(l as u8)
 }
 
 // A ping by line l, which has the record x, with the eight lines whose stored pongs may answer it.
@@ -61,16 +64,13 @@ pub(crate) fn ping_step(
     let probe = is_probe(h);
     let number = number_of(m);
     let written = send_pongs(lines, l, clock, own, number, h.hops, probe, out);
-    let to = back_to(written, l);
-    let line = time_kept(x, probe, clock);
-    let mut report = quiet(0);
-    report.written = written;
-    report.to = to;
     Action {
-        report,
-        line,
-        remember: false,
-        answered: false,
+        report: Report {
+            written,
+            to: back_to(written, l),
+            ..quiet(0)
+        },
+        ..quietly(0, time_kept(x, probe, clock))
     }
 }
 
@@ -85,6 +85,5 @@ pub(crate) fn pong_step(x: Line, h: Header, clock: u32, m: &[u8]) -> Action
     }
     let n = HEADER_SIZE + h.size as usize;
     let bytes = first_bytes(&m[HEADER_SIZE..n]);
-    let y = store_pong(x, bytes, h.hops, clock);
-    quietly(0, y)
+    quietly(0, store_pong(x, bytes, h.hops, clock))
 }

@@ -20,9 +20,7 @@ pub(crate) fn update_step(
     ensures action { result ≡ action_of (update_step room l x m.now route.old) }
     ensures area { route.new ≡ (update_step room l x m.now route.old).route }
 {
-    let j = l as usize;
-    let start = j * room;
-    let end = start + room;
+    let start = l as usize * room;
     let n = HEADER_SIZE + h.size as usize;
     let mut y = x;
     let outcome = tablereader::updates::update(
@@ -30,7 +28,7 @@ pub(crate) fn update_step(
         h.ttl,
         h.hops,
         &m[HEADER_SIZE..n],
-        &mut route[start..end],
+        &mut route[start..start + room],
     );
     quietly(answer(outcome), y)
 }

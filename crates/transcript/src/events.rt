@@ -9,7 +9,6 @@ ghost use Rattle.transcript.specs.Text.{output_size, Answers, outcome_by, route_
 
 use keeper::Keeper;
 use protocol::{Age, Own, Report};
-use refusals::ages::no_age;
 
 // The kinds of events, by an event's first byte.
 #[derive(Clone, Copy, Debug, PartialEq, Eq)]
@@ -62,7 +61,7 @@ fn quiet(answer: u8) -> Answered
     Answered {
         answer,
         to: [false; 8],
-        age: no_age(),
+        age: Age::default(),
     }
 }
 

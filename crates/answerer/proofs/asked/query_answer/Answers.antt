@@ -31,4 +31,4 @@ returns c =
     _
     c.text_length-text.ensures
     _
-    c.query.ensures
+    (c.answer.ensures ∙ c.query.ensures)

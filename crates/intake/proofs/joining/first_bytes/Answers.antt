@@ -11,6 +11,6 @@ slice_bounds-copy_onto-end c = simp length-take (omega arith)
 pub returns : goal.returns
 returns c =
     let a = c.args in
-    two_copies 23 a.held.now a.bytes.now a.count c.there-n.result c.there-n.ensures
+    two_copies 23 a.held.now a.bytes.now a.count c.min-n.result c.min-n.ensures
     (omega (arith, c.requires)) _ _ c.copy_onto.ensures
     c.copy_onto-2.ensures

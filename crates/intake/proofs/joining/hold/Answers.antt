@@ -4,21 +4,11 @@ use Prim.Native.Nat.{◌+◌, ◌-◌}
 use native.Mathlib.Omega.{arith}
 use lib.ListN.{length}
 use Rattle.laws.proofs.Writing.{copied-part}
-use borrow.Author.Tests.{le-leb, lt-leb}
+use borrow.Author.Tests.{le-leb}
 use Rattle.intake.proofs.joining.hold.Goals as goal
 
-pub returns-then-held-at : goal.returns-then-held-at
-returns-then-held-at c =
-    let a = c.args in
-    rw (lt-leb (a.at + length a.bytes.now) (length a.held.now) (omega arith))
-
-pub returns-then-held-at-2 : goal.returns-then-held-at-2
-returns-then-held-at-2 c =
-    let a = c.args in
-    rw (lt-leb (a.at + length a.bytes.now) (length a.held.now) (omega arith))
-
-pub returns : goal.returns
-returns c =
+pub returns-then-bytes-held : goal.returns-then-bytes-held
+returns-then-bytes-held c =
     let a = c.args in
     rw (le-leb (a.at + length a.bytes.now) (length a.held.now) (omega arith))
     (copied-part a.at (length a.held.now - a.at) a.bytes.now a.held.now _ (omega arith) (omega arith)

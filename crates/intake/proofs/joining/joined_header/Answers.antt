@@ -14,17 +14,14 @@ returns-then-count-eq0 c =
     c.read_header.ensures
     ∙ sym (ap (λ n. header_in (take n a.held.now ++ a.bytes.now)) c.if-count-eq0.true)
 
-pub returns-then-there-ge-HEADER_SIZE : goal.returns-then-there-ge-HEADER_SIZE
-returns-then-there-ge-HEADER_SIZE c =
+pub returns-then-min-ge-HEADER_SIZE : goal.returns-then-min-ge-HEADER_SIZE
+returns-then-min-ge-HEADER_SIZE c =
     let a = c.args in
-    c.read_header-then-there-ge-HEADER_SIZE.ensures
+    c.read_header-then-min-ge-HEADER_SIZE.ensures
     ∙ sym (header-ahead a.count a.held.now a.bytes.now (omega arith) (omega arith))
-
-pub first_bytes-first-requires : goal.first_bytes-first-requires
-first_bytes-first-requires c = omega arith
 
 pub returns : goal.returns
 returns c =
     let a = c.args in
-    c.read_header-2.ensures ∙ ap header_in c.first_bytes-first.ensures
+    c.read_header-2.ensures ∙ ap header_in c.first_bytes.ensures
     ∙ header_padded (take a.count a.held.now ++ a.bytes.now) 23

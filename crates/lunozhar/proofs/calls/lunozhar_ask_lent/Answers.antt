@@ -1,6 +1,6 @@
 -- The ring is surveyed for the query's number, and takes it in where the answer is 0.
 use lib.Dec.{eqb}
-use Rattle.protocol.specs.Memory.{memory_of, here}
+use Rattle.protocol.specs.Memory.{memory_of, here, lookup_in}
 use Rattle.station.proofs.CallLaws.{surveyed_order, known_is, ring-after, own-met}
 use Rattle.lunozhar.proofs.calls.lunozhar_ask_lent.Goals as goal
 
@@ -15,5 +15,5 @@ returns c =
     c.remember.ensures in
     rw after
     (own-met a.room a.lines.at q a.number.bytes a.text.now a.route.now a.out.now
-    s.result.order order s.result.known (known_is a.number.bytes number q s.ensures.known)
+    s.result.order order (lookup_in s.result.known) (known_is a.number.bytes number q s.ensures.known)
     c.ask-report.ensures)

@@ -2,7 +2,7 @@
 -- back or delivered, and takes it in where it is to be remembered.
 use Prim.Native.Nat.{◌%◌}
 use lib.ListN.{length}
-use Rattle.protocol.specs.Memory.{memory_of}
+use Rattle.protocol.specs.Memory.{memory_of, lookup_in}
 use Rattle.protocol.specs.Lines.{line_in}
 use Rattle.protocol.specs.Outcomes.{terms_of}
 use Rattle.receiving.specs.Feeding.{joined}
@@ -25,4 +25,4 @@ returns c =
     rw after
     (feed-met a.room a.lines.at q a.bytes.now a.held.now
     (terms_of a.clock a.own (length a.out.now)) a.route.now a.line s.result.order order
-    s.result.known known c.feed-f.ensures)
+    (lookup_in s.result.known) known c.feed-f.ensures)

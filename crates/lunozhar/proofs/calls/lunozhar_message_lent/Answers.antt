@@ -2,7 +2,7 @@
 -- where it is to be remembered.
 use Prim.Native.Nat.{◌%◌}
 use lib.ListN.{length}
-use Rattle.protocol.specs.Memory.{memory_of}
+use Rattle.protocol.specs.Memory.{memory_of, lookup_in}
 use Rattle.protocol.specs.Outcomes.{terms_of}
 use Rattle.station.proofs.CallLaws.{surveyed_order, known_is, ring-counted, message-met}
 use Rattle.lunozhar.proofs.calls.lunozhar_message_lent.Goals as goal
@@ -20,5 +20,5 @@ returns c =
     c.raise.ensures c.remember.ensures in
     rw after
     (message-met a.room a.lines.at q a.message.now (terms_of a.clock a.own (length a.out.now))
-    a.route.now a.out.now a.line s.result.order order s.result.known
+    a.route.now a.out.now a.line s.result.order order (lookup_in s.result.known)
     known c.arrive-a.ensures)

@@ -17,16 +17,16 @@ loop-p-init c =
     let f = c.fill-p.ensures in
     (f.low, f.high, f.stopped, f.on a.hi.now a.asker.now a.hits.now a.passed c.requires.passed)
 
-pub returns-then-r : goal.returns-then-r
-returns-then-r c =
+pub returns-then-is_some : goal.returns-then-is_some
+returns-then-is_some c =
     let a = c.args in
     let p = c.loop-p.p in
     let ring = memory_of a.lo.now a.hi.now a.asker.now a.hits.now (a.passed + (p - a.from)) p in
     let told =
-    found_before (length a.lo.now) ring _ c.find-r.result (omega (arith, c.requires))
-    (omega (arith, c.requires)) c.word_at.ensures c.find-r.ensures in
+    found_before (length a.lo.now) ring _ c.find-found.result (omega (arith, c.requires))
+    (omega (arith, c.requires)) c.word_at.ensures c.find-found.ensures in
     twice-met (query_at ring) (length a.lo.now) a.from a.to a.passed p (search rules) (search rules)
-    c.requires.from_le_to.1 (sym told ∙ c.if-r.true)
+    c.requires.from_le_to.1 (sym told ∙ sym c.is_some.ensures ∙ c.if-is_some.true)
 
 pub fill-p-requires-in-loop-p : goal.fill-p-requires-in-loop-p
 fill-p-requires-in-loop-p c =
@@ -42,11 +42,11 @@ loop-p-preserved c =
     let n = a.passed + (l.p - a.from) in
     let ring = memory_of a.lo.now a.hi.now a.asker.now a.hits.now n l.p in
     let told =
-    found_before (length a.lo.now) ring _ c.find-r.result (omega (arith, c.requires))
-    (omega (arith, c.requires)) c.word_at.ensures c.find-r.ensures in
+    found_before (length a.lo.now) ring _ c.find-found.result (omega (arith, c.requires))
+    (omega (arith, c.requires)) c.word_at.ensures c.find-found.ensures in
     let one =
     passed_with (query_at ring) (length a.lo.now) l.p n l.filter l.filter (omega (arith, c.requires))
-    l.invariant.3 (sym told ∙ c.if-r.false) l.invariant.3.size (l.invariant.2 (search rules)) (λ _ e. e) in
+    l.invariant.3 (sym told ∙ sym c.is_some.ensures ∙ c.if-is_some.false) l.invariant.3.size (l.invariant.2 (search rules)) (λ _ e. e) in
     let f = c.fill-p-in-loop-p.ensures in
     let p = c.fill-p-in-loop-p.result in
     let e : n + 1 + (p - (l.p + 1)) ≡ a.passed + (p - a.from) = omega (arith, f.low) in (

@@ -17,7 +17,7 @@ returns-then-word-low c =
     let none = lacks-absent _ qs a.low a.high known c.if-word-low.true in
     record {
       order = rw e at o.ensures.result_value;
-      known = c.absent-known.ensures ∙ ap lookup_of (sym none);
+      known = ap lookup_of (sym none);
     }
 
 pub returns : goal.returns

@@ -1,14 +1,15 @@
--- Not taken, the ring is as it was; taken, it is stored place by place.
+-- Taken, it is stored place by place.
+use Prim.Native.Nat.{◌+◌, min}
+use mathlib.Core.Path.{◌≡◌}
 use native.Mathlib.Nat.{mod-add-mod}
+use native.Mathlib.Omega.{arith}
 use Rattle.protocol.specs.Memory.{remember}
 use Rattle.memory.proofs.remember.remember.Goals as goal
 
-pub returns-then-not-taken : goal.returns-then-not-taken
-returns-then-not-taken c = let e = c.if-not-taken.true in rw e
-
-pub returns : goal.returns
+pub returns-then-taken : goal.returns-then-taken
 unfolding remember
-returns c =
+returns-then-taken c =
     let a = c.args in
-    let e = c.if-not-taken.false in
-    rw (e, c.one_more.ensures, mod-add-mod a.next.now 512 1)
+    let e = c.if-taken.true in
+    let kept : c.min.result ≡ min 512 (a.count.now + 1) = omega (arith, c.min.ensures, c.saturating_add.ensures) in
+    rw (e, kept, mod-add-mod a.next.now 512 1)

@@ -57,4 +57,4 @@ returns c =
     let e =
     left_end (query_at ring) (length a.lo.now) (number_from a.a a.b) (a.from - l.i) (a.n - l.i)
     (a.passed + l.i) (omega arith) in
-    c.absent.ensures ∙ ap lookup_of (sym e ∙ l.invariant.1)
+    ap lookup_of (sym e ∙ l.invariant.1)

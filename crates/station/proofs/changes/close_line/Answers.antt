@@ -10,5 +10,5 @@ pub returns : goal.returns
 returns c =
     let a = c.args in
     changed-is a.lines a.room (a.line % 8) c.read_lines-v.ensures
-    (λ order live. first_of (closing_rules order a.line live)) a.order false c.closing-answer.ensures
-    c.line_after-y.ensures
+    (λ order live. first_of (closing_rules order a.line live)) a.order false c.closing-outcome.ensures
+    c.changed.ensures

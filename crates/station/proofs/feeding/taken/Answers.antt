@@ -5,6 +5,7 @@ use native.Mathlib.Omega.{arith}
 use mathlib.Core.Path.{sym}
 use lib.ListN.{length}
 use lib.Seq.{length-take-le}
+use Rattle.protocol.specs.Memory.{lookup_in}
 use Rattle.protocol.specs.Outcomes.{terms_of}
 use Rattle.station.proofs.FeedLaws.{rest-long, all-brought, all_held, all-held-long}
 use Rattle.station.proofs.FeedLaws.{message-fits-there, taken-brought, taken-held}
@@ -18,13 +19,13 @@ pub act-a-requires : goal.act-a-requires
 act-a-requires c =
     record {
       l_bound = c.requires.l_bound;
-      fit = λ _. message-fits-there c.requires.ends (all-brought c.requires.ends c.if-count-eq0.true);
+      fit = message-fits-there c.requires.ends (all-brought c.requires.ends c.if-count-eq0.true);
     }
 
 pub returns-then-count-eq0 : goal.returns-then-count-eq0
 returns-then-count-eq0 c =
     let a = c.args in
-    taken-brought a.known a.lines a.l (terms_of a.clock a.own (length a.out.now)) a.route.now
+    taken-brought (lookup_in a.known) a.lines a.l (terms_of a.clock a.own (length a.out.now)) a.route.now
     a.out.now c.requires.ends c.if-count-eq0.true (c.act-a.ensures.does, c.act-a.ensures.area) c.whole_feeding.ensures
 
 pub slice_bounds-hold-length : goal.slice_bounds-hold-length
@@ -38,7 +39,7 @@ pub act-a-requires-2 : goal.act-a-requires-2
 act-a-requires-2 c =
     record {
       l_bound = c.requires.l_bound;
-      fit = λ _. message-fits-there c.requires.ends (all_held c.requires.ends c.hold.ensures);
+      fit = message-fits-there c.requires.ends (all_held c.requires.ends c.hold.ensures);
     }
 
 pub overflow_sub-n : goal.overflow_sub-n
@@ -48,6 +49,6 @@ overflow_sub-n c =
 pub returns : goal.returns
 returns c =
     let a = c.args in
-    taken-held a.known a.lines a.l (terms_of a.clock a.own (length a.out.now)) a.route.now
+    taken-held (lookup_in a.known) a.lines a.l (terms_of a.clock a.own (length a.out.now)) a.route.now
     a.out.now c.requires.ends c.if-count-eq0.false c.hold.ensures (c.act-a-2.ensures.does, c.act-a-2.ensures.area)
     c.whole_feeding-2.ensures

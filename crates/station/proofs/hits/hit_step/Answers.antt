@@ -1,45 +1,52 @@
 -- Refused, delivered here, or passed on.
 use native.Mathlib.Omega.{arith}
-use mathlib.Core.Path.{ap}
+use mathlib.Core.Path.{◌≡◌, refl, sym, ap, ◌∙◌}
+use Rattle.std.specs.Prelude.{Option}
 use Rattle.wire.specs.declared.Header.{Header}
+use Rattle.answer.proofs.Apart.{never_zero}
+use Rattle.protocol.specs.declared.Remembered.{Remembered}
+use Rattle.protocol.specs.Memory.{lookup_in}
+use Rattle.protocol.specs.Outcomes.{only_to}
 use Rattle.station.proofs.ActionLaws.{Goes, hit-goes, hit-refused, hit-here, hit-on}
-use Rattle.station.proofs.hits.hit_step.Goals.{After-hit-answer, Else-asker-eq-HERE, Start}
+use Rattle.station.proofs.hits.hit_step.Goals.{In-Ok, Else-query-eq-HERE}
 use Rattle.station.proofs.hits.hit_step.Goals as goal
 
--- where the hit's answer is told
-abbrev start : After-hit-answer → Start
-start c = (goal.at.After-hit-answer c).Start
-
-pub returns-then-answer-ne0 : goal.returns-then-answer-ne0
-returns-then-answer-ne0 c =
+pub returns-in-Err : goal.returns-in-Err
+returns-in-Err c =
     let a = c.args in
-    λ area. hit-refused a.line a.h a.known a.m.now area a.out.now c.requires
-    c.hit-answer.ensures c.hit_age-age.ensures c.if-answer-ne0.true c.refused.ensures
+    λ area. hit-refused a.line a.h (lookup_in a.known) a.m.now area a.out.now c.requires
+    c.in-Err.ensures.number c.hit_age-age.ensures (never_zero c.in-Err.refusal) c.refused.ensures
 
-pub returns-then-asker-eq-HERE : goal.returns-then-asker-eq-HERE
-returns-then-asker-eq-HERE c =
+-- who asked for what it answers
+asked : (c : In-Ok) → (lookup_in c.args.known).asker ≡ c.in-Ok.query.asker
+asked c = ap (λ (k : Option Remembered). (lookup_in k).asker) c.in-Ok.ensures.query
+
+pub returns-then-query-eq-HERE : goal.returns-then-query-eq-HERE
+returns-then-query-eq-HERE c =
     let a = c.args in
-    λ area. hit-here a.line a.h a.known a.m.now area a.out.now c.requires c.hit-answer.ensures
-    c.hit_age-age.ensures c.if-answer-ne0.false c.quiet-report.ensures c.if-asker-eq-HERE.true
+    λ area. hit-here a.line a.h (lookup_in a.known) a.m.now area a.out.now c.requires c.in-Ok.ensures.number
+    c.hit_age-age.ensures refl c.quiet.ensures
+    (asked (goal.at.returns-then-query-eq-HERE c).In-Ok ∙ c.if-query-eq-HERE.true)
 
 -- where it is to be passed on, its TTL and Hops allow it
-goes : (c : Else-asker-eq-HERE) → Goes c.args.h
+goes : (c : Else-query-eq-HERE) → Goes c.args.h
 goes c =
-    hit-goes c.args.h c.args.known c.hit-answer.ensures
-    c.if-answer-ne0.false c.if-asker-eq-HERE.false
+    hit-goes c.args.h (lookup_in c.args.known) c.in-Ok.ensures.number refl
+    (λ e. c.if-query-eq-HERE.false (sym (asked (goal.at.Else-query-eq-HERE c).In-Ok) ∙ e))
 
 pub overflow_sub-h : goal.overflow_sub-h
-overflow_sub-h c = omega (arith, (goes (goal.at.overflow_sub-h c).Else-asker-eq-HERE).lives)
+overflow_sub-h c = omega (arith, (goes (goal.at.overflow_sub-h c).Else-query-eq-HERE).lives)
 
 pub overflow_add-h : goal.overflow_add-h
 overflow_add-h c =
     let hops = ap (λ (h : Header). h.hops) c.requires.message.header in
-    omega (arith, (goes (goal.at.overflow_add-h c).Else-asker-eq-HERE).rises, hops, c.type_inv.m 18)
+    omega (arith, (goes (goal.at.overflow_add-h c).Else-query-eq-HERE).rises, hops, c.type_inv.m 18)
 
-pub returns : goal.returns
-returns c =
+pub returns-else-query-eq-HERE : goal.returns-else-query-eq-HERE
+returns-else-query-eq-HERE c =
     let a = c.args in
-    λ area. hit-on a.line a.h a.known a.m.now area a.out.now c.requires c.hit-answer.ensures
-    c.hit_age-age.ensures c.if-answer-ne0.false c.quiet-report.ensures c.if-asker-eq-HERE.false
+    let who = asked (goal.at.returns-else-query-eq-HERE c).In-Ok in
+    λ area. hit-on a.line a.h (lookup_in a.known) a.m.now area a.out.now c.requires c.in-Ok.ensures.number
+    c.hit_age-age.ensures refl c.quiet-else-query-eq-HERE.ensures (λ e. c.if-query-eq-HERE.false (sym who ∙ e))
     (λ i. omega (arith, c.type_inv.m i))
-    c.pass_on.ensures.count c.only_to-to.ensures c.pass_on.ensures.bytes
+    c.pass_on.ensures.count (c.only_to.ensures ∙ ap only_to (sym who)) c.pass_on.ensures.bytes

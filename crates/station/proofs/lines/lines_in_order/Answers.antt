@@ -1,37 +1,16 @@
--- The lines passed are in order: the test of those left is the test of all.
-use Prim.Native.Nat.{◌+◌, ◌≤◌}
-use mathlib.Core.Path.{refl, sym, ap, ◌∙◌}
-use mathlib.Core.Bool.{◌&&◌}
-use native.Mathlib.Omega.{arith}
-use lib.ListN.{length, drop, drop_of_length-le}
-use Rattle.laws.specs.Tests.{all}
-use Rattle.protocol.specs.Lines.{nowhere}
+-- The test of each.
+use mathlib.Core.Path.{◌≡◌, sym, ◌∙◌}
+use borrow.Author.Rules.{rules}
+use Rattle.std.proofs.Common.{tests}
+use Rattle.std.proofs.lemmas.Iterator.{YieldsList-from_slice}
+use Rattle.std.proofs.lemmas.Iterator.Search.{all_from_yields_List}
+use Rattle.laws.proofs.Truth.{all-is}
 use Rattle.protocol.specs.Order.{line_in_order}
-use Rattle.station.proofs.CallLaws.{all_from}
 use Rattle.station.proofs.lines.lines_in_order.Goals as goal
 
-pub loop-k-init : goal.loop-k-init
-loop-k-init c = (omega arith, refl)
-
-pub returns-then-not-line_in_order : goal.returns-then-not-line_in_order
-returns-then-not-line_in_order c =
-    sym
-    (sym c.loop-k.invariant.1 ∙ all_from (line_in_order c.args.room) c.args.lines c.loop-k.k
-    nowhere (omega arith) ∙ ap
-    (λ b. b && all (line_in_order c.args.room) (drop (c.loop-k.k + 1) c.args.lines))
-    (sym c.line_in_order.ensures ∙ c.if-not-line_in_order.true))
-
-pub loop-k-preserved : goal.loop-k-preserved
-loop-k-preserved c = (
-  omega arith,
-  sym
-      (sym c.loop-k.invariant.1 ∙ all_from (line_in_order c.args.room) c.args.lines c.loop-k.k
-      nowhere (omega arith) ∙ ap
-      (λ b. b && all (line_in_order c.args.room) (drop (c.loop-k.k + 1) c.args.lines))
-      (sym c.line_in_order.ensures ∙ c.if-not-line_in_order.false)),
-)
-
 pub returns : goal.returns
-returns c = let past : length c.args.lines ≤ c.loop-k.k = omega arith in
-    sym (ap (all (line_in_order c.args.room)) (drop_of_length-le c.args.lines past))
-    ∙ c.loop-k.invariant.1
+returns c =
+    let test = line_in_order c.args.room in
+    all_from_yields_List test _ _ _ c.all.ensures.ran (YieldsList-from_slice c.args.lines cc)
+    (λ x b q k. search (rules, tests))
+    ∙ sym (all-is test c.args.lines)

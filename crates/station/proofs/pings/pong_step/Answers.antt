@@ -22,4 +22,4 @@ returns c =
     let a = c.args in
     λ area. pong-done a.x a.h a.clock a.m.now area c.requires c.pong_answer-answer.ensures
     c.if-answer-ne0.false
-    c.first_bytes-bytes.ensures c.store_pong-y.ensures c.quietly-2.ensures
+    c.first_bytes-bytes.ensures c.store_pong.ensures c.quietly-2.ensures

@@ -14,8 +14,8 @@ overflow_mul-start c = let p = c.requires in
           (length c.args.route.now) p.eight p.rooms,
     )
 
-pub overflow_add-end : goal.overflow_add-end
-overflow_add-end c = let p = c.requires in
+pub overflow_add-start : goal.overflow_add-start
+overflow_add-start c = let p = c.requires in
     omega (
       arith,
       part-within c.args.l c.args.room

@@ -1,6 +1,0 @@
--- The areas' test is what its function ensures; the others are the rules' own.
-use mathlib.Core.Path.{◌∙◌}
-use Rattle.refusals.proofs.own.Goals as goal
-
-pub returns : goal.returns
-returns c = c.own_number.ensures ∙ rw c.unfit_areas.ensures
