@@ -1,15 +1,13 @@
 -- The least offset of the pairs passed.
 use Prim.Native.Nat.{◌<◌, ◌≤◌}
-use mathlib.Core.Logic.{◌⊎◌, inl, inr}
+use mathlib.Core.Logic.{◌⊎◌, inl, inr, ⊎_elim}
 use mathlib.Core.Path.{◌≡◌, ap, ◌∙◌}
 use native.Mathlib.Omega.{arith}
-use Rattle.std.specs.Prelude.{unwrap_or, IfSome}
+use Rattle.std.specs.Prelude.{Some, unwrap_or, IfSome}
 use Rattle.namearea.specs.Area.{count_in, span_at}
 use Rattle.namearea.proofs.SpanLaws.{pair-there}
 use Rattle.namelist.proofs.NextLaws.{lowest_start, lowest_step, lowest_end}
 use borrow.Author.Rules.{rules}
-use Rattle.namelist.proofs.gaps.least_from.Goals.{then-from-offset+then-offset-least, else-from-offset}
-use Rattle.namelist.proofs.gaps.least_from.Goals.{else-from-offset-via-then-from-offset+else-offset-least, else-from-offset-via-else-from-offset}
 use Rattle.namelist.proofs.gaps.least_from.Goals as goal
 
 pub loop-k-init : goal.loop-k-init
@@ -28,27 +26,14 @@ loop-k-preserved c =
     let b : o < 4294967296 = search rules in
     let v = c.loop-k in
     let now = c.if-from-offset in
-    let step : ((x.from ≤ o) × (o < v.least) × (unwrap_or now.best n ≡ k) × (now.least ≡ o))
-    ⊎ ((x.from ≤ o → v.least ≤ o) × (unwrap_or now.best n ≡ unwrap_or v.best n) × (now.least ≡ v.least)) =
-    elim c.if-from-offset.branch [
-      | then-from-offset+then-offset-least w ↦
-          inl (omega arith, omega arith, ap (λ b. unwrap_or b n) w.best-is, omega arith)
-      | else-from-offset w ↦
-          inr (
-            elim w.else-from-offset.branch [
-              | else-from-offset-via-then-from-offset+else-offset-least w' ↦ (λ p. omega arith)
-              | else-from-offset-via-else-from-offset w' ↦ (λ p. omega arith)
-            ],
-            ap (λ b. unwrap_or b n) w.best-is,
-            w.least-is,
-          )
-    ] in
-    let within : IfSome now.best (λ b. b < n) =
-    elim c.if-from-offset.branch [
-      | then-from-offset+then-offset-least w ↦ rw w.best-is h
-      | else-from-offset w ↦ rw w.best-is v.invariant.1
-    ] in
-    (lowest_step b v.invariant.0 h step, within)
+    let step : ((x.from ≤ o) × (o < v.least) × (now.best ≡ Some k) × (now.least ≡ o))
+    ⊎ ((x.from ≤ o → v.least ≤ o) × (now.best ≡ v.best) × (now.least ≡ v.least)) =
+    grind (arith, e) in (
+      lowest_step b v.invariant.0 h
+          (⊎_elim (λ w. inl (w.0, w.1, ap (λ m. unwrap_or m n) w.2, w.3))
+          (λ w. inr (w.0, ap (λ m. unwrap_or m n) w.1, w.2)) step),
+      ⊎_elim (λ w. rw w.2 h) (λ w. rw w.1 v.invariant.1) step,
+    )
 
 pub returns : goal.returns
 returns c =
