@@ -47,3 +47,5 @@ size-four n h b =
 
 pub size-five : (n : ℕ) → 10000 ≤ n → n < 100000 → length (decimal n) ≡ 5
 size-five n h b = omega (arith, size-more n (omega arith) (omega arith), size-four (n / 10) (omega arith) (omega arith))
+
+pub ruleset sizes = (size-one, size-two, size-three, size-four, size-five)

@@ -12,22 +12,17 @@ pub struct Digits {
 }
 
 // How many digits n has.
+#[tactic(auto, using(crate::proofs::Sizes::sizes))]
 pub fn size(n: u16) -> usize
     ensures { (result ≡ length (decimal n)) × (result ≤ 5) }
 {
-    if n < 10 {
-        return 1;
+    match n {
+        0..=9 => 1,
+        10..=99 => 2,
+        100..=999 => 3,
+        1000..=9999 => 4,
+        _ => 5,
     }
-    if n < 100 {
-        return 2;
-    }
-    if n < 1000 {
-        return 3;
-    }
-    if n < 10000 {
-        return 4;
-    }
-    5
 }
 
 // The last digit of n in ASCII.
@@ -49,7 +44,7 @@ pub fn spell(n: u16) -> Digits
     while m >= 10 {
         i -= 1;
         bytes[i] = last_digit(m);
-        m = m / 10;
+        m /= 10;
     }
     bytes[0] = last_digit(m);
     Digits { size, bytes }
