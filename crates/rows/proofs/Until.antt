@@ -1,22 +1,23 @@
--- What stands before a byte, when the next byte is read.
-use Prim.Native.Nat.{ℕ, ◌+◌, ◌<◌}
-use mathlib.Core.Path.{◌≡◌, sym, ap, ◌∙◌}
+-- What stands before a byte is what the library takes while no byte is that one.
+use Prim.Native.Nat.{ℕ, suc, ◌+◌}
+use mathlib.Core.Path.{◌≡◌, refl, ap}
+use mathlib.Core.Bool.{Bool, true, false, cond, not}
 use mathlib.Core.List.{List, [], ◌∷◌}
-use native.Mathlib.Numerals.{add-one}
-use lib.ListN.{length, get_or, drop}
-use lib.Seq.{drop-cons}
-use borrow.Author.Tests.{eq-eqb, ne_eqb}
+use native.Mathlib.Omega.{arith}
+use lib.Dec.{eqb}
+use lib.ListN.{take}
+use Rattle.std.specs.List.{prefix_len, take_while}
 use Rattle.rows.specs.Rows.{until}
 
--- the byte itself ends what stands before it, any other byte belongs to it
-module _ (b : ℕ) (l : List ℕ) (i : ℕ) (h : i < length l) where
-  pub until-here : get_or l i 0 ≡ b → until b (drop i l) ≡ []
-  unfolding until
-  until-here e = ap (until b) (drop-cons l i 0 h) ∙ (rw (eq-eqb (get_or l i 0) b e))
-
-  pub until-on : (get_or l i 0 ≡ b → ⊥) → until b (drop i l) ≡ get_or l i 0 ∷ until b (drop (i + 1) l)
-  unfolding until
-  until-on n =
-      ap (until b) (drop-cons l i 0 h)
-      ∙ (rw (ne_eqb (get_or l i 0) b n))
-      ∙ ap (λ k. get_or l i 0 ∷ until b (drop k l)) (sym (add-one i))
+pub until-taken : (b : ℕ) (s : List ℕ) → take_while (λ x. not (eqb x b)) s ≡ until b s
+unfolding until
+until-taken b [] = refl
+until-taken b (y ∷ ys) = by (eqb y b) (until-taken b ys)
+  where
+    by : (t : Bool) → take_while (λ x. not (eqb x b)) ys ≡ until b ys
+        → take (cond (not t) (1 + prefix_len (λ x. not (eqb x b)) ys) 0) (y ∷ ys) ≡ cond t [] (y ∷ until b ys)
+    by true e = refl
+    by false e =
+        let f : ℕ → Bool = λ x. not (eqb x b) in
+        let k : 1 + prefix_len f ys ≡ suc (prefix_len f ys) = omega arith in
+        rw k (ap (λ l. y ∷ l) e)

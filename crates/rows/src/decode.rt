@@ -7,10 +7,8 @@ use crate::words::put;
 
 fn fill(area: &mut [u8], at: usize, b: u8, times: u32) -> usize {
     let mut next = at;
-    let mut i: u32 = 0;
-    while i < times {
+    for _ in 0..times {
         next = put(&mut *area, next, b);
-        i += 1;
     }
     next
 }
@@ -23,120 +21,103 @@ pub(crate) fn put_number(area: &mut [u8], at: usize, n: usize) {
     }
 }
 
-fn digit(b: u8) -> u32 {
-    if b < 58 {
-        return (b % 16) as u32;
-    }
-    (b % 8) as u32 + 9
-}
-
-// Where reading stands behind this byte: 0 in text, 1 in hexadecimal, 2 and more behind the first digit of a byte, 32
-// and more behind a `*` and the digits that follow it.
-fn state_after(state: u32, b: u8) -> u32 {
-    if state == 0 {
-        return match b {
-            b'\\' => 1,
-            b'*' => 32,
-            _ => 0,
-        };
-    }
-    if 32 <= state {
-        if b == b'*' {
-            return 0;
-        }
-        return 32 + (state - 32) % 100000 * 10 + digit(b) % 16;
-    }
-    if b == b'\\' {
-        return 0;
-    }
-    if state == 1 {
-        return 2 + digit(b) % 16;
-    }
-    1
-}
-
-// What a letter of a text puts: a byte, and 256 for each time.
-fn letter(last: u32, b: u8) -> u32 {
-    match b {
-        b'_' => 256 + 32,
-        b'^' => 256 + 13,
-        b'~' | b'|' => 256 + 10,
-        b'>' => 256 + 9,
-        b'%' => 4 * 256,
-        b'\\' | b'*' => last,
-        _ => 256 + (b as u32),
-    }
-}
-
-// What a byte of the word puts, after the last byte put.
-fn puts(state: u32, last: u32, b: u8) -> u32
-    requires { last < 256 }
+fn digit(b: u8) -> u8
+    ensures { result < 16 }
 {
-    if state == 0 {
-        return letter(last, b);
-    }
-    if 32 < state {
-        if b == b'*' {
-            return (state - 33) % 1048576 * 256 + last;
+    if b < 58 { b % 16 } else { (b % 8 + 9) % 16 }
+}
+
+// Where reading stands behind a byte: in text, in hexadecimal, behind the first digit of a byte, or behind a `*` and the
+// digits that follow it.
+#[derive(Clone, Copy)]
+enum State {
+    Text,
+    Hexadecimal,
+    Digit(u8),
+    Times(u32),
+}
+
+impl State {
+    fn after(self, b: u8) -> State {
+        match self {
+            State::Text => match b {
+                b'\\' => State::Hexadecimal,
+                b'*' => State::Times(0),
+                _ => State::Text,
+            },
+            State::Times(_) if b == b'*' => State::Text,
+            State::Times(n) => State::Times(n % 100000 * 10 + u32::from(digit(b))),
+            _ if b == b'\\' => State::Text,
+            State::Hexadecimal => State::Digit(digit(b)),
+            State::Digit(_) => State::Hexadecimal,
         }
-        return last;
     }
-    if state == 32 {
-        return last;
-    }
-    if state == 1 {
-        return last;
-    }
-    256 + (state - 2) % 16 * 16 + digit(b) % 16
 }
 
-// A CR comes before the LF that `|` puts.
-fn returns(state: u32, b: u8) -> u32 {
-    if state != 0 {
-        return 0;
-    }
-    if b == b'|' {
-        return 1;
-    }
-    0
+// A byte, and how many times it is put.
+#[derive(Clone, Copy)]
+struct Run {
+    byte: u8,
+    times: u32,
 }
 
-// Where the bytes begin whose length a `%` stands for.
-fn body_after(b: u8, next: usize, body: usize) -> usize {
-    if b == b'%' {
-        return next;
+impl Run {
+    fn of(byte: u8, times: u32) -> Run {
+        Run { byte, times }
     }
-    body
+
+    // What a letter of a text puts.
+    fn letter(last: u8, b: u8) -> Run {
+        match b {
+            b'_' => Run::of(b' ', 1),
+            b'^' => Run::of(b'\r', 1),
+            b'~' | b'|' => Run::of(b'\n', 1),
+            b'>' => Run::of(b'\t', 1),
+            b'%' => Run::of(0, 4),
+            b'\\' | b'*' => Run::of(last, 0),
+            _ => Run::of(b, 1),
+        }
+    }
+
+    // What a byte of the word puts, after the last byte put.
+    fn new(state: State, last: u8, b: u8) -> Run {
+        match state {
+            State::Text => Run::letter(last, b),
+            State::Times(n) if b == b'*' && n > 0 => Run::of(last, (n - 1) % 1048576),
+            State::Digit(high) => Run::of(high % 16 * 16 + digit(b), 1),
+            _ => Run::of(last, 0),
+        }
+    }
 }
 
 // The length of the bytes from `body` on, in the four before them.
 fn put_length(area: &mut [u8], body: usize, end: usize) {
-    if body < 4 {
-        return;
-    }
-    if body <= end {
+    if 4 <= body && body <= end {
         put_number(area, body - 4, end - body);
     }
 }
 
-// The bytes of a word, from place `at` of the area on; where they end.
+// The bytes of a word, from place `at` of the area on; where they end. A CR comes before the LF that `|` puts.
 fn text(word: &[u8], area: &mut [u8], at: usize) -> usize {
     let mut next = at;
-    let mut body: usize = 0;
-    let mut state: u32 = 0;
-    let mut last: u32 = 0;
-    let mut i = 0;
-    while i < word.len() {
-        let b = word[i];
-        next = fill(&mut *area, next, 13, returns(state, b));
-        let put = puts(state, last, b);
-        last = put % 256;
-        next = fill(&mut *area, next, last as u8, put / 256);
-        body = body_after(b, next, body);
-        state = state_after(state, b);
-        i += 1;
+    let mut body = None;
+    let mut state = State::Text;
+    let mut last = 0;
+    for b in word {
+        if matches!(state, State::Text) && *b == b'|' {
+            next = put(&mut *area, next, b'\r');
+        }
+        let run = Run::new(state, last, *b);
+        last = run.byte;
+        next = fill(&mut *area, next, run.byte, run.times);
+        if *b == b'%' {
+            body = Some(next);
+        }
+        state = state.after(*b);
     }
-    put_length(area, body, next);
+    if let Some(body) = body {
+        put_length(area, body, next);
+    }
     next
 }
 

@@ -34,18 +34,15 @@ pub fn word(row: &[u8], k: usize, j: usize) -> &[u8]
 fn more(n: u32, digit: u8) -> u32
     ensures { result ≡ more n digit }
 {
-    let d = (digit % 16) as u64;
-    (((n as u64) * 10 + d) % 4294967296) as u32
+    n.wrapping_mul(10).wrapping_add(u32::from(digit % 16))
 }
 
 fn number_of(text: &[u8]) -> u32
     ensures { result ≡ decimal 0 text.now }
 {
-    let mut n: u32 = 0;
-    let mut i = 0;
-    while i < text.len() {
-        n = more(n, text[i]);
-        i += 1;
+    let mut n = 0;
+    for digit in text {
+        n = more(n, *digit);
     }
     n
 }
@@ -73,28 +70,17 @@ pub fn byte(row: &[u8], k: usize, j: usize) -> u8
 fn spaces(text: &[u8]) -> usize
     ensures { result < 4096 }
 {
-    let mut n: usize = 0;
-    let mut i = 0;
-    while i < text.len() {
-        if text[i] == b' ' {
-            n = n % 4095 + 1;
-        }
-        i += 1;
-    }
-    n % 4096
+    text.iter().filter(|b| **b == b' ').count() % 4096
 }
 
 // The bytes of each word of the text, and where each ends.
 fn put_words(text: &[u8], area: &mut [u8], first: usize) -> usize {
     let mut end = first;
-    let mut slot: usize = 8;
-    let mut at: usize = 0;
-    while at < text.len() {
-        let next = words::find(text, at + 1, b' ');
-        end = decode::bytes(&text[at + 1..next], &mut *area, end);
+    let mut slot = 8;
+    for word in text.split(|b| *b == b' ').skip(1) {
+        end = decode::bytes(word, &mut *area, end);
         decode::put_number(&mut *area, slot, end);
         slot = slot % 16384 + 4;
-        at = next;
     }
     end
 }
@@ -108,5 +94,5 @@ pub fn read(text: &[u8], area: &mut [u8]) -> usize
     decode::put_number(&mut *area, 0, n);
     decode::put_number(&mut *area, 4, first);
     let end = put_words(text, &mut *area, first);
-    if end < area.len() { end } else { area.len() }
+    end.min(area.len())
 }

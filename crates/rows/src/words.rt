@@ -1,5 +1,5 @@
 // Words of a text, and parts of it.
-ghost use Rattle.std.specs.Prelude.{◌≡◌, cond, ◌+◌, ◌≤◌, ltb, length, max, take, drop, set};
+ghost use Rattle.std.specs.Prelude.{IfSome, ◌≡◌, cond, ◌+◌, ◌≤◌, ltb, length, max, take, drop, set};
 ghost use Rattle.rows.specs.Rows.{part, until};
 
 // The bytes from one place up to another, as far as the text has them.
@@ -15,41 +15,25 @@ pub fn find(text: &[u8], from: usize, b: u8) -> usize
     ensures behind { from ≤ result }
     ensures within { result ≤ max from (length text.now) }
 {
-    let mut at = from;
-    while at < text.len() {
-        if text[at] == b {
-            return at;
-        }
-        at += 1;
-    }
-    at
+    from + ascii::after(text, from)
+        .iter()
+        .take_while(|x| **x != b)
+        .count()
 }
 
-// Which of the names, with a space between, the text is; their number for none of them.
-pub fn index(names: &[u8], text: &[u8]) -> usize
-    ensures { result ≤ length names.now + 1 }
+// Which of the names, with a space between, the text is.
+pub fn index(names: &[u8], text: &[u8]) -> Option<usize>
+    ensures { IfSome result (λ n. n ≤ length names.now + 1) }
 {
-    let mut n: usize = 0;
-    let mut at: usize = 0;
-    while at < names.len() {
-        let end = find(names, at, b' ');
-        if &names[at..end] == text {
-            return n;
-        }
-        n += 1;
-        at = end + 1;
-    }
-    n
+    names.split(|b| *b == b' ').position(|name| name == text)
 }
 
 // The first n bytes, or all of them.
 pub fn front(area: &mut [u8], n: usize) -> &mut [u8]
     ensures { result.now ≡ take n area.old }
 {
-    if n < area.len() {
-        return &mut area[..n];
-    }
-    area
+    let n = n.min(area.len());
+    &mut area[..n]
 }
 
 // The byte is put at this place, if the area has it; the place behind it then.
@@ -59,7 +43,8 @@ pub fn put(area: &mut [u8], at: usize, b: u8) -> usize
 {
     if at < area.len() {
         area[at] = b;
-        return at + 1;
+        at + 1
+    } else {
+        at
     }
-    at
 }

@@ -6,7 +6,6 @@ use native.Mathlib.Numerals.{add-one}
 use native.Mathlib.Omega.{arith}
 use lib.ListN.{length, get_or, drop, drop_of_length-le}
 use lib.Seq.{drop-cons}
-use borrow.Author.Rules.{rules}
 use Rattle.rows.specs.Rows.{more, decimal}
 use Rattle.rows.proofs.number_of.Goals as goal
 
@@ -21,17 +20,15 @@ decimal-end : (text : List ℕ) (i n : ℕ) → length text ≤ i → decimal n 
 unfolding decimal
 decimal-end text i n h = rw drop_of_length-le
 
-pub loop-i-preserved : goal.loop-i-preserved
-loop-i-preserved c =
+pub loop-digit-preserved : goal.loop-digit-preserved
+loop-digit-preserved c =
     let text = c.args.text.now in
-    let i = c.loop-i.i in (
-      search rules,
-      ap (λ (n : ℕ). decimal n (drop (i + 1) text)) c.more-n.ensures
-          ∙ decimal-next text i c.loop-i.n (omega arith)
-          ∙ c.loop-i.invariant.1,
-    )
+    let i = c.loop-digit.digit-index in
+    ap (λ (n : ℕ). decimal n (drop (i + 1) text)) c.more-n.ensures
+    ∙ decimal-next text i c.loop-digit.n (omega arith)
+    ∙ c.loop-digit.invariant
 
 pub returns : goal.returns
 returns c =
-    sym (decimal-end c.args.text.now c.loop-i.i c.loop-i.n (omega arith))
-    ∙ c.loop-i.invariant.1
+    sym (decimal-end c.args.text.now c.loop-digit.digit-index c.loop-digit.n (omega arith))
+    ∙ c.loop-digit.invariant

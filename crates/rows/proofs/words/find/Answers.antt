@@ -1,24 +1,24 @@
--- What was passed and what is left before the byte are all that stands before it.
-use mathlib.Core.Path.{ap}
-use native.Mathlib.Omega.{arith}
-use lib.ListN.{length, drop_of_length-le}
-use borrow.Author.Rules.{rules}
+-- The bytes that are taken are counted.
+use Prim.Native.Nat.{◌+◌}
+use mathlib.Core.Path.{◌≡◌, ap, ◌∙◌}
+use mathlib.Core.Bool.{not}
+use lib.Dec.{eqb}
+use lib.ListN.{length}
+use Rattle.std.proofs.Common.{rules, tests}
+use Rattle.std.proofs.lemmas.Iterator.{YieldsList-from_slice}
+use Rattle.std.proofs.lemmas.Iterator.Consumers.{count_from_yields_List}
+use Rattle.std.proofs.lemmas.Iterator.Search.{YieldsList-from_take_while}
 use Rattle.rows.specs.Rows.{until}
-use Rattle.rows.proofs.Until.{until-here, until-on}
+use Rattle.rows.proofs.Until.{until-taken}
 use Rattle.rows.proofs.words.find.Goals as goal
 
-pub returns-then-text-at-clause-first : goal.returns-then-text-at-clause-first
-returns-then-text-at-clause-first c =
-    let z = ap length (until-here c.args.b c.args.text.now c.loop-at.at (search rules) c.if-text-at.true) in
-    omega arith
-
-pub loop-at-preserved : goal.loop-at-preserved
-loop-at-preserved c =
-    let z = ap length (until-on c.args.b c.args.text.now c.loop-at.at (search rules) c.if-text-at.false) in
-    (search rules, search rules, omega arith)
-
 pub returns-clause-first : goal.returns-clause-first
-unfolding until
 returns-clause-first c =
-    let h = rw (drop_of_length-le c.args.text.now c.loop-at-test.false) at c.loop-at.invariant.2 in
-    omega arith
+    let s = c.after.result.now in
+    let b = c.args.b in
+    let n : c.count.result ≡ length (until b s) =
+    count_from_yields_List _ _ c.count.ensures.ran
+    (YieldsList-from_take_while _ (λ x. not (eqb x b)) (YieldsList-from_slice s cc) c.take_while.ensures.closure c.take_while.ensures.done
+    (λ x b q k. search (rules, tests)))
+    ∙ ap length (until-taken b s) in
+    ap (λ m. c.args.from + m) (n ∙ ap (λ l. length (until b l)) c.after.ensures)
