@@ -4,21 +4,21 @@ use mathlib.Core.Bool.{Bool, true, false, cond, not, ◌&&◌, ◌||◌}
 use mathlib.Core.List.{List, [], ◌∷◌, ◌++◌, append_assoc}
 use Prim.Native.Nat.{ℕ, suc, ◌+◌, ◌≤◌, ◌<◌}
 use native.Mathlib.Omega.{arith}
-use lib.Dec.{ltb, leb, eqb}
+use lib.Dec.{ltb, eqb}
 use lib.ListN.{length, take, drop, length-drop, length-append}
 use lib.Seq.{drop-drop, drop-length}
 use borrow.Rule.Slice.PartMut.{put_mid}
-use borrow.Author.Tests.{leb-true, ltb-true, ltb-false, not-false}
+use borrow.Author.Tests.{ltb-true, ltb-false, not-false}
 use Rattle.laws.specs.Tests.{all}
 use Rattle.laws.specs.Parts.{over}
 use Rattle.laws.proofs.Text.{over_append, over_none}
-use Rattle.laws.proofs.Refusals.{and_snd, clash}
+use Rattle.laws.proofs.Refusals.{clash}
 use Rattle.ascii.specs.Text.{leading, is_blank, is_text, same_name, onto}
 use Rattle.groups.specs.Lines.{line_length, line_ends, line_at, lines_of}
 use Rattle.fields.specs.Fields.{continues, name_of, name_length, value_of, without_blanks, continued, fields_of}
 use Rattle.fields.specs.Fields.{values_of, comma_each, comma_between, is_none, is_absent, value_for, field_ok, line_ok}
 use Rattle.fields.specs.Fields.{lines_ok}
-use Rattle.fields.specs.Step.{step_from, step_of, value_start, separated, added_by, no_fields, found_in, fits_in}
+use Rattle.fields.specs.Step.{step_from, step_of, value_start, separated, added_by, no_fields, found_in}
 use Rattle.fields.specs.Step.{WholeFrom}
 use Rattle.fields.specs.declared.Step.{Step}
 use Rattle.fields.specs.Step.{Found}
@@ -447,22 +447,6 @@ pub over-part : (at : ℕ) (part l ys : List ℕ) (k : ℕ) → k ≡ length par
 over-part at part l ys k h y =
     ap (λ z. take at l ++ (ys ++ z)) (drop-drop k at l ∙ ap (λ j. drop (at + j) l) h)
     ∙ ap (λ x. take at l ++ (x ++ drop (at + length part) l)) y
-
--- a value that fits is as long as was found, and has room
-pub found-fits : (f : Found) (name : List ℕ) (ls : List (List ℕ)) (room : ℕ) → f ≡ found_in name ls
-    → fits_in f room ≡ true
-    → (f.length ≡ length (value_for name ls)) × (f.length ≤ room)
-unfolding found_in
-found-fits f name ls room e h = rw e (go (lines_ok false ls) (rw e at h))
-  where
-    found : Bool → Found
-    found t = cond t (record { good = true; there = not (is_absent name ls); length = length (value_for name ls) })
-        no_fields
-
-    go : (t : Bool) → fits_in (found t) room ≡ true → ((found t).length ≡ length (value_for name ls))
-        × ((found t).length ≤ room)
-    go true k = (refl, leb-true _ room (and_snd (not (is_absent name ls)) (leb (length (value_for name ls)) room) k))
-    go false k = let z : ◌≡◌ {A = Bool} false true = k in (cc, absurd (clash k refl))
 
 -- whether the lines are fields, whichever name was looked for
 pub found-good : (name : List ℕ) (ls : List (List ℕ)) → (found_in name ls).good ≡ lines_ok false ls

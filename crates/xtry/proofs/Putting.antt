@@ -1,5 +1,5 @@
 -- Laws of texts put over an area one after the other.
-use Prim.Native.Nat.{ℕ, ◌+◌, ◌-◌, ◌≤◌, ◌<◌}
+use Prim.Native.Nat.{ℕ, ◌+◌, ◌≤◌, ◌<◌}
 use mathlib.Core.Path.{◌≡◌, sym, ap, ◌∙◌}
 use mathlib.Core.List.{List, ◌∷◌, ◌++◌, append_assoc}
 use native.Mathlib.Omega.{arith}
@@ -8,7 +8,6 @@ use lib.Seq.{drop-drop}
 use borrow.Rule.Slice.PartMut.{put_mid}
 use Rattle.laws.specs.Parts.{over, Put}
 use Rattle.laws.proofs.Text.{over-set, put_then}
-use Rattle.laws.proofs.Over.{over-copied}
 use Rattle.digits.specs.declared.Digits.{Digits}
 use Rattle.digits.specs.Decimal.{decimal, digits_for}
 use Rattle.digits.proofs.Spelling.{spelled, spelled-size}
@@ -18,23 +17,7 @@ use Rattle.xtry.specs.declared.Pair.{Pair}
 
 -- ---- a number behind the byte that leads it
 
--- the digits were copied behind the byte
-pub put-led : (n at lead : ℕ) (d : Digits) (area ys : List ℕ) → d ≡ digits_for n → at < length area
-    → ys ≡ take (length (take d.size d.bytes)) (take d.size d.bytes)
-    ++ drop (length (take d.size d.bytes)) (take (length (set area at lead) - (at + 1))
-    (drop (at + 1) (set area at lead)))
-    → Put at (lead ∷ decimal n) area (put_mid (at + 1) (length (set area at lead) - (at + 1)) (set area at lead) ys)
-    (at + 1 + d.size)
-put-led n at lead d area ys e h k =
-    record {
-      written =
-          over-copied (at + 1) (take d.size d.bytes) (set area at lead) ys k
-          ∙ ap (λ x. over (at + 1) x (set area at lead)) (spelled n e)
-          ∙ over-set at lead (decimal n) area h;
-      moved = omega (arith, spelled-size n e, ap length (spelled n e));
-    }
-
--- the same where the part that is lent is as long as the digits
+-- the digits were copied behind the byte, to a part as long as they are
 pub put-led_whole : (n at lead k : ℕ) (d : Digits) (area ys : List ℕ) → d ≡ digits_for n → at < length area
     → k ≡ d.size → ys ≡ take d.size d.bytes
     → Put at (lead ∷ decimal n) area (put_mid (at + 1) k (set area at lead) ys) (at + 1 + d.size)
