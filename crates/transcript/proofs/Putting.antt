@@ -1,16 +1,12 @@
 -- Texts put over an area, one behind another.
-use Prim.Native.Nat.{ℕ, ◌+◌, ◌≤◌, ◌<◌}
+use Prim.Native.Nat.{ℕ, ◌+◌, ◌≤◌}
 use mathlib.Core.Path.{◌≡◌, refl, sym, ap, ◌∙◌}
-use mathlib.Core.List.{List, [], ◌∷◌, ◌++◌}
+use mathlib.Core.List.{List, [], ◌++◌}
 use native.Mathlib.Omega.{arith}
-use lib.ListN.{length, set, length-append}
+use lib.ListN.{length, length-append}
 use Rattle.laws.specs.Parts.{over, Put}
 use Rattle.laws.proofs.Over.{over-length}
 use Rattle.laws.proofs.Text.{over_none, over_append}
-use Rattle.laws.proofs.Decimal.{over-byte}
-
-pub put_one : (at b : ℕ) (area : List ℕ) → at < length area → Put at (b ∷ []) area (set area at b) (at + 1)
-put_one at b area h = record { written = over-byte at b area h; moved = refl }
 
 -- `rest` is still to be put from `next` on, and then `text` stands from `at` on
 pub record Left (at : ℕ) (text before : List ℕ) (next : ℕ) (rest area : List ℕ) : Type 0 where
