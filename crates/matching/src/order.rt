@@ -11,7 +11,12 @@ use std::cmp::Ordering;
 pub(crate) fn order(a: &[u8], b: &[u8]) -> Ordering
     ensures { result ≡ slice_cmp nat_cmp (map lower a.now) (map lower b.now) }
 {
-    a.iter()
-        .map(|x| x.to_ascii_lowercase())
-        .cmp(b.iter().map(|y| y.to_ascii_lowercase()))
+    // `cmp` of two mapped iterators takes twice as long
+    for (x, y) in a.iter().zip(b) {
+        let order = x.to_ascii_lowercase().cmp(&y.to_ascii_lowercase());
+        if order != Ordering::Equal {
+            return order;
+        }
+    }
+    a.len().cmp(&b.len())
 }

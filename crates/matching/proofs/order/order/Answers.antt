@@ -1,15 +1,34 @@
--- The library's comparison, of the lists that both give.
-use Rattle.std.proofs.Common.{◌≡◌, rules, refl}
-use Rattle.std.specs.Ordering.{nat_cmp}
-use Rattle.std.proofs.lemmas.Iterator.{YieldsList-from_slice, YieldsList-from_map}
-use Rattle.std.proofs.lemmas.Iterator.Search.{cmp_from_yields_List}
+-- What is left to compare has the order of the whole.
+use Rattle.std.proofs.Common.{◌≡◌, sym, ap, ◌∙◌, arith, rules}
+use Rattle.std.proofs.lemmas.List.{length_push}
+use Rattle.std.proofs.lemmas.Slice.Zip.{zip_turn, zip_end}
 use Rattle.ascii.specs.Text.{lower}
 use Rattle.ascii.proofs.Library.{lowered}
+use Rattle.matching.proofs.OrderLaws.{left_from, left_on, left_differ, left_end, equal_of, differ_of}
 use Rattle.matching.proofs.order.order.Goals as goal
+
+pub returns-then-ne : goal.returns-then-ne
+returns-then-ne c =
+    let t = zip_turn c.args.a.now c.args.b.now c.loop-x.yielded _ _ c.next.new.self _ (cc) (cc) c.loop-x.yielded_by (c.in-Some.x, c.in-Some.y) c.in-Some.is c.next.ensures.steps in
+    let o = c.cmp-order.ensures in
+    let x = c.to_ascii_lowercase.ensures.value ∙ lowered c.in-Some.x.now ∙ ap lower (t.2 0) in
+    let y = c.to_ascii_lowercase-in-loop-x.ensures.value ∙ lowered c.in-Some.y.now ∙ ap lower (t.3 0) in
+    sym (left_differ c.args.a.now c.args.b.now _ t.0 t.1 c.cmp-order.result (rw (x, y) at o)
+    (differ_of c.cmp-order.result (sym c.ne.ensures ∙ c.if-ne.true)))
+    ∙ c.loop-x.invariant
+
+pub loop-x-preserved : goal.loop-x-preserved
+loop-x-preserved c =
+    let t = zip_turn c.args.a.now c.args.b.now c.loop-x.yielded _ _ c.next.new.self _ (cc) (cc) c.loop-x.yielded_by (c.in-Some.x, c.in-Some.y) c.in-Some.is c.next.ensures.steps in
+    let o = c.cmp-order.ensures in
+    let x = c.to_ascii_lowercase.ensures.value ∙ lowered c.in-Some.x.now ∙ ap lower (t.2 0) in
+    let y = c.to_ascii_lowercase-in-loop-x.ensures.value ∙ lowered c.in-Some.y.now ∙ ap lower (t.3 0) in
+    let on = left_on c.args.a.now c.args.b.now _ t.0 t.1 c.cmp-order.result (rw (x, y) at o)
+    (equal_of c.cmp-order.result (sym c.ne.ensures ∙ c.if-ne.false)) in
+    ap (left_from c.args.a.now c.args.b.now) (length_push c.loop-x.yielded (c.in-Some.x, c.in-Some.y))
+    ∙ sym on ∙ c.loop-x.invariant
 
 pub returns : goal.returns
 returns c =
-    cmp_from_yields_List (λ x y. y ≡ x) _ nat_cmp _ c.cmp.ensures.ran
-    (YieldsList-from_map _ lower (YieldsList-from_slice c.args.a.now cc) (cc) (λ x r q k. search (rules, lowered)))
-    (λ it e. YieldsList-from_map _ lower (YieldsList-from_slice c.args.b.now cc) (cc) (λ x r q k. search (rules, lowered)))
-    (λ x y. refl)
+    let t = zip_end c.args.a.now c.args.b.now c.loop-x.yielded _ _ c.next.new.self _ (cc) (cc) c.loop-x.yielded_by c.in-None.is c.next.ensures.steps in
+    c.cmp.ensures ∙ sym (left_end c.args.a.now c.args.b.now _ t) ∙ c.loop-x.invariant
