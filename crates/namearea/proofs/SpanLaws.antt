@@ -9,9 +9,9 @@ use lib.Dec.{eqb}
 use lib.ListN.{length, get_or, take, drop, drop_of_length-le}
 use lib.Seq.{drop-drop, take-take}
 use borrow.Author.Tests.{ne_eqb, lt-leb, le-leb, lt-ltb, le-ltb}
-use Rattle.std.specs.List.{list_any}
 use Rattle.laws.specs.Bytes.{little}
 use Rattle.laws.specs.Tests.{any}
+use Rattle.laws.proofs.Passing.{any-from}
 use Rattle.namearea.specs.declared.Span.{Span}
 use Rattle.namearea.specs.Area.{most_names, text_from, span_in, span_at, pair_in, spans_from, spans_of, end_of}
 use Rattle.namearea.specs.Good.{rising_from}
@@ -99,15 +99,18 @@ module _ (a : List ℕ) (i : ℕ) where
   unfolding pair_in
   pair-past h g = rw (le-leb text_from (length a) h, le-ltb i most_names g)
 
--- a zero byte, as the library's search tests for it
-swap : (n : ℕ) → eqb n 0 ≡ eqb 0 n
-swap zero = refl
-swap (suc n) = let h : suc n ≡ 0 → ⊥ = λ e. omega arith in
-    let g : 0 ≡ suc n → ⊥ = λ e. omega arith in ne_eqb (suc n) 0 h ∙ sym (ne_eqb 0 (suc n) g)
+-- a byte more, of which `good` says that it is not zero
+flip : (b : Bool) (n : ℕ) (rest : Bool) → (b && not (eqb 0 n || rest)) ≡ ((b && not (eqb n 0)) && not rest)
+flip false n rest = refl
+flip true zero rest = refl
+flip true (suc n) rest = let h : suc n ≡ 0 → ⊥ = λ e. omega arith in
+    let g : 0 ≡ suc n → ⊥ = λ e. omega arith in rw (ne_eqb 0 (suc n) g, ne_eqb (suc n) 0 h)
 
-pub has_zero : (xs : List ℕ) → list_any (λ n. eqb n 0) xs ≡ any (eqb 0) xs
-has_zero [] = refl
-has_zero (x ∷ xs) = ap₂ (λ b c. b || c) (swap x) (has_zero xs)
+pub zero_more : (l : List ℕ) (i : ℕ) (good : Bool) → i < length l
+    → (good && not (any (eqb 0) (drop i l)))
+    ≡ ((good && not (eqb (get_or l i 0) 0)) && not (any (eqb 0) (drop (i + 1) l)))
+zero_more l i good h =
+    ap (λ b. good && not b) (any-from (eqb 0) l i 0 h) ∙ flip good (get_or l i 0) (any (eqb 0) (drop (i + 1) l))
 
 -- whether the pairs left rise: the next decides, or the rest does
 module _ (count : ℕ) (a : List ℕ) (i low : ℕ) (h : i < count) where

