@@ -6,7 +6,7 @@ ghost use Rattle.tables.specs.Admission.{stops};
 
 use crate::held::Held;
 use keywords::hash::scaled_place;
-use tables::SETTLED;
+use tables::Mark;
 
 impl<'a> Held<'a> {
     // The entry of a keyword with this hash, and 0 where the part has none.
@@ -25,10 +25,11 @@ impl<'a> Held<'a> {
     pub fn stops(self, ttl: u8, hash: u32) -> bool
         ensures { result ≡ stops (held_in self.entry.table self.entry.part.now) ttl hash }
     {
-        if self.table.mark != SETTLED {
-            return false;
-        }
-        let entry = self.entry_at(hash);
-        entry == self.table.infinity || ttl < entry
+        let table = self.table;
+        table.mark == u8::from(Mark::Settled)
+            && {
+                let entry = self.entry_at(hash);
+                entry == table.infinity || ttl < entry
+            }
     }
 }

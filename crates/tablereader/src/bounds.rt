@@ -30,8 +30,5 @@ pub fn good_length(n: u32) -> bool
 pub fn good_infinity(n: u8) -> bool
     ensures { result ≡ good_infinity n }
 {
-    if n < 2 {
-        return false;
-    }
-    n <= 127
+    (2..=127).contains(&n)
 }

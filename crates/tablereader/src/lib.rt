@@ -10,5 +10,6 @@ pub mod held;
 mod numbers;
 pub mod order;
 mod patch;
+mod reset;
 mod turns;
 pub mod updates;

@@ -13,10 +13,7 @@ pub(crate) fn number_count(bits: u8, n: usize) -> usize
     requires { n < 2 ^ 63 }
     ensures { result ≡ number_count bits n }
 {
-    if bits == 4 {
-        return n * 2;
-    }
-    n
+    if bits == 4 { n * 2 } else { n }
 }
 
 // The entry with an 8-bit number added, modulo 256: no branch, so that sums of many entries are taken at once.
@@ -34,9 +31,10 @@ fn number_fits(infinity: u8, number: u8, entry: u8) -> bool
     let sum = sum_of(number, entry);
     let within = (1 <= sum) & (sum <= infinity);
     if number < 128 {
-        return within & (entry <= sum);
+        within & (entry <= sum)
+    } else {
+        within & (sum < entry)
     }
-    within & (sum < entry)
 }
 
 // Each 8-bit number, added to the entry at its place, gives one in 1..infinity. No way out before the end: the turns
@@ -46,11 +44,8 @@ fn bytes_fit(numbers: &[u8], entries: &[u8], infinity: u8) -> bool
     ensures { result ≡ all_fit 8 infinity numbers.now entries.now }
 {
     let mut good = true;
-    let mut j = 0;
-    while j < numbers.len() {
-        let fit = number_fits(infinity, numbers[j], entries[j]);
-        good = good & fit;
-        j += 1;
+    for (j, number) in numbers.iter().enumerate() {
+        good &= number_fits(infinity, *number, entries[j]);
     }
     good
 }
@@ -60,10 +55,8 @@ fn add_bytes(numbers: &[u8], entries: &mut [u8])
     requires { all_fit 8 255 numbers.now entries.old ≡ true }
     ensures { entries.new ≡ added 8 numbers.now entries.old }
 {
-    let mut j = 0;
-    while j < numbers.len() {
-        entries[j] = sum_of(numbers[j], entries[j]);
-        j += 1;
+    for (j, number) in numbers.iter().enumerate() {
+        entries[j] = sum_of(*number, entries[j]);
     }
 }
 
@@ -72,10 +65,7 @@ fn as_byte(number: u8) -> u8
     requires { number < 16 }
     ensures { result ≡ widened number }
 {
-    if number < 8 {
-        return number;
-    }
-    number + 240
+    if number < 8 { number } else { number + 240 }
 }
 
 // The 4-bit numbers of the data, as numbers of 8 bits: the high half of a byte comes first.
@@ -83,12 +73,9 @@ fn unpack(bytes: &[u8], numbers: &mut [u8])
     requires { length bytes.now * 2 ≤ length numbers.old }
     ensures { take (length bytes.now * 2) numbers.new ≡ unpacked bytes.now }
 {
-    let mut i = 0;
-    while i < bytes.len() {
-        let b = bytes[i];
-        numbers[i * 2] = as_byte(b / 16);
-        numbers[i * 2 + 1] = as_byte(b % 16);
-        i += 1;
+    for (i, b) in bytes.iter().enumerate() {
+        numbers[i * 2] = as_byte(*b / 16);
+        numbers[i * 2 + 1] = as_byte(*b % 16);
     }
 }
 
@@ -121,10 +108,7 @@ fn block_end(at: usize, n: usize) -> usize
     requires { at ≤ n }
     ensures { result ≡ min n (at + 128) }
 {
-    if n - at < BLOCK {
-        return n;
-    }
-    at + BLOCK
+    at + BLOCK.min(n - at)
 }
 
 // Each number of 4-bit data fits, block after block.
@@ -165,9 +149,10 @@ pub(crate) fn all_fit(bytes: &[u8], entries: &[u8], bits: u8, infinity: u8) -> b
     ensures { result ≡ all_fit bits infinity (numbers bits bytes.now) entries.now }
 {
     if bits == 4 {
-        return nibbles_fit(bytes, entries, infinity);
+        nibbles_fit(bytes, entries, infinity)
+    } else {
+        bytes_fit(bytes, entries, infinity)
     }
-    bytes_fit(bytes, entries, infinity)
 }
 
 // Adds each number of the data to the entry at its place; entries past them stay.
@@ -177,8 +162,8 @@ pub(crate) fn add_all(bytes: &[u8], entries: &mut [u8], bits: u8)
     ensures { entries.new ≡ added bits (numbers bits bytes.now) entries.old }
 {
     if bits == 4 {
-        add_nibbles(bytes, &mut *entries);
-        return;
+        add_nibbles(bytes, entries);
+    } else {
+        add_bytes(bytes, entries);
     }
-    add_bytes(bytes, &mut *entries);
 }

@@ -1,65 +1,44 @@
 // Whether a table is in order (RULES 4.7, 4.8).
-ghost use Rattle.std.specs.Prelude.{◌≡◌};
-ghost use Rattle.tables.specs.Tables.{inside_run, between_runs, within_limits, table_in_order};
+ghost use Rattle.std.specs.Prelude.{◌≡◌, leb, [], ◌∷◌};
+ghost use Rattle.laws.specs.Tests.{every};
+ghost use Rattle.tables.specs.Tables.{inside_run, between_runs, good_length, good_infinity, table_in_order};
 
 use crate::bounds::{good_infinity, good_length};
-use crate::fields::{good_bits, takes_patch};
-use tables::{BROKEN, RUNNING, Table};
+use crate::fields::good_bits;
+use tables::{Mark, Table};
 
 // The run position of a table inside a run.
 fn inside_run(table: Table) -> bool
     ensures { result ≡ inside_run table }
 {
-    if table.nextplace < 2 {
-        return false;
-    }
-    if table.runsize < table.nextplace {
-        return false;
-    }
-    if !good_bits(table.runbits) {
-        return false;
-    }
-    table.nextentry <= table.length
+    2 <= table.nextplace
+        && table.nextplace <= table.runsize
+        && good_bits(table.runbits)
+        && table.nextentry <= table.length
 }
 
 // The run position of a table that is waiting or settled.
 fn between_runs(table: Table) -> bool
     ensures { result ≡ between_runs table }
 {
-    if table.nextplace != 1 {
-        return false;
-    }
-    table.nextentry == 0
+    table.nextplace == 1 && table.nextentry == 0
 }
 
-// Length, Infinity and run position of a table that is waiting, running or settled.
-fn within_limits(table: Table, room: usize) -> bool
-    ensures { result ≡ within_limits room table }
+// Length and Infinity of a table that is waiting, running or settled.
+fn good_size(table: Table, room: usize) -> bool
+    ensures { result ≡ every (good_length table.length ∷ leb table.length room ∷ good_infinity table.infinity ∷ []) }
 {
-    if !good_length(table.length) {
-        return false;
-    }
-    if room < table.length as usize {
-        return false;
-    }
-    if !good_infinity(table.infinity) {
-        return false;
-    }
-    if table.mark == RUNNING {
-        return inside_run(table);
-    }
-    between_runs(table)
+    good_length(table.length) && table.length as usize <= room && good_infinity(table.infinity)
 }
 
 // The table is in order, with room for this many entries.
 pub fn in_order(table: Table, room: usize) -> bool
     ensures { result ≡ table_in_order room table }
 {
-    if BROKEN < table.mark {
-        return false;
+    match Mark::try_from(table.mark) {
+        Err(_) => false,
+        Ok(Mark::NoTable | Mark::Broken) => true,
+        Ok(Mark::Running) => good_size(table, room) && inside_run(table),
+        Ok(Mark::Waiting | Mark::Settled) => good_size(table, room) && between_runs(table),
     }
-    if takes_patch(table.mark) {
-        return within_limits(table, room);
-    }
-    true
 }

@@ -1,18 +1,28 @@
 // A PATCH against a table: whether it is in turn, whether its numbers lead outside 1..Infinity, and where it moves the
 // run.
-ghost use Rattle.std.specs.Prelude.{◌≡◌, true, ◌+◌, ◌<◌, ◌^◌, length, IfOk};
+ghost use Rattle.std.specs.Prelude.{◌≡◌, true, not, ◌&&◌, ◌||◌, eqb, ◌+◌, ◌<◌, ◌^◌, length, IfOk};
 ghost use Rattle.answer.specs.Numbers.{answer_of};
-ghost use Rattle.tables.specs.Tables.{held_in, at_rest};
+ghost use Rattle.tables.specs.Tables.{held_in, at_rest, running};
+ghost use Rattle.tables.specs.Marks.{byte_of};
 ghost use Rattle.tables.specs.Patch.{numbers};
 ghost use Rattle.tables.specs.Updates.{in_turn, in_range, patch_answer, moved_on};
 ghost use Rattle.tablereader.specs.Payloads.{payload_of};
 
-use crate::fields::{ends_right, same_run, takes_patch};
+use crate::fields::{ends_right, takes_patch};
 use crate::held::Held;
 use crate::numbers::{all_fit, number_count};
 use crate::patch::Patch;
 use answer::Refusal;
-use tables::{RUNNING, SETTLED, Table};
+use tables::{Mark, Table};
+
+// Inside a run the size and the bits are those of its first message.
+fn same_run(table: Table, patch: Patch<'_>) -> bool
+    ensures { result ≡ (not (eqb table.mark running)
+        || (eqb patch.entry.size table.runsize && eqb patch.entry.bits table.runbits)) }
+{
+    table.mark != u8::from(Mark::Running)
+        || (patch.size == table.runsize && patch.bits == table.runbits)
+}
 
 impl<'a> Held<'a> {
     // The PATCH is the one that the table awaits, and its data ends where it may.
@@ -24,13 +34,7 @@ impl<'a> Held<'a> {
         let end = self.entries().len();
         takes_patch(table.mark)
             && patch.place == table.nextplace
-            && same_run(
-                table.mark,
-                patch.size,
-                table.runsize,
-                patch.bits,
-                table.runbits,
-            )
+            && same_run(table, patch)
             && ends_right(table.nextentry as usize, n, end, patch.place == patch.size)
     }
 
@@ -66,11 +70,11 @@ impl<'a> Held<'a> {
 }
 
 // A table between runs: place 1 and the first entry are next.
-pub(crate) fn at_rest(mark: u8, length: u32, infinity: u8) -> Table
-    ensures { result ≡ at_rest mark length infinity }
+pub(crate) fn at_rest(mark: Mark, length: u32, infinity: u8) -> Table
+    ensures { result ≡ at_rest (byte_of mark) length infinity }
 {
     Table {
-        mark,
+        mark: u8::from(mark),
         length,
         infinity,
         nextplace: 1,
@@ -86,10 +90,10 @@ pub(crate) fn moved_on(table: Table, patch: Patch<'_>) -> Table
     ensures { result ≡ moved_on table (payload_of patch.entry) }
 {
     if patch.place == patch.size {
-        return at_rest(SETTLED, table.length, table.infinity);
+        return at_rest(Mark::Settled, table.length, table.infinity);
     }
     Table {
-        mark: RUNNING,
+        mark: u8::from(Mark::Running),
         nextplace: patch.place + 1,
         runsize: patch.size,
         runbits: patch.bits,

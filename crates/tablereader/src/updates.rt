@@ -7,18 +7,19 @@ ghost use Rattle.tables.specs.Updates.{reset_answer, reset_held, patch_answer, p
 ghost use Rattle.tables.specs.Updates.{refused_by, answered, part_with};
 ghost use Rattle.tablereader.specs.Outcomes.{updated_as};
 
-use crate::fields::{good_reset, is_patch, length_in};
+use crate::fields::is_patch;
 use crate::held::Held;
 use crate::numbers::add_all;
+use crate::reset::Reset;
 use crate::turns::{at_rest, moved_on};
 use answer::Refusal;
-use tables::{BROKEN, Table, WAITING};
+use tables::{Mark, Table};
 
 // A refused update: only the mark changes.
 fn refuse(refusal: Refusal, table: &mut Table) -> Result<(), Refusal>
     ensures { updated_as result table.new ≡ refused_by (number_of refusal) table.old }
 {
-    table.mark = BROKEN;
+    table.mark = u8::from(Mark::Broken);
     Err(refusal)
 }
 
@@ -31,13 +32,12 @@ pub fn reset(table: &mut Table, payload: &[u8], part: &mut [u8]) -> Result<(), R
         (reset_held (length part.old) (held_in table.old part.old) payload.now)
         part.old }
 {
-    if !good_reset(payload, part.len()) {
-        return refuse(Refusal::BadUpdate, table);
-    }
-    let length = length_in(payload);
-    let infinity = payload[5];
-    part[..length as usize].fill(infinity);
-    *table = at_rest(WAITING, length, infinity);
+    let reset = match Reset::read(payload, part.len()) {
+        Ok(reset) => reset,
+        Err(refusal) => return refuse(refusal, table),
+    };
+    part[..reset.length as usize].fill(reset.infinity);
+    *table = at_rest(Mark::Waiting, reset.length, reset.infinity);
     Ok(())
 }
 

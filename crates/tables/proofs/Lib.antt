@@ -6,6 +6,7 @@ pub mod TurnLaws
 pub mod UpdateLaws
 pub mod AnswerLaws
 pub mod OrderLaws
+pub mod MarkLaws
 pub mod KeepLaws
 pub mod BoundLaws
 pub mod AdmissionLaws

@@ -4,22 +4,51 @@
 #![tactic(auto)]
 
 ghost use Rattle.std.specs.Prelude.{◌≡◌};
+ghost use Rattle.tables.specs.Marks.{byte_of, mark_named};
 ghost use Rattle.tables.specs.Tables.{no_table};
 
-// The mark where no RESET has come.
-pub const NONE: u8 = 0;
+// The marks of a table (RULES 4.7): no RESET has come; RESET and no number yet; inside a run; a whole run done; an update
+// was refused. A table that is waiting, running or settled takes a PATCH.
+#[derive(Clone, Copy, Debug, PartialEq, Eq, Hash)]
+pub enum Mark {
+    NoTable = 0,
+    Waiting = 1,
+    Running = 2,
+    Settled = 3,
+    Broken = 4,
+}
 
-// The marks of a table that takes a PATCH: RESET and no number yet, inside a run, and a whole run done.
-pub const WAITING: u8 = 1;
+// A byte that is no mark.
+#[derive(Clone, Copy, Debug, PartialEq, Eq, Hash)]
+pub struct UnknownMark(pub u8);
 
-pub const RUNNING: u8 = 2;
+impl From<Mark> for u8 {
+    ghost from_gives = { λ mark byte. byte ≡ byte_of mark };
 
-pub const SETTLED: u8 = 3;
+    fn from(mark: Mark) -> u8 {
+        mark as u8
+    }
+}
 
-// The mark of a table after an update that was refused.
-pub const BROKEN: u8 = 4;
+impl TryFrom<u8> for Mark {
+    type Error = UnknownMark;
 
-// What is kept of a table beside its entries, which stand in the lent part, one byte an entry.
+    ghost try_from_gives = { λ byte outcome. outcome ≡ mark_named byte };
+
+    fn try_from(byte: u8) -> Result<Mark, UnknownMark> {
+        match byte {
+            0 => Ok(Mark::NoTable),
+            1 => Ok(Mark::Waiting),
+            2 => Ok(Mark::Running),
+            3 => Ok(Mark::Settled),
+            4 => Ok(Mark::Broken),
+            _ => Err(UnknownMark(byte)),
+        }
+    }
+}
+
+// What is kept of a table beside its entries, which stand in the lent part, one byte an entry. The mark is a number, since
+// the C interface lends the table (lunozhar_table) and any byte may stand there.
 #[repr(C)]
 #[derive(Clone, Copy)]
 pub struct Table {
@@ -37,7 +66,7 @@ pub fn no_table() -> Table
     ensures { result ≡ no_table }
 {
     Table {
-        mark: NONE,
+        mark: u8::from(Mark::NoTable),
         length: 0,
         infinity: 0,
         nextplace: 0,

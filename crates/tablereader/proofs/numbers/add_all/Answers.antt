@@ -18,8 +18,8 @@ add_bytes-requires c =
           c.if-bits-eq4.false,
     ) at c.requires.entries_value
 
-pub returns : goal.returns
-returns c =
+pub returns-else-bits-eq4 : goal.returns-else-bits-eq4
+returns-else-bits-eq4 c =
     let x = c.args in
     rw (
       numbers-whole x.bits x.bytes.now c.if-bits-eq4.false,

@@ -19,8 +19,8 @@ bytes_fit-requires c =
     at c.requires.bytes_in_bounds in
     omega arith
 
-pub returns : goal.returns
-returns c =
+pub returns-else-bits-eq4 : goal.returns-else-bits-eq4
+returns-else-bits-eq4 c =
     let x = c.args in
     rw (
       numbers-whole x.bits x.bytes.now c.if-bits-eq4.false,

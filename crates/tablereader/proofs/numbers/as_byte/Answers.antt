@@ -5,5 +5,5 @@ use Rattle.tablereader.proofs.numbers.as_byte.Goals as goal
 pub returns-then-number-lt8 : goal.returns-then-number-lt8
 returns-then-number-lt8 c = rw (lt-ltb _ _ c.if-number-lt8.true)
 
-pub returns : goal.returns
-returns c = rw (le-ltb _ _ c.if-number-lt8.false)
+pub returns-else-number-lt8 : goal.returns-else-number-lt8
+returns-else-number-lt8 c = rw (le-ltb _ _ c.if-number-lt8.false)

@@ -8,8 +8,5 @@ use Rattle.tablereader.proofs.numbers.bytes_fit.Given as goal
 
 abbrev pub invariant-loop-j : goal.invariant-loop-j
 invariant-loop-j l =
-    (l.j ≤ length l.numbers)
-    × (all_fit 8 l.infinity l.numbers l.entries ≡ (l.good && all_fit 8 l.infinity (drop l.j l.numbers) (drop l.j l.entries)))
-
-abbrev pub decreases-loop-j : goal.decreases-loop-j
-decreases-loop-j l = length l.numbers - l.j
+    all_fit 8 l.infinity l.numbers l.entries
+    ≡ (l.good && all_fit 8 l.infinity (drop l.j l.numbers) (drop l.j l.entries))

@@ -6,5 +6,5 @@ use Rattle.tablereader.proofs.numbers.number_count.Goals as goal
 pub returns-then-bits-eq4 : goal.returns-then-bits-eq4
 returns-then-bits-eq4 c = rw (eq-eqb _ _ c.if-bits-eq4.true)
 
-pub returns : goal.returns
-returns c = rw (ne_eqb _ _ c.if-bits-eq4.false) (omega arith)
+pub returns-else-bits-eq4 : goal.returns-else-bits-eq4
+returns-else-bits-eq4 c = rw (ne_eqb _ _ c.if-bits-eq4.false) (omega arith)

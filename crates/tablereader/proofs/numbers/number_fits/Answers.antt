@@ -10,8 +10,8 @@ returns-then-number-lt128 c =
     (search rules) (search rules)
     c.sum_of-sum.ensures c.if-number-lt128.true
 
-pub returns : goal.returns
-returns c =
+pub returns-else-number-lt128 : goal.returns-else-number-lt128
+returns-else-number-lt128 c =
     let x = c.args in
     fits-taking x.infinity x.number x.entry c.sum_of-sum.result (search rules)
     (search rules) (search rules)

@@ -1,21 +1,29 @@
--- A mark past the five, a mark that takes a PATCH and so has limits, and a mark without limits.
-use mathlib.Core.Path.{sym, ◌∙◌}
-use borrow.Author.Tests.{le-leb, lt-leb}
+-- The mark says which tests there are.
+use Rattle.std.proofs.Common.{rules}
 use Rattle.tables.specs.Tables.{table_in_order}
+use Rattle.tables.proofs.MarkLaws.{unknown_mark}
 use Rattle.tablereader.proofs.order.in_order.Goals as goal
 
-pub returns-then-table-gt-BROKEN : goal.returns-then-table-gt-BROKEN
+pub returns-in-Err : goal.returns-in-Err
 unfolding table_in_order
-returns-then-table-gt-BROKEN c = rw (lt-leb _ _ c.if-table-gt-BROKEN.true)
+returns-in-Err c = rw (unknown_mark c.args.table.mark c.in-Err.field-0 c.in-Err.ensures)
 
-pub returns-then-takes_patch : goal.returns-then-takes_patch
+pub returns-in-Ok-NoTable : goal.returns-in-Ok-NoTable
 unfolding table_in_order
-returns-then-takes_patch c =
-    rw (
-      le-leb _ _ c.if-table-gt-BROKEN.false,
-      sym c.takes_patch.ensures ∙ c.if-takes_patch.true,
-    ) c.within_limits.ensures
+returns-in-Ok-NoTable c = search rules
 
-pub returns : goal.returns
+pub returns-then-good_size : goal.returns-then-good_size
 unfolding table_in_order
-returns c = rw (le-leb _ _ c.if-table-gt-BROKEN.false, sym c.takes_patch.ensures ∙ c.if-takes_patch.false)
+returns-then-good_size c = search rules
+
+pub returns-else-good_size : goal.returns-else-good_size
+unfolding table_in_order
+returns-else-good_size c = search rules
+
+pub returns-then-good_size-2 : goal.returns-then-good_size-2
+unfolding table_in_order
+returns-then-good_size-2 c = search rules
+
+pub returns-else-good_size-2 : goal.returns-else-good_size-2
+unfolding table_in_order
+returns-else-good_size-2 c = search rules

@@ -25,6 +25,7 @@ unfolding moved_on
 returns c =
     rw (
       ne_eqb _ _ c.if-patch.false,
+      c.from.ensures,
       c.number_count.ensures,
       numbers-length c.args.patch.bits c.args.patch.bytes.now,
     )
