@@ -51,7 +51,7 @@ merged-within infinity most es xs w i = by (dec_le (length xs) i)
 -- ---- an Infinity that lowers nothing
 
 module _ (infinity most : ℕ) (idle : most ≤ infinity + 1) where
-  nearest_idle : (e x : ℕ) → x ≤ most → min (e + 1) x ≡ nearest x (reaching infinity (e ∷ []))
+  pub nearest_idle : (e x : ℕ) → x ≤ most → min (e + 1) x ≡ nearest x (reaching infinity (e ∷ []))
   unfolding nearest reaching
   nearest_idle e x h =
       of_choice (λ l. min (e + 1) x ≡ nearest x l) (eqb e infinity) [] (e ∷ [])
@@ -74,3 +74,14 @@ lowered-two most i j idle es ds xs l k w =
     ap (lowered ds) (lowered-merged i most (omega arith) es xs l w)
     ∙ lowered-merged j most (omega arith) ds (merged i es xs) (k ∙ sym (merged-length i es xs))
     (merged-within i most es xs w)
+
+-- entries each of which is lowered by two tables
+pub lowered_by : (es ds xs ys : List ℕ) → length ys ≡ length xs
+    → ((i : ℕ) → i < length xs → get_or ys i 0 ≡ min (min (get_or es i 0) (get_or ds i 0) + 1) (get_or xs i 0))
+    → ys ≡ lowered ds (lowered es xs)
+lowered_by es ds xs ys long f =
+    ext_get_or 0 ys (lowered ds (lowered es xs))
+    (long ∙ sym (lowered-length ds (lowered es xs) ∙ lowered-length es xs))
+    (λ i h. let g : i < length xs = rw long at h in
+    let k : i < length (lowered es xs) = rw (lowered-length es xs) g in
+    omega (arith, f i g, lowered-at ds (lowered es xs) i k, lowered-at es xs i g))

@@ -23,18 +23,18 @@ loop-j-preserved c =
     let x = c.args in
     let k = 2 * l.j in
     let e = get_or x.table.now l.j 0 in
-    let once = set l.entries k c.lesser.result in
+    let once = set l.entries k c.min.result in
     let next : 2 * (l.j + 1) ≡ k + 1 + 1 = omega arith in
     let first = merging_next x.infinity x.table.now x.entries.now l.entries k l.invariant
-    c.lesser.result _ (search rules)
+    c.min.result _ (search rules)
     (covered-half _ _ k (search rules) (search rules) l.j (search rules) (search rules) (search rules))
-    (c.lesser.ensures
+    (c.min.ensures
     ∙ ap (λ y. min y (get_or l.entries k 0)) c.farther-v.ensures
     ∙ nearest-one x.infinity e (get_or l.entries k 0) (omega arith)) in
     rw next (merging_next x.infinity x.table.now x.entries.now once (k + 1) first
-    c.lesser-in-loop-j.result _ (search rules)
+    c.min-in-loop-j.result _ (search rules)
     (covered-half _ _ (k + 1) (search rules) (search rules) l.j (search rules) (search rules) (search rules))
-    (c.lesser-in-loop-j.ensures
+    (c.min-in-loop-j.ensures
     ∙ ap (λ y. min y (get_or once (k + 1) 0)) c.farther-v.ensures
     ∙ nearest-one x.infinity e (get_or once (k + 1) 0) (omega arith)))
 

@@ -1,59 +1,71 @@
--- The first i entries are merged, the others as they were; what is left of the table starts at block i.
-use Prim.Native.Nat.{◌+◌, ◌*◌, ◌/◌, ◌≤◌}
-use mathlib.Core.Path.{◌≡◌, sym, ap, ◌∙◌}
-use native.Mathlib.Nat.{zero-mul, mul-div-le}
-use native.Mathlib.Omega.{arith}
-use lib.ListN.{length, take, drop, length-drop}
-use lib.Seq.{drop-drop, length-take-le}
-use borrow.Author.Rules.{rules}
-use Rattle.laws.proofs.Parts.{part_tail}
-use Rattle.tablemerger.proofs.MergeSteps.{block_within, covered-block, merging_first, merging_next}
-use Rattle.tablemerger.proofs.MergeSteps.{merging_end}
-use Rattle.tablemerger.proofs.merge_longer.Goals.{In-loop-i}
+-- Each entry takes the least of what its place covers.
+use Rattle.std.proofs.Common.{◌≡◌, ◌+◌, ◌*◌, ◌/◌, min, length, get_or, take, drop, ◌-◌, sym, ap, ◌∙◌, arith, rules}
+use Rattle.tablemerging.specs.Merging.{reaching, nearest}
+use Rattle.tablemerger.proofs.MergeSteps.{merged_by, covered_same, covered-two, covered-block, nearest-one, nearest-two, farther}
+use Rattle.tablemerger.proofs.MergeSteps.{nearest-least}
+use Rattle.tablemerger.proofs.IdleLaws.{nearest_idle}
 use Rattle.tablemerger.proofs.merge_longer.Goals as goal
 
-pub loop-i-init : goal.loop-i-init
-loop-i-init c = (merging_first _ _ _, rw zero-mul)
-
--- a block is left
-left : (c : In-loop-i)
-    → length c.args.table.now
-    / length c.args.entries.now
-    ≤ length c.loop-i.rest.now
-left c =
+pub returns-then-most-saturating_add : goal.returns-then-most-saturating_add
+returns-then-most-saturating_add c =
     let x = c.args in
-    let l = c.loop-i in
-    let size = length x.table.now / length x.entries.now in
-    rw l.invariant.1 (simp length-drop (omega (
-      arith,
-      block_within l.i (length x.entries.now) size
-          (length x.table.now) (search rules) (mul-div-le (length x.table.now) (length x.entries.now)),
-    )))
+    let f = c.lower_each in
+    merged_by x.infinity x.table.now x.entries.now f.new.entries f.auto.entries
+    (λ i h.
+      let w = f.ensures i h in
+      let old = get_or x.entries.now i 0 in
+      let e = get_or x.table.now i 0 in
+      let n = length x.entries.now in
+      let p = w.1 in
+      let q : w.0 ≡ min (e + 1) 255 = search rules in
+      w.2
+      ∙ omega (arith, q)
+      ∙ nearest_idle x.infinity x.most (omega (arith, c.saturating_add.ensures)) e old (c.requires.2 i)
+      ∙ ap (λ l. nearest old (reaching x.infinity l)) (sym (covered_same n x.table.now i (search rules) h)))
 
-pub slice_bounds-nearest_in-end : goal.slice_bounds-nearest_in-end
-slice_bounds-nearest_in-end c = sym (length-take-le _ _ (left (goal.at.slice_bounds-nearest_in-end c).In-loop-i))
-
-pub slice_bounds-rest-count : goal.slice_bounds-rest-count
-slice_bounds-rest-count c = let h = left (goal.at.slice_bounds-rest-count c).In-loop-i in search rules
-
-pub slice_bounds-rest-start : goal.slice_bounds-rest-start
-slice_bounds-rest-start c = let h = left (goal.at.slice_bounds-rest-start c).In-loop-i in search rules
-
-pub loop-i-preserved : goal.loop-i-preserved
-loop-i-preserved c =
-    let l = c.loop-i in
+pub returns-else-most-saturating_add : goal.returns-else-most-saturating_add
+returns-else-most-saturating_add c =
     let x = c.args in
-    let size = length x.table.now / length x.entries.now in
-    let n : l.i * size + size ≡ (l.i + 1) * size = omega arith in (
-      merging_next x.infinity x.table.now x.entries.now l.entries l.i l.invariant.0
-          c.nearest_in.result _ (search rules)
-          (covered-block (length x.entries.now) x.table.now l.i (search rules)
-          ∙ ap (take size) (sym l.invariant.1))
-          c.nearest_in.ensures,
-      part_tail size l.rest.now ∙ ap (drop size) l.invariant.1
-          ∙ drop-drop size (l.i * size) x.table.now
-          ∙ ap (λ k. drop k x.table.now) n,
-    )
+    let f = c.lower_each-else-most-saturating_add in
+    merged_by x.infinity x.table.now x.entries.now f.new.entries f.auto.entries
+    (λ i h.
+      let w = f.ensures i h in
+      let old = get_or x.entries.now i 0 in
+      let e = get_or x.table.now i 0 in
+      let n = length x.entries.now in
+      let p = w.1 in
+      let q : w.0 ≡ farther x.infinity e = search rules in
+      w.2 ∙ ap (λ v. min v old) q
+      ∙ nearest-one x.infinity e old (search rules)
+      ∙ ap (λ l. nearest old (reaching x.infinity l)) (sym (covered_same n x.table.now i (search rules) h)))
 
-pub returns : goal.returns
-returns c = merging_end _ _ _ _ _ c.loop-i.invariant.0 (λ p h k. absurd (omega arith))
+pub returns-then-table-entries-2 : goal.returns-then-table-entries-2
+returns-then-table-entries-2 c =
+    let x = c.args in
+    let f = c.lower_each-then-table-entries-2 in
+    merged_by x.infinity x.table.now x.entries.now f.new.entries f.auto.entries
+    (λ i h.
+      let w = f.ensures i h in
+      let old = get_or x.entries.now i 0 in
+      let p = w.1 in
+      let q : w.0 ≡ min (farther x.infinity (get_or x.table.now (2 * i) 0)) (farther x.infinity (get_or x.table.now (2 * i + 1) 0))
+      = search rules in
+      w.2 ∙ ap (λ v. min v old) q
+      ∙ nearest-two x.infinity (get_or x.table.now (2 * i) 0) (get_or x.table.now (2 * i + 1) 0) old (search rules)
+      ∙ ap (λ l. nearest old (reaching x.infinity l)) (sym (covered-two (length x.entries.now) x.table.now i (omega arith) h)))
+
+pub returns-else-table-entries-2 : goal.returns-else-table-entries-2
+returns-else-table-entries-2 c =
+    let x = c.args in
+    let f = c.lower_each-else-table-entries-2 in
+    let size = length x.table.now / length x.entries.now in
+    merged_by x.infinity x.table.now x.entries.now f.new.entries f.auto.entries
+    (λ i h.
+      let w = f.ensures i h in
+      let old = get_or x.entries.now i 0 in
+      let p = w.1 in
+      let n : i * size + size - i * size ≡ size = omega arith in
+      let q : w.0 ≡ nearest 255 (reaching x.infinity (take size (drop (i * size) x.table.now))) = search (rules, n) in
+      w.2 ∙ ap (λ v. min v old) q
+      ∙ nearest-least old _ (search rules)
+      ∙ ap (λ l. nearest old (reaching x.infinity l)) (sym (covered-block (length x.entries.now) x.table.now i (search rules))))

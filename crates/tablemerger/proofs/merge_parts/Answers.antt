@@ -31,20 +31,20 @@ loop-pair-preserved c =
     let l = c.loop-pair in
     let k = 2 * l.pair in
     let next : k + 1 + 1 ≡ 2 * (l.pair + 1) = omega arith in
-    let behind = part-next x.room x.area.now k c.smaller-n.result l.rest.now l.invariant.1
-    c.smaller-n.ensures in
+    let behind = part-next x.room x.area.now k c.min-n.result l.rest.now l.invariant.1
+    c.min-n.ensures in
     let es = take c.standing-a.result l.rest.now in
     let once = merged (get_or x.tables k no_table).infinity es l.entries in
     let both = c.merge_pair.ensures in (
       omega arith,
-      part-next x.room x.area.now (k + 1) c.smaller-m.result _ behind c.smaller-m.ensures
+      part-next x.room x.area.now (k + 1) c.min-m.result _ behind c.min-m.ensures
           ∙ ap (λ j. drop (j * x.room) x.area.now) next,
       rw both (merged-within _ x.most _ once (merged-within _ x.most es l.entries l.invariant.2)),
       ap₂ (λ j es. merged_all (from_part x.picked x.tables x.room x.area.now j) es) (sym next) both
-          ∙ merged-next x.picked x.tables x.room x.area.now (k + 1) c.smaller-m.result c.standing-b.result _
-          once (omega arith) behind c.smaller-m.ensures c.standing-b.ensures.0
-          ∙ merged-next x.picked x.tables x.room x.area.now k c.smaller-n.result c.standing-a.result
-          l.rest.now l.entries (omega arith) l.invariant.1 c.smaller-n.ensures c.standing-a.ensures.0
+          ∙ merged-next x.picked x.tables x.room x.area.now (k + 1) c.min-m.result c.standing-b.result _
+          once (omega arith) behind c.min-m.ensures c.standing-b.ensures.0
+          ∙ merged-next x.picked x.tables x.room x.area.now k c.min-n.result c.standing-a.result
+          l.rest.now l.entries (omega arith) l.invariant.1 c.min-n.ensures c.standing-a.ensures.0
           ∙ l.invariant.3,
     )
 

@@ -16,6 +16,3 @@ invariant-loop-pair l =
     × Within l.most l.entries
     × (merged_all (from_part l.picked l.tables l.room l.area (2 * l.pair)) l.entries
     ≡ merged_all (part_tables l.picked l.tables l.room l.area) l.initial.entries)
-
-abbrev pub decreases-loop-pair : goal.decreases-loop-pair
-decreases-loop-pair l = 4 - l.pair
