@@ -11,10 +11,7 @@ use tablemessages::Plan;
 pub(crate) fn data_length(small: bool, n: usize) -> usize
     ensures { result ≡ data_length small n }
 {
-    if small {
-        return n / 2;
-    }
-    n
+    if small { n / 2 } else { n }
 }
 
 // The difference e - b in 8 bits.
@@ -87,10 +84,7 @@ pub(crate) fn put_data<'a>(
     requires { Sound plan old.now new.now × (from + n ≤ length (data_by plan old.now new.now)) × (n ≤ length part.old) }
     ensures { part.new ≡ over 0 (take n (drop from (data_by plan old.now new.now))) part.old }
 {
-    let mut i = 0;
-    while i < n {
-        let b = data_byte(plan, old, new, from + i);
-        part[i] = b;
-        i += 1;
+    for i in 0..n {
+        part[i] = data_byte(plan, old, new, from + i);
     }
 }

@@ -15,12 +15,8 @@ fn in_range(entries: &[u8], infinity: u8) -> bool
     ensures { result ≡ all (in_range infinity) entries.now }
 {
     let mut good = true;
-    let mut i = 0;
-    while i < entries.len() {
-        let e = entries[i];
-        let within = (1 <= e) & (e <= infinity);
-        good = good & within;
-        i += 1;
+    for e in entries {
+        good &= (1 <= *e) & (*e <= infinity);
     }
     good
 }
@@ -29,33 +25,17 @@ fn in_range(entries: &[u8], infinity: u8) -> bool
 fn good_table(entries: &[u8], infinity: u8) -> bool
     ensures { result ≡ good_table entries.now infinity }
 {
-    if LONGEST < entries.len() {
-        return false;
-    }
-    if !good_length(entries.len() as u32) {
-        return false;
-    }
-    if !good_infinity(infinity) {
-        return false;
-    }
-    in_range(entries, infinity)
-}
-
-// The sum, or 255 where it is more.
-fn capped_sum(x: u8, more: u8) -> u8
-    ensures { result ≡ min (x + more) 255 }
-{
-    if x <= 255 - more {
-        return x + more;
-    }
-    255
+    entries.len() <= LONGEST
+        && good_length(entries.len() as u32)
+        && good_infinity(infinity)
+        && in_range(entries, infinity)
 }
 
 // The difference of two entries lies in -8..7.
 fn is_near(e: u8, b: u8) -> bool
     ensures { result ≡ near e b }
 {
-    (e <= capped_sum(b, 7)) & (b <= capped_sum(e, 8))
+    (e <= b.saturating_add(7)) & (b <= e.saturating_add(8))
 }
 
 // What the difference of entry i is taken from: the old table's entry, or Infinity where there is no old table.
@@ -63,10 +43,7 @@ pub(crate) fn base_at<'a>(had: bool, old: &'a [u8], infinity: u8, new: &'a [u8],
     requires { (length (base_of had old.now new.now infinity) ≡ length new.now) × (i < length new.now) }
     ensures { result ≡ get_or (base_of had old.now new.now infinity) i 0 }
 {
-    if had {
-        return old[i];
-    }
-    infinity
+    if had { old[i] } else { infinity }
 }
 
 // Every difference lies in -8..7. No way out before the end: the turns are alike.
@@ -75,17 +52,13 @@ pub(crate) fn all_near<'a>(had: bool, old: &'a [u8], infinity: u8, new: &'a [u8]
     ensures { result ≡ all_near new.now (base_of had old.now new.now infinity) }
 {
     let mut good = true;
-    let mut i = 0;
-    while i < new.len() {
-        let b = base_at(had, old, infinity, new, i);
-        let close = is_near(new[i], b);
-        good = good & close;
-        i += 1;
+    for (i, e) in new.iter().enumerate() {
+        good &= is_near(*e, base_at(had, old, infinity, new, i));
     }
     good
 }
 
-// The tables and the data size may be written.
+// The tables and the data size may be written. Test by test: as one expression the search finds no proof of it.
 pub(crate) fn may_write<'a>(w: Wanted, old: &'a [u8], new: &'a [u8]) -> bool
     ensures { result ≡ may_write w.had old.now w.was new.now w.infinity w.size }
 {

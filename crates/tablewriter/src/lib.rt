@@ -43,10 +43,7 @@ fn answered(answer: u8, written: usize) -> Written
 fn reset_length(had: bool) -> usize
     ensures { result ≡ reset_length had }
 {
-    if had {
-        return 0;
-    }
-    RESET_SIZE
+    if had { 0 } else { RESET_SIZE }
 }
 
 // The messages that turn the old table into the new one. Where there is no old table, `old` and its Infinity are not
@@ -65,8 +62,7 @@ pub fn write_table<'a>(
     let had = w.had;
     let infinity = w.infinity;
     let size = w.size;
-    let good = may_write(w, old, new);
-    if !good {
+    if !may_write(w, old, new) {
         return answered(14, 0);
     }
     let small = all_near(had, old, infinity, new);

@@ -28,10 +28,7 @@ fn put_reset(number: [u8; 16], entries: u32, infinity: u8, part: &mut [u8])
 fn bits_of(plan: Plan) -> u8
     ensures { result ≡ bits_by plan }
 {
-    if plan.small {
-        return 4;
-    }
-    8
+    if plan.small { 4 } else { 8 }
 }
 
 // A PATCH with n bytes of the run's data, from byte `from` on, stands at the front of the part.
@@ -61,15 +58,6 @@ fn put_patch<'a>(
     put_data(plan, old, new, from, n, &mut part[PATCH_HEAD..]);
 }
 
-fn smaller(a: usize, b: usize) -> usize
-    ensures { result ≡ min a b }
-{
-    if a <= b {
-        return a;
-    }
-    b
-}
-
 // The whole run stands at the front of `out`.
 fn put_run<'a>(number: [u8; 16], plan: Plan, old: &'a [u8], new: &'a [u8], out: &mut [u8])
     requires { Runs number plan old.now new.now (length out.old) }
@@ -80,7 +68,7 @@ fn put_run<'a>(number: [u8; 16], plan: Plan, old: &'a [u8], new: &'a [u8], out: 
     let mut from: usize = 0;
     let mut at: usize = 0;
     while from < data {
-        let n = smaller(plan.size, data - from);
+        let n = plan.size.min(data - from);
         let end = at + PATCH_HEAD + n;
         put_patch(
             number,
@@ -110,9 +98,9 @@ pub(crate) fn put_all<'a>(
     ensures { out.new ≡ over 0 (all_by number plan old.now new.now) out.old }
 {
     if plan.had {
-        put_run(number, plan, old, new, &mut *out);
-        return;
+        put_run(number, plan, old, new, out);
+    } else {
+        put_reset(number, new.len() as u32, plan.infinity, &mut *out);
+        put_run(number, plan, old, new, &mut out[RESET_SIZE..]);
     }
-    put_reset(number, new.len() as u32, plan.infinity, &mut *out);
-    put_run(number, plan, old, new, &mut out[RESET_SIZE..]);
 }

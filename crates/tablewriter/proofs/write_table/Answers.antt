@@ -13,15 +13,15 @@ use Rattle.tablemessages.proofs.AnswerLaws.{bytes-length}
 use Rattle.tablemessages.proofs.DataLaws.{base-length}
 use Rattle.tablemessages.proofs.GoodLaws.{GoodCall, call-to}
 use Rattle.tablemessages.proofs.CallLaws.{data_count, data_few, count_same, plan-fits, all_same}
-use Rattle.tablewriter.proofs.write_table.Goals.{After-data_length-data, After-reset_length, Else-not-good}
+use Rattle.tablewriter.proofs.write_table.Goals.{After-data_length-data, After-reset_length, Else-not-may_write}
 use Rattle.tablewriter.proofs.write_table.Goals as goal
 
 -- the tables and the data size may be written
-may : (c : Else-not-good) → let x = c.args in
+may : (c : Else-not-may_write) → let x = c.args in
     may_write x.w.had x.old.now x.w.was x.new.now x.w.infinity x.w.size ≡ true
-may c = sym c.may_write-good.ensures ∙ c.if-not-good.false
+may c = sym c.may_write.ensures ∙ c.if-not-may_write.false
 
-good : (c : Else-not-good) → let x = c.args in
+good : (c : Else-not-may_write) → let x = c.args in
     GoodCall x.w.had x.old.now x.w.was x.new.now x.w.infinity x.w.size
 good c =
     let x = c.args in
@@ -38,7 +38,7 @@ count c =
     let a = c.all_near-small in
     count_same x.number (omega arith) x.w.had x.old.now x.w.was x.new.now
     x.w.infinity x.w.size
-    (good (goal.at.After-data_length-data c).Else-not-good) a.result a.ensures c.data_length-data.result c.data_length-data.ensures
+    (good (goal.at.After-data_length-data c).Else-not-may_write) a.result a.ensures c.data_length-data.result c.data_length-data.ensures
 
 few : (c : After-data_length-data) → c.data_length-data.result ≤ 65536
 few c =
@@ -46,7 +46,7 @@ few c =
     let a = c.all_near-small in
     rw c.data_length-data.ensures (data_few x.number (omega arith) x.w.had x.old.now x.w.was
     x.new.now x.w.infinity x.w.size
-    (good (goal.at.After-data_length-data c).Else-not-good) a.result a.ensures)
+    (good (goal.at.After-data_length-data c).Else-not-may_write) a.result a.ensures)
 
 bytes : (c : After-data_length-data)
     → let x = c.args in
@@ -57,7 +57,7 @@ bytes c =
     let a = c.all_near-small in
     c.data_length-data.ensures ∙ sym (data_count x.number (omega arith) x.w.had x.old.now x.w.was
     x.new.now x.w.infinity x.w.size
-    (good (goal.at.After-data_length-data c).Else-not-good) a.result a.ensures)
+    (good (goal.at.After-data_length-data c).Else-not-may_write) a.result a.ensures)
 
 -- all the messages' bytes, as the code counts them
 total : (c : After-reset_length)
@@ -71,18 +71,18 @@ total c =
     let k = count (goal.at.After-reset_length c).After-data_length-data in
     let b =
     bytes-length x.w.had x.number x.old.now x.new.now x.w.infinity x.w.size (omega arith)
-    (good (goal.at.After-reset_length c).Else-not-good).some in
+    (good (goal.at.After-reset_length c).Else-not-may_write).some in
     omega (arith, c.reset_length.ensures)
 
-pub returns-then-not-good : goal.returns-then-not-good
-returns-then-not-good c =
+pub returns-then-not-may_write : goal.returns-then-not-may_write
+returns-then-not-may_write c =
     let x = c.args in
     let w =
     refused x.number x.w.had x.old.now x.w.was x.new.now x.w.infinity
     x.w.size x.out.now 14
     (bad-given x.number x.w.had x.old.now x.w.was x.new.now x.w.infinity
     x.w.size x.out.now
-    (sym c.may_write-good.ensures ∙ c.if-not-good.true))
+    (sym c.may_write.ensures ∙ c.if-not-may_write.true))
     refl in
     record {
       result = c.answered.ensures ∙ w.0;
@@ -95,13 +95,13 @@ all_near-small-requires c =
     base-length x.w.had x.old.now x.new.now x.w.infinity (good c).like
 
 pub overflow_add-count : goal.overflow_add-count
-overflow_add-count c = omega (arith, few (goal.at.overflow_add-count c).After-data_length-data, (good (goal.at.overflow_add-count c).Else-not-good).most)
+overflow_add-count c = omega (arith, few (goal.at.overflow_add-count c).After-data_length-data, (good (goal.at.overflow_add-count c).Else-not-may_write).most)
 
 pub overflow_sub-count : goal.overflow_sub-count
-overflow_sub-count c = omega (arith, (good (goal.at.overflow_sub-count c).Else-not-good).some)
+overflow_sub-count c = omega (arith, (good (goal.at.overflow_sub-count c).Else-not-may_write).some)
 
 pub nonzero_div-count : goal.nonzero_div-count
-nonzero_div-count c = (good (goal.at.nonzero_div-count c).Else-not-good).some
+nonzero_div-count c = (good (goal.at.nonzero_div-count c).Else-not-may_write).some
 
 pub returns-then-count-gt255 : goal.returns-then-count-gt255
 returns-then-count-gt255 c =
@@ -112,7 +112,7 @@ returns-then-count-gt255 c =
     x.w.size x.out.now 14
     (too_many x.number x.w.had x.old.now x.w.was x.new.now x.w.infinity
     x.w.size x.out.now
-    (may ((goal.at.returns-then-count-gt255 c).Else-not-good)) (omega arith))
+    (may ((goal.at.returns-then-count-gt255 c).Else-not-may_write)) (omega arith))
     refl in
     record {
       result = c.answered-then-count-gt255.ensures ∙ w.0;
@@ -143,7 +143,7 @@ returns-then-out-total c =
     x.w.size x.out.now 2
     (too_short x.number x.w.had x.old.now x.w.was x.new.now x.w.infinity
     x.w.size x.out.now
-    (may (goal.at.returns-then-out-total c).Else-not-good) (omega arith) (omega arith))
+    (may (goal.at.returns-then-out-total c).Else-not-may_write) (omega arith) (omega arith))
     refl in
     record {
       result = c.answered-then-out-total.ensures ∙ w.0;
@@ -153,7 +153,7 @@ returns-then-out-total c =
 pub put_all-requires : goal.put_all-requires
 put_all-requires c =
     let x = c.args in
-    let g = good (goal.at.put_all-requires c).Else-not-good in
+    let g = good (goal.at.put_all-requires c).Else-not-may_write in
     let k = count ((goal.at.put_all-requires c).After-data_length-data) in
     let t = total (goal.at.put_all-requires c).After-reset_length in
     let b = bytes-length x.w.had x.number x.old.now x.new.now x.w.infinity x.w.size
@@ -173,7 +173,7 @@ returns c =
     x.w.size x.out.now _ _
     (all-well x.number x.w.had x.old.now x.w.was x.new.now x.w.infinity
     x.w.size x.out.now
-    (may (goal.at.returns c).Else-not-good) (omega arith) (omega arith)) t
+    (may (goal.at.returns c).Else-not-may_write) (omega arith) (omega arith)) t
     (c.put_all.ensures
     ∙ ap (λ b. over 0 b x.out.now)
     (all_same x.w.had x.number x.old.now x.new.now x.w.infinity x.w.size a.result _

@@ -26,8 +26,8 @@ loop-i-preserved c =
     let v = c.loop-i.invariant in
     let d = data_by x.plan x.old.now x.new.now in (
       omega arith,
-      ap (λ a. set a i c.data_byte-b.result) v.1
-          ∙ ap (set (over 0 (take i (drop x.from d)) x.part.now) i) (c.data_byte-b.ensures
+      ap (λ a. set a i c.data_byte.result) v.1
+          ∙ ap (set (over 0 (take i (drop x.from d)) x.part.now) i) (c.data_byte.ensures
           ∙ sym (get_or-drop x.from d i 0))
           ∙ byte_next (drop x.from d) x.part.now i (rw length-drop (omega arith)) (omega arith),
       simp length-set v.2,

@@ -9,6 +9,3 @@ use Rattle.tablewriter.proofs.data.put_data.Given as goal
 abbrev pub invariant-loop-i : goal.invariant-loop-i
 invariant-loop-i l =
     (l.i ≤ l.n) × (l.part ≡ over 0 (take l.i (drop l.from (data_by l.plan l.old l.new))) l.initial.part) × (length l.part ≡ length l.initial.part)
-
-abbrev pub decreases-loop-i : goal.decreases-loop-i
-decreases-loop-i l = l.n - l.i

@@ -10,21 +10,19 @@ use Rattle.tablewriter.proofs.good.all_near.Goals as goal
 pub loop-i-preserved : goal.loop-i-preserved
 loop-i-preserved c =
     let x = c.args in
-    let l = c.loop-i in (
-      omega arith,
-      l.invariant.1
-          ∙ near-more x.new.now (base_of x.had x.old.now x.new.now x.infinity) l.i l.good
-          c.is_near-close.result (omega arith)
-          (omega arith)
-          (c.is_near-close.ensures ∙ ap (near (get_or x.new.now l.i 0)) c.base_at-b.ensures),
-    )
+    let l = c.loop-i in
+    l.invariant
+    ∙ near-more x.new.now (base_of x.had x.old.now x.new.now x.infinity) l.i l.good
+    c.is_near-good.result (omega arith)
+    (omega arith)
+    (c.is_near-good.ensures ∙ ap (near (get_or x.new.now l.i 0)) c.base_at.ensures)
 
 pub returns : goal.returns
 returns c =
     let x = c.args in
     let l = c.loop-i in
     sym
-    (l.invariant.1
+    (l.invariant
     ∙ ap (λ t. l.good && t) (near-end x.new.now (base_of x.had x.old.now x.new.now x.infinity)
     l.i (omega arith))
     ∙ and-true l.good)

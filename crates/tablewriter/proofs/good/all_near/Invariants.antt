@@ -8,9 +8,5 @@ use Rattle.tablewriter.proofs.good.all_near.Given as goal
 
 abbrev pub invariant-loop-i : goal.invariant-loop-i
 invariant-loop-i l =
-    (l.i ≤ length l.new)
-    × (all_near l.new (base_of l.had l.old l.new l.infinity)
-    ≡ (l.good && all_near (drop l.i l.new) (drop l.i (base_of l.had l.old l.new l.infinity))))
-
-abbrev pub decreases-loop-i : goal.decreases-loop-i
-decreases-loop-i l = length l.new - l.i
+    all_near l.new (base_of l.had l.old l.new l.infinity)
+    ≡ (l.good && all_near (drop l.i l.new) (drop l.i (base_of l.had l.old l.new l.infinity)))

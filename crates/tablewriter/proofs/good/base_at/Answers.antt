@@ -19,8 +19,8 @@ returns-then-had c =
     (base-at x.had x.old.now x.new.now x.infinity x.i (omega arith)
     ∙ ap (λ h. cond h (get_or x.old.now x.i 0) x.infinity) c.if-had.true)
 
-pub returns : goal.returns
-returns c =
+pub returns-else-had : goal.returns-else-had
+returns-else-had c =
     let x = c.args in
     sym
     (base-at x.had x.old.now x.new.now x.infinity x.i (omega arith)

@@ -7,18 +7,15 @@ use Rattle.tablemessages.specs.Writer.{in_range}
 use Rattle.tablemessages.proofs.GoodLaws.{all_more}
 use Rattle.tablewriter.proofs.good.in_range.Goals as goal
 
-pub loop-i-init : goal.loop-i-init
-loop-i-init c = (omega arith, refl)
-
-pub loop-i-preserved : goal.loop-i-preserved
-loop-i-preserved c =
+pub loop-e-preserved : goal.loop-e-preserved
+loop-e-preserved c =
     let x = c.args in
-    let l = c.loop-i in
-    (omega arith, l.invariant.1 ∙ all_more (in_range x.infinity) x.entries.now l.i l.good _ (omega arith) refl)
+    let l = c.loop-e in
+    l.invariant ∙ all_more (in_range x.infinity) x.entries.now l.e-index l.good _ (omega arith) refl
 
 pub returns : goal.returns
 returns c =
     let x = c.args in
-    let l = c.loop-i in
-    sym (l.invariant.1 ∙ ap (λ t. l.good && t) (all_end (in_range x.infinity) x.entries.now l.i (omega arith))
+    let l = c.loop-e in
+    sym (l.invariant ∙ ap (λ t. l.good && t) (all_end (in_range x.infinity) x.entries.now l.e-index (omega arith))
     ∙ and-true l.good)

@@ -7,9 +7,5 @@ use Rattle.laws.specs.Tests.{all}
 use Rattle.tablemessages.specs.Writer.{in_range}
 use Rattle.tablewriter.proofs.good.in_range.Given as goal
 
-abbrev pub invariant-loop-i : goal.invariant-loop-i
-invariant-loop-i l =
-    (l.i ≤ length l.entries) × (all (in_range l.infinity) l.entries ≡ (l.good && all (in_range l.infinity) (drop l.i l.entries)))
-
-abbrev pub decreases-loop-i : goal.decreases-loop-i
-decreases-loop-i l = length l.entries - l.i
+abbrev pub invariant-loop-e : goal.invariant-loop-e
+invariant-loop-e l = all (in_range l.infinity) l.entries ≡ (l.good && all (in_range l.infinity) (drop l.e-index l.entries))

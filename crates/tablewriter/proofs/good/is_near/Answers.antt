@@ -10,5 +10,5 @@ pub returns : goal.returns
 returns c =
     let x = c.args in
     ap₂ ◌&&◌
-    (capped x.e (x.b + 7) c.capped_sum.result (search rules) c.capped_sum.ensures)
-    (capped x.b (x.e + 8) c.capped_sum-2.result (search rules) c.capped_sum-2.ensures)
+    (capped x.e (x.b + 7) c.saturating_add.result (search rules) c.saturating_add.ensures)
+    (capped x.b (x.e + 8) c.saturating_add-2.result (search rules) c.saturating_add-2.ensures)

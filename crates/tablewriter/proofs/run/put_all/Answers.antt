@@ -26,22 +26,22 @@ pub slice_bounds-put_run-start : goal.slice_bounds-put_run-start
 slice_bounds-put_run-start c =
     omega (arith, ap reset_length c.if-plan.false, c.requires.reset)
 
-pub put_run-requires-2 : goal.put_run-requires-2
-put_run-requires-2 c =
+pub put_run-requires-else-plan : goal.put_run-requires-else-plan
+put_run-requires-else-plan c =
     let x = c.args in
     let q = c.requires in
     more_room x.number x.plan x.old.now x.new.now (length x.out.now - reset_length x.plan.had) _
     q.run
     (simp (length-take, length-drop) (omega (arith, ap reset_length c.if-plan.false)))
 
-pub returns : goal.returns
-returns c =
+pub returns-else-plan : goal.returns-else-plan
+returns-else-plan c =
     let x = c.args in
     let q = c.requires in
     all-stored x.number x.plan x.old.now x.new.now x.out.now
-    c.put_reset.new.part c.put_run-2.new.out
+    c.put_reset.new.part c.put_run-else-plan.new.out
     (omega arith)
     c.if-plan.false
     (omega (arith, ap reset_length c.if-plan.false, q.reset, q.run.fits))
     c.put_reset.ensures
-    c.put_run-2.ensures
+    c.put_run-else-plan.ensures
