@@ -264,12 +264,6 @@ merged_by infinity es xs ys long f =
     ext_get_or 0 ys (merged infinity es xs) (long ∙ sym (merged-length infinity es xs))
     (λ i h. let g : i < length xs = rw long at h in f i g ∙ sym (merged-at infinity es xs i g))
 
--- the least of all that counts and an entry
-pub nearest-least : (x : ℕ) (es : List ℕ) → x < 256 → min (nearest 255 es) x ≡ nearest x es
-unfolding nearest
-nearest-least x [] h = omega arith
-nearest-least x (e ∷ es) h = let r = nearest-least x es h in omega arith
-
 -- entries each of which is lowered to at most v
 pub mapped_by : (v : ℕ) (xs ys : List ℕ) → length ys ≡ length xs
     → ((i : ℕ) → i < length xs → get_or ys i 0 ≡ min v (get_or xs i 0))

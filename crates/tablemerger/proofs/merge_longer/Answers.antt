@@ -12,16 +12,16 @@ returns-then-most-saturating_add c =
     let f = c.lower_each in
     merged_by x.infinity x.table.now x.entries.now f.new.entries f.auto.entries
     (λ i h.
-      let w = f.ensures i h in
-      let old = get_or x.entries.now i 0 in
-      let e = get_or x.table.now i 0 in
-      let n = length x.entries.now in
-      let p = w.1 in
-      let q : w.0 ≡ min (e + 1) 255 = search rules in
-      w.2
-      ∙ omega (arith, q)
-      ∙ nearest_idle x.infinity x.most (omega (arith, c.saturating_add.ensures)) e old (c.requires.2 i)
-      ∙ ap (λ l. nearest old (reaching x.infinity l)) (sym (covered_same n x.table.now i (search rules) h)))
+    let w = f.ensures i h in
+    let old = get_or x.entries.now i 0 in
+    let e = get_or x.table.now i 0 in
+    let n = length x.entries.now in
+    let p = w.1 in
+    let q : w.0 ≡ min (e + 1) 255 = search rules in
+    w.2
+    ∙ omega (arith, q)
+    ∙ nearest_idle x.infinity x.most (omega (arith, c.saturating_add.ensures)) e old (c.requires.2 i)
+    ∙ ap (λ l. nearest old (reaching x.infinity l)) (sym (covered_same n x.table.now i (search rules) h)))
 
 pub returns-else-most-saturating_add : goal.returns-else-most-saturating_add
 returns-else-most-saturating_add c =
@@ -29,15 +29,15 @@ returns-else-most-saturating_add c =
     let f = c.lower_each-else-most-saturating_add in
     merged_by x.infinity x.table.now x.entries.now f.new.entries f.auto.entries
     (λ i h.
-      let w = f.ensures i h in
-      let old = get_or x.entries.now i 0 in
-      let e = get_or x.table.now i 0 in
-      let n = length x.entries.now in
-      let p = w.1 in
-      let q : w.0 ≡ farther x.infinity e = search rules in
-      w.2 ∙ ap (λ v. min v old) q
-      ∙ nearest-one x.infinity e old (search rules)
-      ∙ ap (λ l. nearest old (reaching x.infinity l)) (sym (covered_same n x.table.now i (search rules) h)))
+    let w = f.ensures i h in
+    let old = get_or x.entries.now i 0 in
+    let e = get_or x.table.now i 0 in
+    let n = length x.entries.now in
+    let p = w.1 in
+    let q : w.0 ≡ farther x.infinity e = search rules in
+    w.2 ∙ ap (λ v. min v old) q
+    ∙ nearest-one x.infinity e old (search rules)
+    ∙ ap (λ l. nearest old (reaching x.infinity l)) (sym (covered_same n x.table.now i (search rules) h)))
 
 pub returns-then-table-entries-2 : goal.returns-then-table-entries-2
 returns-then-table-entries-2 c =
@@ -45,14 +45,14 @@ returns-then-table-entries-2 c =
     let f = c.lower_each-then-table-entries-2 in
     merged_by x.infinity x.table.now x.entries.now f.new.entries f.auto.entries
     (λ i h.
-      let w = f.ensures i h in
-      let old = get_or x.entries.now i 0 in
-      let p = w.1 in
-      let q : w.0 ≡ min (farther x.infinity (get_or x.table.now (2 * i) 0)) (farther x.infinity (get_or x.table.now (2 * i + 1) 0))
-      = search rules in
-      w.2 ∙ ap (λ v. min v old) q
-      ∙ nearest-two x.infinity (get_or x.table.now (2 * i) 0) (get_or x.table.now (2 * i + 1) 0) old (search rules)
-      ∙ ap (λ l. nearest old (reaching x.infinity l)) (sym (covered-two (length x.entries.now) x.table.now i (omega arith) h)))
+    let w = f.ensures i h in
+    let old = get_or x.entries.now i 0 in
+    let p = w.1 in
+    let q : w.0 ≡ min (farther x.infinity (get_or x.table.now (2 * i) 0)) (farther x.infinity (get_or x.table.now (2 * i + 1) 0))
+    = search rules in
+    w.2 ∙ ap (λ v. min v old) q
+    ∙ nearest-two x.infinity (get_or x.table.now (2 * i) 0) (get_or x.table.now (2 * i + 1) 0) old (search rules)
+    ∙ ap (λ l. nearest old (reaching x.infinity l)) (sym (covered-two (length x.entries.now) x.table.now i (omega arith) h)))
 
 pub returns-else-table-entries-2 : goal.returns-else-table-entries-2
 returns-else-table-entries-2 c =
@@ -61,11 +61,11 @@ returns-else-table-entries-2 c =
     let size = length x.table.now / length x.entries.now in
     merged_by x.infinity x.table.now x.entries.now f.new.entries f.auto.entries
     (λ i h.
-      let w = f.ensures i h in
-      let old = get_or x.entries.now i 0 in
-      let p = w.1 in
-      let n : i * size + size - i * size ≡ size = omega arith in
-      let q : w.0 ≡ nearest 255 (reaching x.infinity (take size (drop (i * size) x.table.now))) = search (rules, n) in
-      w.2 ∙ ap (λ v. min v old) q
-      ∙ nearest-least old _ (search rules)
-      ∙ ap (λ l. nearest old (reaching x.infinity l)) (sym (covered-block (length x.entries.now) x.table.now i (search rules))))
+    let w = f.ensures i h in
+    let old = get_or x.entries.now i 0 in
+    let p = w.1 in
+    let n : i * size + size - i * size ≡ size = omega arith in
+    let q : w.0 ≡ nearest 255 (reaching x.infinity (take size (drop (i * size) x.table.now))) = search (rules, n) in
+    w.2 ∙ ap (λ v. min v old) q
+    ∙ nearest-least old _ (search rules)
+    ∙ ap (λ l. nearest old (reaching x.infinity l)) (sym (covered-block (length x.entries.now) x.table.now i (search rules))))

@@ -9,10 +9,10 @@ returns-then-most-saturating_add c =
     let f = c.lower_each in
     lowered_by x.first.now x.second.now x.entries.now f.new.entries f.auto.entries
     (λ i h.
-      let w = f.ensures i h in
-      let p = w.1 in
-      let q : w.0 ≡ min (min (get_or x.first.now i 0) (get_or x.second.now i 0) + 1) 255 = search rules in
-      w.2 ∙ omega (arith, q, c.requires i))
+    let w = f.ensures i h in
+    let p = w.1 in
+    let q : w.0 ≡ min (min (get_or x.first.now i 0) (get_or x.second.now i 0) + 1) 255 = search rules in
+    w.2 ∙ omega (arith, q, c.requires i))
     ∙ lowered-two x.most x.infinity1 x.infinity2 (search rules) x.first.now x.second.now
     x.entries.now (search rules) (search rules) c.requires
 

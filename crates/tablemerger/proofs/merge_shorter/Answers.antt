@@ -35,10 +35,10 @@ loop-j-preserved c =
     (λ p h k. covered_one _ _ p (search rules) l.j (search rules) (omega arith) (omega arith))
     (mapped_by (farther x.infinity e) block f.new.entries f.auto.entries
     (λ i h.
-      let w = f.ensures i h in
-      let p = w.1 in
-      let q : w.0 ≡ c.farther-v.result = search rules in
-      w.2 ∙ ap (λ v. min v (get_or block i 0)) (q ∙ c.farther-v.ensures))))
+    let w = f.ensures i h in
+    let p = w.1 in
+    let q : w.0 ≡ c.farther-v.result = search rules in
+    w.2 ∙ ap (λ v. min v (get_or block i 0)) (q ∙ c.farther-v.ensures))))
 
 pub returns : goal.returns
 returns c =
