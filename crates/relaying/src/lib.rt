@@ -24,7 +24,7 @@ use station::lines::tables_of;
 use std::array;
 use tablemerger::merge_tables;
 use tablereader::bounds::good_length;
-use tables::{Mark, Table};
+use tables::{SETTLED, Table};
 
 // What the caller is told: the answer, and the Infinity to write the table with, which is 0 where it is refused.
 #[repr(C)]
@@ -55,7 +55,7 @@ impl From<Result<u8, Refusal>> for Made {
 fn has_say(line: u32, k: u32, table: Table) -> bool
     ensures { result ≡ (is_other line k && eqb table.mark settled) }
 {
-    is_other(line, k) && table.mark == u8::from(Mark::Settled)
+    is_other(line, k) && table.mark == SETTLED
 }
 
 // For each line whether it has a say in what is sent by this one: another line, with a settled table.

@@ -18,6 +18,9 @@ pub enum Mark {
     Broken = 4,
 }
 
+// The mark of a settled table, as its byte.
+pub const SETTLED: u8 = 3;
+
 // A byte that is no mark.
 #[derive(Clone, Copy, Debug, PartialEq, Eq, Hash)]
 pub struct UnknownMark(pub u8);

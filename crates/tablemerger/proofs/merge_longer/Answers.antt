@@ -2,7 +2,6 @@
 use Rattle.std.proofs.Common.{◌≡◌, ◌+◌, ◌*◌, ◌/◌, min, length, get_or, take, drop, ◌-◌, sym, ap, ◌∙◌, arith, rules}
 use Rattle.tablemerging.specs.Merging.{reaching, nearest}
 use Rattle.tablemerger.proofs.MergeSteps.{merged_by, covered_same, covered-two, covered-block, nearest-one, nearest-two, farther}
-use Rattle.tablemerger.proofs.MergeSteps.{nearest-least}
 use Rattle.tablemerger.proofs.IdleLaws.{nearest_idle}
 use Rattle.tablemerger.proofs.merge_longer.Goals as goal
 
@@ -53,19 +52,3 @@ returns-then-table-entries-2 c =
     w.2 ∙ ap (λ v. min v old) q
     ∙ nearest-two x.infinity (get_or x.table.now (2 * i) 0) (get_or x.table.now (2 * i + 1) 0) old (search rules)
     ∙ ap (λ l. nearest old (reaching x.infinity l)) (sym (covered-two (length x.entries.now) x.table.now i (omega arith) h)))
-
-pub returns-else-table-entries-2 : goal.returns-else-table-entries-2
-returns-else-table-entries-2 c =
-    let x = c.args in
-    let f = c.lower_each-else-table-entries-2 in
-    let size = length x.table.now / length x.entries.now in
-    merged_by x.infinity x.table.now x.entries.now f.new.entries f.auto.entries
-    (λ i h.
-    let w = f.ensures i h in
-    let old = get_or x.entries.now i 0 in
-    let p = w.1 in
-    let n : i * size + size - i * size ≡ size = omega arith in
-    let q : w.0 ≡ nearest 255 (reaching x.infinity (take size (drop (i * size) x.table.now))) = search (rules, n) in
-    w.2 ∙ ap (λ v. min v old) q
-    ∙ nearest-least old _ (search rules)
-    ∙ ap (λ l. nearest old (reaching x.infinity l)) (sym (covered-block (length x.entries.now) x.table.now i (search rules))))

@@ -1,7 +1,6 @@
 -- The least at hand, with the entries that are left, gives what all of them give.
 use Prim.Native.Nat.{◌+◌, min}
 use mathlib.Core.Path.{refl, sym, ap, ◌∙◌}
-use native.Mathlib.Omega.{arith}
 use lib.ListN.{drop, drop_of_length-le}
 use borrow.Author.Rules.{rules}
 use Rattle.tablemerging.specs.Merging.{reaching, nearest}
@@ -9,7 +8,7 @@ use Rattle.tablemerger.proofs.MergeSteps.{nearest-next}
 use Rattle.tablemerger.proofs.nearest_in.Goals as goal
 
 pub loop-e-init : goal.loop-e-init
-loop-e-init c = (omega arith, refl)
+loop-e-init c = (c.ranges.x.fits, refl)
 
 pub loop-e-preserved : goal.loop-e-preserved
 loop-e-preserved c =

@@ -8,4 +8,4 @@ use Rattle.tablemerger.proofs.nearest_in.Given as goal
 abbrev pub invariant-loop-e : goal.invariant-loop-e
 invariant-loop-e l =
     (l.least < 256)
-    × (nearest l.least (reaching l.infinity (drop l.e-index l.block)) ≡ nearest 255 (reaching l.infinity l.block))
+    × (nearest l.least (reaching l.infinity (drop l.e-index l.block)) ≡ nearest l.x (reaching l.infinity l.block))
