@@ -190,10 +190,8 @@ fn record_at(at: usize, bytes: &[u8]) -> Option<HitRecord>
 }
 
 impl HitCursor {
-    // The next result, and moves on behind it. BadPayload for a payload that is shorter than a hit's; no result where
-    // none of the stated number is left; BadPayload where the next does not end before the mark. Any cursor is taken,
-    // from this payload or not.
-    pub fn next(&mut self, payload: &[u8]) -> Result<Option<HitRecord>, Refusal>
+    // Moves on behind the next result, if there is one, and gives it.
+    fn step(&mut self, payload: &[u8]) -> Result<Option<HitRecord>, Refusal>
         ensures { told_of result self.new ≡ next_of self.old payload.now }
     {
         if payload.len() < SMALLEST {
@@ -212,5 +210,16 @@ impl HitCursor {
         self.at = record.extat + record.extlen + 1;
         self.left -= 1;
         Ok(Some(record))
+    }
+
+    // The next result, and the cursor moved on behind it. BadPayload for a payload that is shorter than a hit's; no
+    // result where none of the stated number is left; BadPayload where the next does not end before the mark: the
+    // cursor stays then. Any cursor is taken, from this payload or not.
+    pub fn next(self, payload: &[u8]) -> (Result<Option<HitRecord>, Refusal>, HitCursor)
+        ensures { told_of result.0 result.1 ≡ next_of self payload.now }
+    {
+        let mut cursor = self;
+        let read = cursor.step(payload);
+        (read, cursor)
     }
 }

@@ -66,11 +66,14 @@ pub fn byte(row: &[u8], k: usize, j: usize) -> u8
     (number(row, k, j) % 256) as u8
 }
 
-// How many spaces the text has, one before each of its words.
+// How many spaces the text has, one before each of its words; past 4,095 they count from 1 on.
 fn spaces(text: &[u8]) -> usize
     ensures { result < 4096 }
 {
-    text.iter().filter(|b| **b == b' ').count() % 4096
+    match text.iter().filter(|b| **b == b' ').count() {
+        0 => 0,
+        n => (n - 1) % 4095 + 1,
+    }
 }
 
 // The bytes of each word of the text, and where each ends.

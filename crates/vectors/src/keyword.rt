@@ -8,19 +8,26 @@ pub(crate) fn place(rt: &impl Print, keyword: &[u8], bits: u32) -> io::Result<()
     print::number(rt, keywords::hash::place(keyword, bits))
 }
 
-// Where each keyword of the text starts, modulo 256, as a byte of the area; how many there are.
+// Where each keyword of the text starts, modulo 256, as a byte of the area; how many there are. Places count modulo
+// 4,096, which is more than a query's text has.
 fn starts(text: &[u8], area: &mut [u8; 256]) -> usize {
-    let mut rest = text;
-    let mut at: u8 = 0;
-    for (i, start) in area.iter_mut().enumerate() {
-        let Some(cut) = first_keyword(rest) else {
-            return i;
+    let mut count = 0;
+    let mut at = 0;
+    for _ in 0..256 {
+        let rest = words::part(text, at, text.len());
+        let end = match first_keyword(rest) {
+            Some(cut) => {
+                let start = at % 4096 + cut.start % 4096;
+                if cut.start % 4096 < cut.end % 4096 {
+                    count = words::put(&mut *area, count, (start % 256) as u8);
+                }
+                cut.end
+            }
+            None => rest.len(),
         };
-        *start = at.wrapping_add((cut.start % 256) as u8);
-        at = at.wrapping_add((cut.end % 256) as u8);
-        rest = &rest[cut.end..];
+        at = at % 4096 + end % 4096;
     }
-    256
+    count
 }
 
 pub(crate) fn cuts(rt: &impl Print, text: &[u8]) -> io::Result<()> {

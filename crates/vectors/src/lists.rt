@@ -159,7 +159,11 @@ fn run(rt: &impl Print, area: &mut [u8], row: &[u8]) -> io::Result<()> {
                 act(rt, event, &mut *area, row, k)?;
                 k += event.width();
             }
-            None => k += 1,
+            // A word that names none fills, and takes two words.
+            None => {
+                act(rt, Event::Fill, &mut *area, row, k)?;
+                k += 2;
+            }
         }
     }
     Ok(())

@@ -4,8 +4,8 @@ use Rattle.std.proofs.Math.ListN.{length-take}
 use Rattle.laws.proofs.Parts.{part_tail}
 use Rattle.hits.specs.Reading.{cursor_at, body_from, record_of, told_of, next_of}
 use Rattle.hits.proofs.NextLaws.{next-short, next-ended, next-past, next-nothing, next-one}
-use Rattle.hits.proofs.reading.HitCursor.next.Goals.{In-Some, In-Some-record_at}
-use Rattle.hits.proofs.reading.HitCursor.next.Goals as goal
+use Rattle.hits.proofs.reading.HitCursor.step.Goals.{In-Some, In-Some-record_at}
+use Rattle.hits.proofs.reading.HitCursor.step.Goals as goal
 
 pub returns-then-payload-lt-SMALLEST : goal.returns-then-payload-lt-SMALLEST
 returns-then-payload-lt-SMALLEST c = sym (next-short c.args.self.now c.args.payload.now c.if-payload-lt-SMALLEST.true)
