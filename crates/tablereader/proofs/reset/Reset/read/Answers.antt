@@ -35,8 +35,8 @@ returns-else-good_length c =
     let n = length-is (goal.at.returns-else-good_length c).After-from_le_bytes-length in (
       refl,
       elim c.else-good_length.branch [
-        else-good_length-via-then-good_length+then-length-room+else-good_infinity w ↦ search rules
-      | else-good_length-via-then-good_length+else-length-room w ↦ search rules
-      | else-good_length-via-else-good_length w ↦ search rules
+        | else-good_length-via-then-good_length+then-length-room+else-good_infinity w ↦ search rules
+        | else-good_length-via-then-good_length+else-length-room w ↦ search rules
+        | else-good_length-via-else-good_length w ↦ search rules
       ],
     )
