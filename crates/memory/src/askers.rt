@@ -6,7 +6,6 @@ ghost use Rattle.laws.specs.Tests.{all};
 ghost use Rattle.protocol.specs.Memory.{asker_fits};
 ghost use Rattle.memory.specs.Order.{fits_beside};
 
-use crate::places::below;
 use protocol::{GONE, NOBODY};
 
 // Are the askers of the part lines, here or gone, and none of them this line?
@@ -43,7 +42,7 @@ pub(crate) fn askers_fit(asker: &[u8], count: usize, next: usize, live: [bool; 8
     ensures { let fits : ℕ → Bool = λ p. asker_fits (λ k. get_or live k false) (get_or asker.now p 0) in
         result ≡ all fits (places_before (length asker.now) next count) }
 {
-    let first = below(count, next);
+    let first = count.min(next);
     let from = next - first;
     let end = asker.len() - (count - first);
     part_fits(&asker[from..next], live) & part_fits(&asker[end..], live)

@@ -5,7 +5,6 @@ ghost use Rattle.laws.specs.Ring.{places_before};
 ghost use Rattle.laws.specs.Tests.{all};
 ghost use Rattle.protocol.specs.Memory.{hits_fit};
 
-use crate::places::below;
 use protocol::HITS;
 
 fn part_fits(part: &[u8]) -> bool
@@ -25,7 +24,7 @@ pub(crate) fn hits_fit(hits: &[u8], count: usize, next: usize) -> bool
     ensures { let fits : ℕ → Bool = λ p. hits_fit (get_or hits.now p 0) in
         result ≡ all fits (places_before (length hits.now) next count) }
 {
-    let first = below(count, next);
+    let first = count.min(next);
     let from = next - first;
     let end = hits.len() - (count - first);
     part_fits(&hits[from..next]) & part_fits(&hits[end..])

@@ -1,6 +1,8 @@
 // Floor 4: leaves over the ring of remembered queries. They take slices of any length, whose capacity is the length
 // of `lo`; what crate lunozhar calls for a station's ring of 512 (`survey`, `remember`, `raise`, `fresh`) takes arrays,
 // and `leave` the askers as a slice.
+// The kept places of a ring are those just below `next`, as many as there are or are kept, and the rest at the end of
+// its slices: `count.min(next)` are below.
 #![tactic(auto)]
 
 mod askers;
@@ -8,7 +10,6 @@ mod hits;
 pub mod leave;
 mod numbers;
 pub mod order;
-pub mod places;
 pub mod remember;
 pub mod search;
 

@@ -4,7 +4,6 @@ ghost use Rattle.protocol.specs.Memory.{memory_of};
 ghost use Rattle.memory.specs.Queries.{queries_before};
 ghost use Rattle.memory.specs.Order.{Passed, Filled, Tested};
 
-use crate::places::{below, word_at};
 use crate::search::find;
 
 // A word of the filter joins the first halves passed that agree in their lowest ten bits: a number with a bit that
@@ -50,16 +49,8 @@ fn no_twice_in<'a>(
 {
     let mut p = fill(lo, from, to, filter);
     while p < to {
-        let found = find(
-            lo,
-            hi,
-            asker,
-            hits,
-            passed + (p - from),
-            p,
-            lo[p],
-            word_at(hi, p),
-        );
+        let high = hi.get(p).copied().unwrap_or(0);
+        let found = find(lo, hi, asker, hits, passed + (p - from), p, lo[p], high);
         if found.is_some() {
             return false;
         }
@@ -83,7 +74,7 @@ pub(crate) fn no_twice<'a>(
     ensures { let ring = memory_of lo.now hi.now asker.now hits.now count next in
         Tested result filter.new (queries_before (length lo.now) ring) }
 {
-    let first = below(count, next);
+    let first = count.min(next);
     let rest = count - first;
     let capacity = lo.len();
     if !no_twice_in(lo, hi, asker, hits, capacity - rest, capacity, 0, filter) {

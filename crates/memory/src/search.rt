@@ -3,7 +3,6 @@ ghost use Rattle.std.specs.Prelude.{◌+◌, ◌<◌, ◌≤◌, ◌≡◌, leng
 ghost use Rattle.protocol.specs.Memory.{memory_of, number_from, queries_in, find, lookup_of, lookup_in};
 ghost use Rattle.memory.specs.Queries.{queries_before, behind};
 
-use crate::places::{below, byte_at, word_at};
 use protocol::Remembered;
 
 // The newest query with the number (a, b) among the n before place `from`, behind `passed` newer ones. One comparison
@@ -23,19 +22,15 @@ fn newest<'a>(
     ensures { let ring = memory_of lo.now hi.now asker.now hits.now n from in
         lookup_in result ≡ lookup_of (behind passed (find (queries_before (length lo.now) ring) (number_from a b))) }
 {
-    let mut i = 0;
-    while i < n {
+    for i in 0..n {
         let p = from - 1 - i;
-        if lo[p] == a {
-            if word_at(hi, p) == b {
-                return Some(Remembered {
-                    after: passed + i,
-                    asker: byte_at(asker, p),
-                    hits: byte_at(hits, p),
-                });
-            }
+        if lo[p] == a && hi.get(p).copied().unwrap_or(0) == b {
+            return Some(Remembered {
+                after: passed + i,
+                asker: asker.get(p).copied().unwrap_or(0),
+                hits: hits.get(p).copied().unwrap_or(0),
+            });
         }
-        i += 1;
     }
     None
 }
@@ -59,7 +54,7 @@ pub fn find<'a>(
     if !fits {
         return None;
     }
-    let first = below(count, next);
+    let first = count.min(next);
     match newest(lo, hi, asker, hits, next, first, 0, a, b) {
         Some(query) => Some(query),
         None => newest(lo, hi, asker, hits, capacity, count - first, first, a, b),

@@ -9,5 +9,5 @@ pub returns : goal.returns
 returns c =
     let a = c.args in
     rw (c.part_fits-2.ensures, c.part_fits.ensures)
-    (parts-kept (asker_fits (λ k. get_or a.live k false)) a.asker.now a.next a.count c.below-first.result
-    c.requires.0 c.requires.1 c.below-first.ensures)
+    (parts-kept (asker_fits (λ k. get_or a.live k false)) a.asker.now a.next a.count c.min-first.result
+    c.requires.0 c.requires.1 c.min-first.ensures)

@@ -7,5 +7,5 @@ pub returns : goal.returns
 returns c =
     let a = c.args in
     rw (c.part_fits-2.ensures, c.part_fits.ensures)
-    (parts-kept hits_fit a.hits.now a.next a.count c.below-first.result
-    c.requires.0 c.requires.1 c.below-first.ensures)
+    (parts-kept hits_fit a.hits.now a.next a.count c.min-first.result
+    c.requires.0 c.requires.1 c.min-first.ensures)

@@ -19,7 +19,7 @@ returns-then-not-no_twice_in c =
     let a = c.args in
     let r = c.no_twice_in in
     end-twice (query_at (memory_of a.lo.now a.hi.now a.asker.now a.hits.now 0 0)) (length a.lo.now)
-    a.next a.count c.below-first.result c.requires.0 c.requires.1 c.below-first.ensures
+    a.next a.count c.min-first.result c.requires.0 c.requires.1 c.min-first.ensures
     (rw c.if-not-no_twice_in.true at r.ensures)
 
 pub no_twice_in-requires-2 : goal.no_twice_in-requires-2
@@ -29,13 +29,13 @@ no_twice_in-requires-2 c =
       from_le_to = (search rules, search rules, search rules);
       passed = end-passed (query_at (memory_of a.lo.now a.hi.now a.asker.now a.hits.now 0 0))
           (length a.lo.now)
-          a.next a.count c.below-first.result c.requires.0 c.requires.1 c.below-first.ensures _
+          a.next a.count c.min-first.result c.requires.0 c.requires.1 c.min-first.ensures _
           (rw c.if-not-no_twice_in.false at r.ensures);
     }
 
 pub returns : goal.returns
 returns c =
     let a = c.args in
-    let f = c.below-first.result in
-    let e : a.count - f + (a.next - (a.next - f)) ≡ a.count = omega (arith, c.below-first.ensures) in
+    let f = c.min-first.result in
+    let e : a.count - f + (a.next - (a.next - f)) ≡ a.count = omega (arith, c.min-first.ensures) in
     rw e at c.no_twice_in-2.ensures

@@ -2,7 +2,7 @@
 use Prim.Native.Nat.{◌+◌, ◌-◌}
 use mathlib.Core.Path.{◌≡◌, sym, ◌∙◌}
 use native.Mathlib.Omega.{arith}
-use lib.ListN.{length}
+use lib.ListN.{length, get_or}
 use borrow.Author.Rules.{rules}
 use Rattle.protocol.specs.Memory.{memory_of, query_at}
 use Rattle.memory.proofs.NumberLaws.{found_before, passed_with, twice-met}
@@ -21,10 +21,11 @@ pub returns-then-is_some : goal.returns-then-is_some
 returns-then-is_some c =
     let a = c.args in
     let p = c.loop-p.p in
+    let high : c.unwrap_or-high.result ≡ get_or a.hi.now p 0 = search rules in
     let ring = memory_of a.lo.now a.hi.now a.asker.now a.hits.now (a.passed + (p - a.from)) p in
     let told =
     found_before (length a.lo.now) ring _ c.find-found.result (omega (arith, c.requires))
-    (omega (arith, c.requires)) c.word_at.ensures c.find-found.ensures in
+    (omega (arith, c.requires)) high c.find-found.ensures in
     twice-met (query_at ring) (length a.lo.now) a.from a.to a.passed p (search rules) (search rules)
     c.requires.from_le_to.1 (sym told ∙ sym c.is_some.ensures ∙ c.if-is_some.true)
 
@@ -40,10 +41,11 @@ loop-p-preserved c =
     let a = c.args in
     let l = c.loop-p in
     let n = a.passed + (l.p - a.from) in
+    let high : c.unwrap_or-high.result ≡ get_or a.hi.now l.p 0 = search rules in
     let ring = memory_of a.lo.now a.hi.now a.asker.now a.hits.now n l.p in
     let told =
     found_before (length a.lo.now) ring _ c.find-found.result (omega (arith, c.requires))
-    (omega (arith, c.requires)) c.word_at.ensures c.find-found.ensures in
+    (omega (arith, c.requires)) high c.find-found.ensures in
     let one =
     passed_with (query_at ring) (length a.lo.now) l.p n l.filter l.filter (omega (arith, c.requires))
     l.invariant.3 (sym told ∙ sym c.is_some.ensures ∙ c.if-is_some.false) l.invariant.3.size (l.invariant.2 (search rules)) (λ _ e. e) in

@@ -1,5 +1,5 @@
 -- Where the queries are in order, the filter has every number; a number that it lacks is not remembered.
-use mathlib.Core.Path.{◌≡◌, sym, ap, ◌∙◌}
+use mathlib.Core.Path.{◌≡◌, sym, ap}
 use native.Mathlib.Omega.{arith}
 use lib.ListN.{length}
 use Rattle.protocol.specs.Memory.{capacity, memory_of, queries_in, lookup_of}

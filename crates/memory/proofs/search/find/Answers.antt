@@ -31,7 +31,7 @@ returns-in-Some c =
     let f = c.if-not-fits.false in
     let ring = memory_of a.lo.now a.hi.now a.asker.now a.hits.now a.count a.next in
     let told = c.in-Some.ensures in
-    let first = c.below-first in
+    let first = c.min-first in
     let found = sym (ap (λ (x : Lookup). x.found) told) in
     told ∙ ap lookup_of (find_first n ring (number_from a.a a.b) first.result f first.ensures found)
 
@@ -48,7 +48,7 @@ returns-in-None c =
     let n = length a.lo.now in
     let f = c.if-not-fits.false in
     let ring = memory_of a.lo.now a.hi.now a.asker.now a.hits.now a.count a.next in
-    let first = c.below-first in
+    let first = c.min-first in
     let none = sym (ap (λ (x : Lookup). x.found) c.in-None.ensures) in
     c.newest-in-None.ensures
     ∙ ap lookup_of (find-rest n ring (number_from a.a a.b) first.result f first.ensures none)

@@ -1,18 +1,14 @@
 -- What is left after i turns, behind what was passed, is what there is among the n before `from`.
 use Prim.Native.Nat.{◌+◌, ◌-◌}
 use mathlib.Core.Path.{◌≡◌, sym, ap, ◌∙◌}
-use native.Mathlib.Nat.{sub-zero, add-zero}
 use native.Mathlib.Omega.{arith}
-use lib.ListN.{length}
+use lib.ListN.{length, get_or}
 use borrow.Author.Rules.{rules}
 use borrow.Author.Tests.{eq-eqb, ne_eqb}
 use Rattle.protocol.specs.Memory.{memory_of, number_from, same_number, query_at, At, pick_found, lookup_of}
 use Rattle.memory.proofs.SearchLaws.{left_of, left_end, left-turn}
-use Rattle.memory.proofs.search.newest.Goals.{In-loop-i, then-lo-p+else-word_at-b, else-lo-p}
+use Rattle.memory.proofs.search.newest.Goals.{In-loop-i, else-lo-p-via-then-lo-p+else-unwrap_or-b, else-lo-p-via-else-lo-p}
 use Rattle.memory.proofs.search.newest.Goals as goal
-
-pub loop-i-init : goal.loop-i-init
-loop-i-init c = (search rules, simp (sub-zero, add-zero))
 
 -- the query at hand is the one, or those behind it decide
 turn : (c : In-loop-i)
@@ -31,23 +27,28 @@ turn c =
     sym
     (left-turn (query_at ring) (length a.lo.now) (number_from a.a a.b) a.from a.n a.passed l.i
     (search rules) (search rules) (search rules))
-    ∙ l.invariant.1
+    ∙ l.invariant
 
-pub returns-then-word_at-b : goal.returns-then-word_at-b
-returns-then-word_at-b c =
-    let same = sym c.word_at.ensures ∙ c.if-word_at-b.true in
-    let e = rw (eq-eqb _ _ c.if-lo-p.true, eq-eqb _ _ same) at (turn (goal.at.returns-then-word_at-b c).In-loop-i) in
-    rw (← e, c.byte_at.ensures, c.byte_at-then-word_at-b.ensures)
+pub returns-then-unwrap_or-b : goal.returns-then-unwrap_or-b
+returns-then-unwrap_or-b c =
+    let a = c.args in
+    let p = a.from - 1 - c.loop-i.i in
+    let high : c.unwrap_or.result ≡ get_or a.hi.now p 0 = search rules in
+    let who : c.unwrap_or-then-unwrap_or-b.result ≡ get_or a.asker.now p 0 = search rules in
+    let times : c.unwrap_or-then-unwrap_or-b-2.result ≡ get_or a.hits.now p 0 = search rules in
+    let same = sym high ∙ c.if-unwrap_or-b.true in
+    let e = rw (eq-eqb _ _ c.if-lo-p.true, eq-eqb _ _ same) at (turn (goal.at.returns-then-unwrap_or-b c).In-loop-i) in
+    rw (← e, who, times)
 
 pub loop-i-preserved : goal.loop-i-preserved
 loop-i-preserved c =
-    let t = turn (goal.at.loop-i-preserved c).In-loop-i in (
-      search rules,
-      elim c.if-lo-p.branch [
-        | then-lo-p+else-word_at-b w ↦ rw (eq-eqb _ _ w.if-lo-p.true, ne_eqb _ _ (λ e. w.if-word_at-b.false (w.word_at.ensures ∙ e))) at t
-        | else-lo-p w ↦ rw (ne_eqb _ _ w.if-lo-p.false) at t
-      ],
-    )
+    let t = turn (goal.at.loop-i-preserved c).In-loop-i in
+    elim c.else-lo-p.branch [
+      | else-lo-p-via-then-lo-p+else-unwrap_or-b w ↦
+          let high : w.unwrap_or.result ≡ get_or c.args.hi.now (c.args.from - 1 - c.loop-i.i) 0 = search rules in
+          rw (eq-eqb _ _ w.if-lo-p.true, ne_eqb _ _ (λ e. w.if-unwrap_or-b.false (high ∙ e))) at t
+      | else-lo-p-via-else-lo-p w ↦ rw (ne_eqb _ _ w.if-lo-p.false) at t
+    ]
 
 pub returns : goal.returns
 returns c =
@@ -57,4 +58,4 @@ returns c =
     let e =
     left_end (query_at ring) (length a.lo.now) (number_from a.a a.b) (a.from - l.i) (a.n - l.i)
     (a.passed + l.i) (omega arith) in
-    ap lookup_of (sym e ∙ l.invariant.1)
+    ap lookup_of (sym e ∙ l.invariant)
