@@ -1,9 +1,11 @@
-// The ordered refusals of an arriving ping and of an arriving pong: a number of RULES 2.1, 0 where nothing is refused.
+// The ordered refusals of an arriving ping and of an arriving pong, each with its number in RULES 2.1.
 ghost use Rattle.std.specs.Prelude.{◌≡◌};
 ghost use Rattle.laws.specs.Tests.{first_of};
+ghost use Rattle.answer.specs.Numbers.{answer_of};
 ghost use Rattle.protocol.specs.Pings.{is_probe, ping_rules, pong_rules};
 
 use crate::clock::elapsed_ms;
+use answer::{Refusal, require};
 use protocol::PONG_HOPS;
 use wire::Header;
 
@@ -15,36 +17,20 @@ pub fn is_probe(h: Header) -> bool
 }
 
 // A ping: TTL 0 is 8; one that is no probe is 13 less than a second after the last accepted one of its line.
-pub fn ping_answer(pinged: bool, pingtime: u32, clock: u32, h: Header) -> u8
-    ensures { result ≡ first_of (ping_rules pinged pingtime clock h) }
+pub fn ping_answer(pinged: bool, pingtime: u32, clock: u32, h: Header) -> Result<(), Refusal>
+    ensures { answer_of result ≡ first_of (ping_rules pinged pingtime clock h) }
 {
-    if h.ttl == 0 {
-        return 8;
-    }
-    if is_probe(h) {
-        return 0;
-    }
-    if !pinged {
-        return 0;
-    }
-    if elapsed_ms(clock, pingtime) < 1000 {
-        return 13;
-    }
-    0
+    require(h.ttl != 0, Refusal::BadTtlOrHops)?;
+    require(
+        is_probe(h) || !pinged || 1000 <= elapsed_ms(clock, pingtime),
+        Refusal::PingTooSoon,
+    )
 }
 
 // A pong: 6 for a payload of less than 14 bytes; 8 where TTL is 0 or Hops are above `PONG_HOPS`.
-pub fn pong_answer(h: Header) -> u8
-    ensures { result ≡ first_of (pong_rules h) }
+pub fn pong_answer(h: Header) -> Result<(), Refusal>
+    ensures { answer_of result ≡ first_of (pong_rules h) }
 {
-    if h.size < 14 {
-        return 6;
-    }
-    if h.ttl == 0 {
-        return 8;
-    }
-    if PONG_HOPS < h.hops {
-        return 8;
-    }
-    0
+    require(14 <= h.size, Refusal::BadPayload)?;
+    require(0 < h.ttl && h.hops <= PONG_HOPS, Refusal::BadTtlOrHops)
 }

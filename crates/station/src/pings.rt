@@ -57,9 +57,8 @@ pub(crate) fn ping_step(
     ensures { let terms = terms_of clock own (length out.old) in
         ((area : List ℕ) → Does (ping_step lines l terms m.now area) result out.old out.new) }
 {
-    let answer = ping_answer(x.pinged, x.pingtime, clock, h);
-    if answer != 0 {
-        return quietly(answer, x);
+    if let Err(refusal) = ping_answer(x.pinged, x.pingtime, clock, h) {
+        return quietly(u8::from(refusal), x);
     }
     let probe = is_probe(h);
     let number = number_of(m);
@@ -79,9 +78,8 @@ pub(crate) fn pong_step(x: Line, h: Header, clock: u32, m: &[u8]) -> Action
     requires { Whole h m.now }
     ensures { (area : List ℕ) → result ≡ action_of (pong_step x clock m.now area) }
 {
-    let answer = pong_answer(h);
-    if answer != 0 {
-        return quietly(answer, x);
+    if let Err(refusal) = pong_answer(h) {
+        return quietly(u8::from(refusal), x);
     }
     let n = HEADER_SIZE + h.size as usize;
     let bytes = first_bytes(&m[HEADER_SIZE..n]);
