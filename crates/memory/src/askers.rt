@@ -13,11 +13,8 @@ fn all_fit_beside(part: &[u8], line: u8) -> bool
     ensures { result ≡ all (fits_beside line) part.now }
 {
     let mut good = true;
-    let mut i = 0;
-    while i < part.len() {
-        let a = part[i];
-        good = good & ((a <= GONE) & (a != line));
-        i += 1;
+    for a in part {
+        good = good & ((*a <= GONE) & (*a != line));
     }
     good
 }
@@ -27,12 +24,10 @@ fn part_fits(part: &[u8], live: [bool; 8]) -> bool
     ensures { result ≡ all (asker_fits (λ k. get_or live k false)) part.now }
 {
     let mut good = all_fit_beside(part, NOBODY);
-    let mut k = 0;
-    while k < 8 {
+    for k in 0..8 {
         if !live[k] {
             good = good & all_fit_beside(part, k as u8);
         }
-        k += 1;
     }
     good
 }

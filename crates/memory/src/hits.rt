@@ -11,10 +11,8 @@ fn part_fits(part: &[u8]) -> bool
     ensures { result ≡ all hits_fit part.now }
 {
     let mut good = true;
-    let mut i = 0;
-    while i < part.len() {
-        good = good & (part[i] <= HITS);
-        i += 1;
+    for n in part {
+        good = good & (*n <= HITS);
     }
     good
 }

@@ -14,9 +14,7 @@ fn left_by(line: u8, asker: u8) -> u8
 pub fn leave(asker: &mut [u8], line: u8)
     ensures { asker.new ≡ map (left line) asker.old }
 {
-    let mut i = 0;
-    while i < asker.len() {
-        asker[i] = left_by(line, asker[i]);
-        i += 1;
+    for a in asker.iter_mut() {
+        *a = left_by(line, *a);
     }
 }

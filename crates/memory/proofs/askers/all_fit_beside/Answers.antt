@@ -8,19 +8,17 @@ use Rattle.memory.specs.Order.{fits_beside}
 use Rattle.memory.proofs.AskerLaws.{all-suc}
 use Rattle.memory.proofs.askers.all_fit_beside.Goals as goal
 
-pub loop-i-init : goal.loop-i-init
-loop-i-init c = (search rules, refl)
+pub loop-a-init : goal.loop-a-init
+loop-a-init c = refl
 
-pub loop-i-preserved : goal.loop-i-preserved
-loop-i-preserved c =
+pub loop-a-preserved : goal.loop-a-preserved
+loop-a-preserved c =
     let a = c.args in
-    let l = c.loop-i in (
-      search rules,
-      rw (l.invariant.1, add-one) (sym (all-suc (fits_beside a.line) a.part.now l.i (search rules))),
-    )
+    let l = c.loop-a in
+    rw (l.invariant, add-one) (sym (all-suc (fits_beside a.line) a.part.now l.a-index (search rules)))
 
 pub returns : goal.returns
 returns c =
     let a = c.args in
-    let l = c.loop-i in
-    l.invariant.1 ∙ ap (all (fits_beside a.line)) (take_all l.i a.part.now (search rules))
+    let l = c.loop-a in
+    l.invariant ∙ ap (all (fits_beside a.line)) (take_all l.a-index a.part.now (search rules))

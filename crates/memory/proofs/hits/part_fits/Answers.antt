@@ -8,19 +8,17 @@ use Rattle.protocol.specs.Memory.{hits_fit}
 use Rattle.memory.proofs.AskerLaws.{all-suc}
 use Rattle.memory.proofs.hits.part_fits.Goals as goal
 
-pub loop-i-init : goal.loop-i-init
-loop-i-init c = (search rules, refl)
+pub loop-n-init : goal.loop-n-init
+loop-n-init c = refl
 
-pub loop-i-preserved : goal.loop-i-preserved
-loop-i-preserved c =
+pub loop-n-preserved : goal.loop-n-preserved
+loop-n-preserved c =
     let a = c.args in
-    let l = c.loop-i in (
-      search rules,
-      rw (l.invariant.1, add-one) (sym (all-suc hits_fit a.part.now l.i (search rules))),
-    )
+    let l = c.loop-n in
+    rw (l.invariant, add-one) (sym (all-suc hits_fit a.part.now l.n-index (search rules)))
 
 pub returns : goal.returns
 returns c =
     let a = c.args in
-    let l = c.loop-i in
-    l.invariant.1 ∙ ap (all hits_fit) (take_all l.i a.part.now (search rules))
+    let l = c.loop-n in
+    l.invariant ∙ ap (all hits_fit) (take_all l.n-index a.part.now (search rules))
