@@ -2,13 +2,11 @@
 ghost use Rattle.std.specs.Prelude.{◌≡◌};
 ghost use Rattle.pinging.specs.Filled.{number_filled};
 
-use wire::copy_onto;
+use wire::padded;
 
 // The first 16 bytes of a message, with zeros for those that it lacks.
 pub fn number_of(m: &[u8]) -> [u8; 16]
     ensures { result ≡ number_filled m.now }
 {
-    let mut number = [0u8; 16];
-    copy_onto(m, &mut number);
-    number
+    padded(m)
 }

@@ -64,8 +64,8 @@ pub struct Header {
     pub size: u32,
 }
 
-// The bytes, and zero for each that is not there.
-fn padded<const N: usize>(b: &[u8]) -> [u8; N]
+// The first N bytes, and zero for each that is not there.
+pub fn padded<const N: usize>(b: &[u8]) -> [u8; N]
     ensures { result ≡ copied b.now (replicate N 0) }
 {
     let mut bytes = [0; N];
