@@ -1,4 +1,4 @@
--- The query's refusals, one law for each way out, what is known of a query that is not refused, and its text.
+-- The query's refusals past its extent and its type, what is known of a query that is not refused, and its text.
 use Prim.Native.Nat.{ℕ, ◌+◌, ◌-◌, ◌≤◌, ◌<◌}
 use mathlib.Core.Path.{◌≡◌, refl, sym, ap, ◌∙◌}
 use mathlib.Core.Bool.{true, false, cond, not, ◌||◌}
@@ -6,9 +6,9 @@ use mathlib.Core.List.{List, ◌∷◌}
 use native.Mathlib.Omega.{arith}
 use lib.Dec.{eqb, leb, ltb}
 use lib.ListN.{length, take, drop, length-take}
-use borrow.Author.Tests.{ltb-false, leb-false, ne_eqb, eq-eqb, not-false}
+use borrow.Author.Tests.{ltb-false, leb-false, eq-eqb, not-false}
 use Rattle.laws.specs.Tests.{first_of}
-use Rattle.laws.proofs.Refusals.{NoRefusal, first_append, no-refusal, or_snd}
+use Rattle.laws.proofs.Refusals.{NoRefusal, first_append, or_snd}
 use Rattle.wire.specs.declared.Header.{Header}
 use Rattle.wire.specs.Header.{query_type, header_in, kind_of, ttl_of, hops_of, size_of, payload_of}
 use Rattle.wire.proofs.HeaderLaws.{payload-part}
@@ -19,12 +19,6 @@ use Rattle.protocol.specs.Memory.{Lookup}
 use Rattle.protocol.specs.Queries.{text_in, has_text, query_before, query_rules}
 use Rattle.protocol.specs.Calls.{extent_rules}
 use Rattle.answering.specs.Writing.{asked_rules, asked_text}
-
--- a message whose extent is not refused is whole
-pub extent-whole : (n size : ℕ) → first_of (extent_rules n size) ≡ 0 → (size ≤ 4096) × (23 + size ≤ n)
-extent-whole n size e =
-    let no = no-refusal (extent_rules n size) refl e in
-    (ltb-false 4096 size no.1.0, ltb-false n (23 + size) no.1.1.0)
 
 -- a number of which nothing is known
 abbrev unknown : Lookup
@@ -49,19 +43,9 @@ module _ (limit : ℕ) (q : List ℕ) where
     first : r ≡ early
     first = er ∙ ap (λ (x : Header). first_of (extent_rules (length q) x.size)) eh
 
-    pub extent_refuses : (r ≡ 0 → ⊥) → r ≡ answer
-    extent_refuses n = sym (answer-is ∙ rw (← first, ne_eqb r 0 n))
-
     module _ (z : r ≡ 0) where
       none : early ≡ 0
       none = sym first ∙ z
-
-      pub kind_refuses : (h.kind ≡ query_type → ⊥) → 7 ≡ answer
-      kind_refuses n =
-          sym (answer-is ∙ rw (none, ne_eqb (kind_of q) query_type (λ e. n (ap (λ (x : Header). x.kind) eh ∙ e))))
-
-      pub whole_part : 23 + h.size ≤ length q
-      whole_part = (extent-whole (length q) h.size (sym er ∙ z)).1
 
       -- a number that was not looked up changes nothing
       pub query_refuses : h.kind ≡ query_type → (t : Text) → t ≡ text_of (take (23 + h.size - 23) (drop 23 q))

@@ -26,6 +26,7 @@ use Rattle.hits.specs.Writing.{head_bytes, hit_payload, head_into}
 use Rattle.hits.proofs.WriteLaws.{head-long, head-room}
 use Rattle.matching.specs.Matching.{matches, matching_places}
 use Rattle.answering.specs.declared.HitsWritten.{HitsWritten}
+use Rattle.answering.specs.declared.WrittenHit.{WrittenHit}
 use Rattle.answering.specs.Writing.{
   chosen,
   asked_text,
@@ -92,12 +93,12 @@ lent limit q a sizes out e =
 -- ---- the parts of a hit
 
 -- what is told is the sum of its parts
-pub told-sum : (results size : ℕ) → ◌≡◌ {A = HitsWritten}
-    (record { answer = 0; results = results; written = 23 + (11 + size + 16) })
-    (record { answer = 0; results = results; written = 50 + size })
+pub told-sum : (results size : ℕ) → ◌≡◌ {A = WrittenHit}
+    (record { results = results; size = 23 + (11 + size + 16) })
+    (record { results = results; size = 50 + size })
 told-sum results size =
     let e : 23 + (11 + size + 16) ≡ 50 + size = omega arith in
-    ap (λ n. record { answer = 0; results = results; written = n }) e
+    ap (λ n. record { results = results; size = n }) e
 
 -- the mark, what tells of the results, and the header, put around the results
 module _ (number : List ℕ) (ttl results size : ℕ) (from : Responder) (out : List ℕ)

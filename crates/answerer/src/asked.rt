@@ -3,46 +3,24 @@ ghost use Rattle.std.specs.Prelude.{◌≡◌, true, ◌+◌, ◌≤◌, length}
 ghost use Rattle.laws.specs.Tests.{first_of};
 ghost use Rattle.wire.specs.Header.{header_size, largest_payload, number_of, size_of, payload_of};
 ghost use Rattle.protocol.specs.Queries.{has_text};
-ghost use Rattle.protocol.specs.Calls.{extent_rules};
+ghost use Rattle.answer.specs.Numbers.{answer_of};
 ghost use Rattle.answering.specs.Writing.{asked_rules, asked_text};
 
-use answer::answer;
+use answer::{Refusal, require};
 use forwarding::texts::text_length;
-use wire::{HEADER_SIZE, Kind, LARGEST_PAYLOAD, copy_onto, read_header};
+use wire::{HEADER_SIZE, Kind, copy_onto, read_header};
 
-// 4 and 5 for a message of which `len` bytes are there, and whose header says `size` for its payload.
-fn extent_answer(len: usize, size: u32) -> u8
-    ensures { result ≡ first_of (extent_rules len size) }
-{
-    let n = size as usize;
-    if len < HEADER_SIZE {
-        return 4;
-    }
-    if LARGEST_PAYLOAD < n {
-        return 5;
-    }
-    if len < HEADER_SIZE + n {
-        return 4;
-    }
-    0
-}
-
-// The refusals of a query before its number would be looked up, and 7 for any other type of message.
-pub(crate) fn query_answer(limit: u8, query: &[u8]) -> u8
-    ensures { result ≡ first_of (asked_rules limit query.now) }
+// The refusals of a query before its number would be looked up, and UnknownType for any other type of message.
+pub(crate) fn query_answer(limit: u8, query: &[u8]) -> Result<(), Refusal>
+    ensures { answer_of result ≡ first_of (asked_rules limit query.now) }
 {
     let h = read_header(query);
-    let early = extent_answer(query.len(), h.size);
-    if early != 0 {
-        return early;
-    }
-    if h.kind != Kind::Query.into() {
-        return 7;
-    }
+    refusals::extent(query.len(), h.size)?;
+    require(h.kind == Kind::Query.into(), Refusal::UnknownType)?;
     let end = HEADER_SIZE + (h.size as usize);
     let text = text_length(&query[HEADER_SIZE..end]);
     // the number is not looked up: nothing is known of it
-    answer(refusals::query(limit, h, text.ended, None))
+    refusals::query(limit, h, text.ended, None)
 }
 
 // The text of a query that is whole and has one.

@@ -12,11 +12,14 @@ ghost use Rattle.wire.specs.Header.{header_size, largest_message, hit_type, head
 ghost use Rattle.hits.specs.Reading.{head_size, mark_size};
 ghost use Rattle.hits.specs.Writing.{head_bytes};
 ghost use Rattle.protocol.specs.Queries.{usual_limit};
+ghost use Rattle.answer.specs.Numbers.{answer_of};
+ghost use Rattle.answering.specs.Told.{written_by};
 ghost use Rattle.answering.specs.Writing.{results_room, early_rules, writing, writing_out};
 
 use crate::asked::{query_answer, query_number, query_text};
-use crate::filling::put_results;
-use answering::HitsWritten;
+use crate::filling::{Filled, put_results};
+use answer::{Refusal, require};
+use answering::WrittenHit;
 use hits::reading::{HEAD_SIZE, MARK_SIZE};
 use hits::writing::{Responder, put_head};
 use matching::matching_places;
@@ -30,59 +33,37 @@ const RESULTS_FROM: usize = HEADER_SIZE + HEAD_SIZE;
 
 const RESULTS_END: usize = LARGEST_MESSAGE - MARK_SIZE;
 
-// A call that is refused.
-fn refused(answer: u8) -> HitsWritten
-    ensures { result ≡ record { answer = answer; results = 0; written = 0 } }
-{
-    HitsWritten {
-        answer,
-        results: 0,
-        written: 0,
-    }
-}
-
 // The refusals before the names are searched, in their order, given how many sizes and bytes of output are lent.
-fn refusal(limit: u8, query: &[u8], names: &[u8], sizes: usize, out: usize) -> u8
-    ensures { result ≡ first_of (early_rules limit query.now names.now sizes out) }
+fn refusal(limit: u8, query: &[u8], names: &[u8], sizes: usize, out: usize) -> Result<(), Refusal>
+    ensures { answer_of result ≡ first_of (early_rules limit query.now names.now sizes out) }
 {
-    if let Err(refusal) = list_answer(names) {
-        return u8::from(refusal);
-    }
-    if sizes < count_in(names) as usize {
-        return 2;
-    }
-    if out < LARGEST_MESSAGE {
-        return 2;
-    }
+    list_answer(names)?;
+    require(
+        count_in(names) as usize <= sizes && LARGEST_MESSAGE <= out,
+        Refusal::BadArea,
+    )?;
     query_answer(limit, query)
 }
 
 // What stands around the results of a hit that are there already, `size` bytes of them: the mark behind them, before
 // them what tells of them, and the header.
-fn finish(
-    number: [u8; 16],
-    ttl: u8,
-    results: u8,
-    size: usize,
-    from: Responder,
-    out: &mut [u8],
-) -> HitsWritten
-    requires { (size ≤ results_room) × (largest_message ≤ length out.old) }
-    ensures told { result ≡ record { answer = 0; results = results; written = header_size + head_size + mark_size + size } }
-    ensures bytes { out.new ≡ over 0 (header number hit_type ttl 0 (head_size + mark_size + size))
-        (over header_size (head_bytes results from)
-        (over (header_size + head_size + size) from.mark out.old)) }
+fn finish(number: [u8; 16], ttl: u8, filled: Filled, from: Responder, out: &mut [u8]) -> WrittenHit
+    requires { (filled.size ≤ results_room) × (largest_message ≤ length out.old) }
+    ensures told { result ≡ record { results = filled.results; size = header_size + head_size + mark_size + filled.size } }
+    ensures bytes { out.new ≡ over 0 (header number hit_type ttl 0 (head_size + mark_size + filled.size))
+        (over header_size (head_bytes filled.results from)
+        (over (header_size + head_size + filled.size) from.mark out.old)) }
 {
+    let Filled { results, size } = filled;
     let mark = from.mark;
     let behind = RESULTS_FROM + size;
     copy_onto(&mark, &mut out[behind..]);
     put_head(results, from, &mut out[HEADER_SIZE..]);
     let payload = HEAD_SIZE + size + MARK_SIZE;
     put_header(number, Kind::Hit.into(), ttl, 0, payload as u32, &mut *out);
-    HitsWritten {
-        answer: 0,
+    WrittenHit {
         results,
-        written: HEADER_SIZE + payload,
+        size: HEADER_SIZE + payload,
     }
 }
 
@@ -94,24 +75,19 @@ fn write_within(
     sizes: &[u32],
     from: Responder,
     out: &mut [u8],
-) -> HitsWritten
-    ensures told { result ≡ writing limit query.now names.now sizes.now from
+) -> Result<WrittenHit, Refusal>
+    ensures told { written_by result ≡ writing limit query.now names.now sizes.now from
         (length out.old) }
     ensures bytes { out.new
         ≡ writing_out limit query.now names.now sizes.now from out.old }
 {
-    let answer = refusal(limit, query, names, sizes.len(), out.len());
-    if answer != 0 {
-        return refused(answer);
-    }
+    refusal(limit, query, names, sizes.len(), out.len())?;
     let found = matching_places(query_text(query), names);
     let filled = put_results(&found, names, sizes, &mut out[RESULTS_FROM..RESULTS_END]);
-    if filled.results == 0 {
-        return refused(10);
-    }
+    require(filled.results != 0, Refusal::NotFound)?;
     let number = query_number(query);
     let h = read_header(query);
-    finish(number, h.hops + 1, filled.results, filled.size, from, out)
+    Ok(finish(number, h.hops + 1, filled, from, out))
 }
 
 // The hit for a query that the station's own names give, at the front of the output.
@@ -121,8 +97,8 @@ pub fn write_hits(
     sizes: &[u32],
     from: Responder,
     out: &mut [u8],
-) -> HitsWritten
-    ensures told { result ≡ writing usual_limit query.now names.now sizes.now from
+) -> Result<WrittenHit, Refusal>
+    ensures told { written_by result ≡ writing usual_limit query.now names.now sizes.now from
         (length out.old) }
     ensures bytes { out.new
         ≡ writing_out usual_limit query.now names.now sizes.now from

@@ -36,5 +36,5 @@ pub fn lunozhar_write_hits<'a>(
         ≡ writing_out usual_limit query.now names.now sizes.now from
         out.old }
 {
-    answerer::write_hits(query, names, sizes, from, out)
+    answerer::write_hits(query, names, sizes, from, out).into()
 }

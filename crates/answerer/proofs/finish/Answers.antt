@@ -6,9 +6,9 @@ use Rattle.answerer.proofs.finish.Goals as goal
 pub returns : goal.returns
 returns c =
     let x = c.args in
-    let fields = c.well_formed.1.1.1.1.0.1.1 in record {
-      told = told-sum x.results x.size;
-      bytes = around x.number x.ttl x.results x.size x.from x.out.now
+    let fields = c.well_formed.1.1.1.0.1.1 in record {
+      told = told-sum x.filled.results x.filled.size;
+      bytes = around x.number x.ttl x.filled.results x.filled.size x.from x.out.now
           (fields.1.0.1.0.1)
           (fields.1.1.1.0.1.0.1)
           c.requires.0 c.requires.1

@@ -1,7 +1,7 @@
 -- The results laid so far and those left that fit make the whole: a place that is not found is passed, 255 results, no
 -- room or no place left end it.
 use Prim.Native.Nat.{◌-◌, ◌<◌}
-use mathlib.Core.Path.{◌≡◌, ap, ◌∙◌}
+use mathlib.Core.Path.{◌≡◌, ap}
 use Rattle.std.specs.Prelude.{unwrap_or}
 use native.Mathlib.Omega.{arith}
 use lib.ListN.{length}
