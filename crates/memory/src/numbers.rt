@@ -13,8 +13,7 @@ fn fill(lo: &[u64], from: usize, to: usize, filter: &mut [u64; 1024]) -> usize
     requires { (from ≤ to) × (to ≤ length lo.now) × (length filter.old ≡ 1024) }
     ensures { Filled lo.now from to result filter.old filter.new }
 {
-    let mut p = from;
-    while p < to {
+    for p in from..to {
         let a = lo[p];
         let h = (a % 1024) as usize;
         let word = filter[h];
@@ -23,9 +22,8 @@ fn fill(lo: &[u64], from: usize, to: usize, filter: &mut [u64; 1024]) -> usize
             return p;
         }
         filter[h] = more;
-        p += 1;
     }
-    p
+    to
 }
 
 // The queries at the places `from` to `to`, behind `passed` older ones. Only a number that the filter does not tell
@@ -50,8 +48,7 @@ fn no_twice_in<'a>(
     let mut p = fill(lo, from, to, filter);
     while p < to {
         let high = hi.get(p).copied().unwrap_or(0);
-        let found = find(lo, hi, asker, hits, passed + (p - from), p, lo[p], high);
-        if found.is_some() {
+        if find(lo, hi, asker, hits, passed + (p - from), p, lo[p], high).is_some() {
             return false;
         }
         p = fill(lo, p + 1, to, filter);
@@ -77,8 +74,6 @@ pub(crate) fn no_twice<'a>(
     let first = count.min(next);
     let rest = count - first;
     let capacity = lo.len();
-    if !no_twice_in(lo, hi, asker, hits, capacity - rest, capacity, 0, filter) {
-        return false;
-    }
-    no_twice_in(lo, hi, asker, hits, next - first, next, rest, filter)
+    no_twice_in(lo, hi, asker, hits, capacity - rest, capacity, 0, filter)
+        && no_twice_in(lo, hi, asker, hits, next - first, next, rest, filter)
 }

@@ -65,11 +65,10 @@ pub fn survey<'a>(
     let order = in_order(lo, hi, asker, hits, count, next, live, &mut filter);
     let h = (low % 1024) as usize;
     let word = filter[h];
-    if order {
-        if word | low != word {
-            return Survey { order, known: None };
-        }
-    }
-    let known = find(lo, hi, asker, hits, count, next, low, high);
+    let known = if order && word | low != word {
+        None
+    } else {
+        find(lo, hi, asker, hits, count, next, low, high)
+    };
     Survey { order, known }
 }

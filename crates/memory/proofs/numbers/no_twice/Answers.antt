@@ -14,28 +14,29 @@ no_twice_in-requires c = record {
   passed = passed_none _ c.requires.2;
 }
 
-pub returns-then-not-no_twice_in : goal.returns-then-not-no_twice_in
-returns-then-not-no_twice_in c =
+pub returns-else-no_twice_in : goal.returns-else-no_twice_in
+returns-else-no_twice_in c =
     let a = c.args in
     let r = c.no_twice_in in
-    end-twice (query_at (memory_of a.lo.now a.hi.now a.asker.now a.hits.now 0 0)) (length a.lo.now)
+    rw c.if-no_twice_in.false
+    (end-twice (query_at (memory_of a.lo.now a.hi.now a.asker.now a.hits.now 0 0)) (length a.lo.now)
     a.next a.count c.min-first.result c.requires.0 c.requires.1 c.min-first.ensures
-    (rw c.if-not-no_twice_in.true at r.ensures)
+    (rw c.if-no_twice_in.false at r.ensures))
 
-pub no_twice_in-requires-2 : goal.no_twice_in-requires-2
-no_twice_in-requires-2 c =
+pub no_twice_in-requires-then-no_twice_in : goal.no_twice_in-requires-then-no_twice_in
+no_twice_in-requires-then-no_twice_in c =
     let a = c.args in
     let r = c.no_twice_in in record {
       from_le_to = (search rules, search rules, search rules);
       passed = end-passed (query_at (memory_of a.lo.now a.hi.now a.asker.now a.hits.now 0 0))
           (length a.lo.now)
           a.next a.count c.min-first.result c.requires.0 c.requires.1 c.min-first.ensures _
-          (rw c.if-not-no_twice_in.false at r.ensures);
+          (rw c.if-no_twice_in.true at r.ensures);
     }
 
-pub returns : goal.returns
-returns c =
+pub returns-then-no_twice_in : goal.returns-then-no_twice_in
+returns-then-no_twice_in c =
     let a = c.args in
     let f = c.min-first.result in
     let e : a.count - f + (a.next - (a.next - f)) ≡ a.count = omega (arith, c.min-first.ensures) in
-    rw e at c.no_twice_in-2.ensures
+    rw e at c.no_twice_in-then-no_twice_in.ensures

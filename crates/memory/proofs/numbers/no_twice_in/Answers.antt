@@ -24,8 +24,8 @@ returns-then-is_some c =
     let high : c.unwrap_or-high.result ≡ get_or a.hi.now p 0 = search rules in
     let ring = memory_of a.lo.now a.hi.now a.asker.now a.hits.now (a.passed + (p - a.from)) p in
     let told =
-    found_before (length a.lo.now) ring _ c.find-found.result (omega (arith, c.requires))
-    (omega (arith, c.requires)) high c.find-found.ensures in
+    found_before (length a.lo.now) ring _ c.find.result (omega (arith, c.requires))
+    (omega (arith, c.requires)) high c.find.ensures in
     twice-met (query_at ring) (length a.lo.now) a.from a.to a.passed p (search rules) (search rules)
     c.requires.from_le_to.1 (sym told ∙ sym c.is_some.ensures ∙ c.if-is_some.true)
 
@@ -44,8 +44,8 @@ loop-p-preserved c =
     let high : c.unwrap_or-high.result ≡ get_or a.hi.now l.p 0 = search rules in
     let ring = memory_of a.lo.now a.hi.now a.asker.now a.hits.now n l.p in
     let told =
-    found_before (length a.lo.now) ring _ c.find-found.result (omega (arith, c.requires))
-    (omega (arith, c.requires)) high c.find-found.ensures in
+    found_before (length a.lo.now) ring _ c.find.result (omega (arith, c.requires))
+    (omega (arith, c.requires)) high c.find.ensures in
     let one =
     passed_with (query_at ring) (length a.lo.now) l.p n l.filter l.filter (omega (arith, c.requires))
     l.invariant.3 (sym told ∙ sym c.is_some.ensures ∙ c.if-is_some.false) l.invariant.3.size (l.invariant.2 (search rules)) (λ _ e. e) in

@@ -20,8 +20,8 @@ returns-then-word-low c =
       known = ap lookup_of (sym none);
     }
 
-pub returns : goal.returns
-returns c =
+pub returns-else-order : goal.returns-else-order
+returns-else-order c =
     let a = c.args in
     let e : length a.lo.now ≡ 512 = omega arith in
     record {
