@@ -46,13 +46,11 @@ fn low_hops(hops: [u8; 10], next: usize, count: usize) -> bool
     ensures { result ≡ low_at hops next count }
 {
     let mut place = next;
-    let mut i = 0;
-    while i < count {
+    for _ in 0..count {
         place = place_before(place);
         if PONG_HOPS < hops[place] {
             return false;
         }
-        i += 1;
     }
     true
 }
@@ -61,20 +59,12 @@ fn low_hops(hops: [u8; 10], next: usize, count: usize) -> bool
 pub fn line_in_order(x: Line, room: usize) -> bool
     ensures { result ≡ line_in_order room x }
 {
-    let table = x.table;
-    if !empty_when_closed(x.live, table.mark, x.pongcount, x.pinged) {
+    if !empty_when_closed(x.live, x.table.mark, x.pongcount, x.pinged)
+        || 10 < x.pongcount
+        || 10 <= x.pongnext
+    {
         return false;
     }
-    if 10 < x.pongcount {
-        return false;
-    }
-    if 10 <= x.pongnext {
-        return false;
-    }
-    let pongs = x.pongs;
-    let hops = hops_in(pongs);
-    if !low_hops(hops, x.pongnext, x.pongcount) {
-        return false;
-    }
-    tablereader::order::in_order(table, room)
+    low_hops(hops_in(x.pongs), x.pongnext, x.pongcount)
+        && tablereader::order::in_order(x.table, room)
 }

@@ -4,19 +4,19 @@ use native.Mathlib.Omega.{arith}
 use Rattle.pongrings.proofs.RingLaws.{low-on, low_end}
 use Rattle.pongrings.proofs.order.low_hops.Goals as goal
 
-pub loop-i-init : goal.loop-i-init
-loop-i-init c = (omega arith, c.requires, rw sub-zero)
+pub loop-init : goal.loop-init
+loop-init c = (omega arith, c.requires, rw sub-zero)
 
-pub loop-i-preserved : goal.loop-i-preserved
-loop-i-preserved c =
+pub loop-preserved : goal.loop-preserved
+loop-preserved c =
     let x = c.args in (
       omega arith,
       omega arith,
-      low-on x.hops c.loop-i.place x.count c.loop-i.i _ c.loop-i.invariant.2 _
+      low-on x.hops c.loop.place x.count c.loop.counter _ c.loop.invariant.2 _
           c.place_before-place.ensures (omega arith) (omega arith),
     )
 
 pub returns : goal.returns
 returns c =
     let x = c.args in
-    low_end x.hops c.loop-i.place x.count c.loop-i.i _ c.loop-i.invariant.2 c.loop-i-test.false
+    low_end x.hops c.loop.place x.count c.loop.counter _ c.loop.invariant.2 c.loop-test.false

@@ -4,9 +4,6 @@ use mathlib.Core.Path.{◌≡◌}
 use Rattle.pongrings.specs.Ring.{low_at}
 use Rattle.pongrings.proofs.order.low_hops.Given as goal
 
-abbrev pub invariant-loop-i : goal.invariant-loop-i
-invariant-loop-i l =
-    (l.i ≤ l.count) × (l.place < 10) × (low_at l.hops l.place (l.count - l.i) ≡ low_at l.hops l.next l.count)
-
-abbrev pub decreases-loop-i : goal.decreases-loop-i
-decreases-loop-i l = l.count - l.i
+abbrev pub invariant-loop : goal.invariant-loop
+invariant-loop l =
+    (l.counter ≤ l.count) × (l.place < 10) × (low_at l.hops l.place (l.count - l.counter) ≡ low_at l.hops l.next l.count)
