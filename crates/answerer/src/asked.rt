@@ -8,7 +8,7 @@ ghost use Rattle.answering.specs.Writing.{asked_rules, asked_text};
 
 use answer::{Refusal, require};
 use forwarding::texts::text_length;
-use wire::{HEADER_SIZE, Kind, copy_onto, read_header};
+use wire::{HEADER_SIZE, Kind, padded, read_header};
 
 // The refusals of a query before its number would be looked up, and UnknownType for any other type of message.
 pub(crate) fn query_answer(limit: u8, query: &[u8]) -> Result<(), Refusal>
@@ -42,7 +42,5 @@ pub(crate) fn query_number(query: &[u8]) -> [u8; 16]
     requires { header_size ≤ length query.now }
     ensures { result ≡ number_of query.now }
 {
-    let mut number = [0u8; 16];
-    copy_onto(query, &mut number);
-    number
+    padded(query)
 }

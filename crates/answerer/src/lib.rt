@@ -49,7 +49,8 @@ fn refusal(limit: u8, query: &[u8], names: &[u8], sizes: usize, out: usize) -> R
 // them what tells of them, and the header.
 fn finish(number: [u8; 16], ttl: u8, filled: Filled, from: Responder, out: &mut [u8]) -> WrittenHit
     requires { (filled.size ≤ results_room) × (largest_message ≤ length out.old) }
-    ensures told { result ≡ record { results = filled.results; size = header_size + head_size + mark_size + filled.size } }
+    ensures told { result
+        ≡ record { results = filled.results; size = header_size + head_size + mark_size + filled.size } }
     ensures bytes { out.new ≡ over 0 (header number hit_type ttl 0 (head_size + mark_size + filled.size))
         (over header_size (head_bytes filled.results from)
         (over (header_size + head_size + filled.size) from.mark out.old)) }

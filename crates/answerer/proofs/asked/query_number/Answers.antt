@@ -7,4 +7,4 @@ use Rattle.answerer.proofs.asked.query_number.Goals as goal
 pub returns : goal.returns
 returns c =
     let x = c.args in
-    c.copy_onto.ensures ∙ copied-full x.query.now _ (omega arith)
+    c.padded.ensures ∙ copied-full x.query.now _ (omega arith)
