@@ -29,16 +29,9 @@ fn in_order<'a>(
         (result ≡ true → Passed filter.new (queries_in (length lo.now) ring)) }
 {
     let fits = (count <= lo.len()) & (next < lo.len());
-    if !fits {
-        return false;
-    }
-    if !askers_fit(asker, count, next, live) {
-        return false;
-    }
-    if !hits_fit(hits, count, next) {
-        return false;
-    }
-    no_twice(lo, hi, asker, hits, count, next, filter)
+    fits && askers_fit(asker, count, next, live)
+        && hits_fit(hits, count, next)
+        && no_twice(lo, hi, asker, hits, count, next, filter)
 }
 
 // The test of order and the look-up of the number (low, high) at once: the filter that the test fills rules out

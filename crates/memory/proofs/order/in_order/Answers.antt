@@ -1,92 +1,71 @@
--- A ring that fits is in order where its askers and counts fit and no number stands twice; one that does not fit is not
--- in order.
+-- A ring is in order where it fits, its askers and counts of hits fit, and no number stands twice.
 use mathlib.Core.Path.{◌≡◌, sym, ◌∙◌}
-use Prim.Native.Nat.{ℕ, ◌<◌, ◌≤◌}
-use mathlib.Core.Bool.{Bool, true, false, and-true, and-false, false≢true}
+use mathlib.Core.Bool.{Bool, false, ◌&&◌}
 use lib.ListN.{length, get_or}
-use Rattle.laws.specs.Ring.{ring_fits}
-use Rattle.protocol.specs.Memory.{Memory, memory_of, no_twice}
+use Rattle.laws.specs.Ring.{ring_fits, places_before}
+use Rattle.laws.specs.Tests.{all}
+use Rattle.laws.proofs.Truth.{both_left}
+use Rattle.protocol.specs.Memory.{Memory, memory_of, no_twice, asker_fits, hits_fit}
 use Rattle.memory.specs.Queries.{queries_before}
 use Rattle.memory.proofs.NumberLaws.{tested-is, tested-passed}
-use Rattle.memory.proofs.OrderLaws.{fits_next, fits_count, kept-all, order-unfit, order-fit}
-use Rattle.memory.proofs.order.in_order.Goals.{Else-not-askers_fit, Else-not-fits, Start}
+use Rattle.memory.proofs.OrderLaws.{kept-all, order-is, not_in_order, in_order}
+use Rattle.memory.proofs.order.in_order.Goals.{Start, Joined-askers_fit, then-fits, else-fits, then-askers_fit, else-askers_fit}
 use Rattle.memory.proofs.order.in_order.Goals as goal
 
-pub returns-then-not-fits : goal.returns-then-not-fits
-returns-then-not-fits c =
+-- the three tests of the ring
+abbrev ring-fits : Start → Bool
+ring-fits c = ring_fits (length c.args.lo.now) c.args.next c.args.count
+
+abbrev askers : Start → Bool
+askers c =
     let a = c.args in
-    let n = length a.lo.now in
-    let ring = memory_of a.lo.now a.hi.now a.asker.now a.hits.now a.count a.next in
-    let f = c.if-not-fits.true in
-    record {
-      result_value = sym (order-unfit n ring (λ k. get_or a.live k false) f);
-      fact = λ t. absurd (false≢true t);
-    }
+    all (λ p. asker_fits (λ k. get_or a.live k false) (get_or a.asker.now p 0)) (places_before (length a.asker.now) a.next a.count)
 
--- a ring that fits: its places and queries, and how its order is put together
-abbrev start : Else-not-fits → Start
-start t = (goal.at.Else-not-fits t).Start
+abbrev counts : Start → Bool
+counts c =
+    let a = c.args in
+    all (λ p. hits_fit (get_or a.hits.now p 0)) (places_before (length a.hits.now) a.next a.count)
 
-abbrev size : Else-not-fits → ℕ
-size t = length t.args.lo.now
-
-abbrev ring : Else-not-fits → Memory
-ring t =
-    let a = t.args in
+abbrev ring : Start → Memory
+ring c =
+    let a = c.args in
     memory_of a.lo.now a.hi.now a.asker.now a.hits.now a.count a.next
 
-abbrev live : Else-not-fits → ℕ → Bool
-live t k = get_or t.args.live k false
+-- the tests made in turn
+tested : (c : Joined-askers_fit)
+    → (let s = (goal.at.Joined-askers_fit c).Start in c.if-askers_fit.value ≡ ((ring-fits s && askers s) && counts s))
+tested c =
+    let s = (goal.at.Joined-askers_fit c).Start in
+    let asked : c.if-fits.value ≡ (ring-fits s && askers s) =
+    elim c.if-fits.branch [
+      | then-fits w ↦ rw w.if-fits.true (w.value-is ∙ w.askers_fit.ensures)
+      | else-fits w ↦ rw w.if-fits.false (w.value-is ∙ w.if-fits.false)
+    ] in
+    elim c.if-askers_fit.branch [
+      | then-askers_fit w ↦ rw (sym asked ∙ w.if-askers_fit.true) (w.value-is ∙ w.hits_fit.ensures)
+      | else-askers_fit w ↦ rw (sym asked ∙ w.if-askers_fit.false) (w.value-is ∙ w.if-askers_fit.false)
+    ]
 
-fits : (t : Else-not-fits) → ring_fits (size t) (ring t).next (ring t).count ≡ true
-fits t = t.if-not-fits.false
-
-within : (t : Else-not-fits) → ((ring t).next < size t) × ((ring t).count ≤ size t)
-within t = (fits_next _ _ _ (fits t), fits_count _ _ _ (fits t))
-
-pub askers_fit-requires : goal.askers_fit-requires
-askers_fit-requires c = rw c.requires.0 (within c)
-
-pub returns-then-not-askers_fit : goal.returns-then-not-askers_fit
-returns-then-not-askers_fit c =
-    let r = c.askers_fit in
-    let e = sym r.ensures ∙ c.if-not-askers_fit.true in
-    let o = order-fit (size (goal.at.returns-then-not-askers_fit c).Else-not-fits) (ring (goal.at.returns-then-not-askers_fit c).Else-not-fits) (live (goal.at.returns-then-not-askers_fit c).Else-not-fits) c.requires.0 c.requires.1 (fits (goal.at.returns-then-not-askers_fit c).Else-not-fits) in
+pub returns-then-hits_fit : goal.returns-then-hits_fit
+returns-then-hits_fit c =
+    let s = (goal.at.returns-then-hits_fit c).Start in
+    let n = length c.args.lo.now in
+    let qs = queries_before n (ring s) in
+    let e = sym (tested (goal.at.returns-then-hits_fit c).Joined-askers_fit) ∙ c.if-hits_fit.true in
+    let q = c.no_twice in
     record {
-      result_value = sym (o ∙ rw e (and-false (no_twice (queries_before (size (goal.at.returns-then-not-askers_fit c).Else-not-fits) (ring (goal.at.returns-then-not-askers_fit c).Else-not-fits)))));
-      fact = λ u. absurd (false≢true u);
+      result_value = tested-is _ qs q.result q.ensures
+          ∙ in_order (ring-fits s) (no_twice qs) (askers s) (counts s) e
+          ∙ sym (order-is n (ring s) (λ k. get_or c.args.live k false) c.requires.0 c.requires.1);
+      fact = λ u. rw (kept-all n (ring s) (both_left _ _ (both_left _ _ e))) (tested-passed _ qs q.result q.ensures u);
     }
 
-pub hits_fit-requires : goal.hits_fit-requires
-hits_fit-requires c = rw c.requires.1 (within (goal.at.hits_fit-requires c).Else-not-fits)
-
--- the askers fit
-asked : (c : Else-not-askers_fit) → c.askers_fit.result ≡ true
-asked c = c.if-not-askers_fit.false
-
-pub returns-then-not-hits_fit : goal.returns-then-not-hits_fit
-returns-then-not-hits_fit c =
-    let h = c.hits_fit in
-    let e = sym c.askers_fit.ensures ∙ asked (goal.at.returns-then-not-hits_fit c).Else-not-askers_fit in
-    let g = sym h.ensures ∙ c.if-not-hits_fit.true in
-    let o = order-fit (size (goal.at.returns-then-not-hits_fit c).Else-not-fits) (ring (goal.at.returns-then-not-hits_fit c).Else-not-fits) (live (goal.at.returns-then-not-hits_fit c).Else-not-fits) c.requires.0 c.requires.1 (fits (goal.at.returns-then-not-hits_fit c).Else-not-fits) in
-    record {
-      result_value = sym (o ∙ rw (e, g) (and-false (no_twice (queries_before (size (goal.at.returns-then-not-hits_fit c).Else-not-fits) (ring (goal.at.returns-then-not-hits_fit c).Else-not-fits)))));
-      fact = λ u. absurd (false≢true u);
-    }
-
-pub no_twice-requires : goal.no_twice-requires
-no_twice-requires c =
-    ((within (goal.at.no_twice-requires c).Else-not-fits).0, (within (goal.at.no_twice-requires c).Else-not-fits).1, c.requires.2)
-
-pub returns : goal.returns
-returns c =
-    let h = c.hits_fit in
-    let e = sym c.askers_fit.ensures ∙ asked (goal.at.returns c).Else-not-askers_fit in
-    let g = sym h.ensures ∙ c.if-not-hits_fit.false in
-    let o = order-fit (size (goal.at.returns c).Else-not-fits) (ring (goal.at.returns c).Else-not-fits) (live (goal.at.returns c).Else-not-fits) c.requires.0 c.requires.1 (fits (goal.at.returns c).Else-not-fits) in
-    let qs = queries_before (size (goal.at.returns c).Else-not-fits) (ring (goal.at.returns c).Else-not-fits) in
-    let q = c.no_twice in record {
-      result_value = tested-is _ qs q.result q.ensures ∙ sym (o ∙ rw (e, g) (and-true (no_twice qs)));
-      fact = λ u. rw (kept-all (size (goal.at.returns c).Else-not-fits) (ring (goal.at.returns c).Else-not-fits) (fits (goal.at.returns c).Else-not-fits)) (tested-passed _ qs q.result q.ensures u);
-    }
+pub returns-else-hits_fit-clause-result_value : goal.returns-else-hits_fit-clause-result_value
+returns-else-hits_fit-clause-result_value c =
+    let s = (goal.at.returns-else-hits_fit-clause-result_value c).Start in
+    let n = length c.args.lo.now in
+    let qs = queries_before n (ring s) in
+    let e = sym (tested (goal.at.returns-else-hits_fit-clause-result_value c).Joined-askers_fit) ∙ c.if-hits_fit.false in
+    c.if-hits_fit.false
+    ∙ sym (order-is n (ring s) (λ k. get_or c.args.live k false) c.requires.0 c.requires.1
+    ∙ not_in_order (ring-fits s) (no_twice qs) (askers s) (counts s) e)
