@@ -13,6 +13,7 @@ use Rattle.laws.specs.Ring.{ring_fits, ring_place}
 use Rattle.protocol.specs.declared.Pong.{Pong}
 use Rattle.protocol.specs.declared.Line.{Line}
 use Rattle.protocol.specs.Lines.{is_other, line_in, line_numbers, stored_pongs}
+use Rattle.protocol.proofs.EachLine.{each-is}
 use Rattle.protocol.specs.Pings.{flat, keep_if, is_fresh, ranked, walk, stored_sent}
 use Rattle.pongrings.specs.Ring.{if_fresh, counts_in, nexts_in, rings_in, place_for, largest}
 use Rattle.pongrings.proofs.RingLaws.{pong_in, pong_at, ranked_for}
@@ -183,3 +184,24 @@ module _ (w : Walk) (lines : List Line) (over : w ≡ walk_over lines w.line w.c
       ∙ ap (λ ps. turned w i ++ ps) (left-past w (80 - i) i (omega arith) (omega arith))
       ∙ append-nil (turned w i))
       ∙ take_all 10 (turned w i) few
+
+map_same : {A : Type 0} (ys : List A) → map (λ y. y) ys ≡ ys
+map_same [] = refl
+map_same (y ∷ ys) = ap (λ l. y ∷ l) (map_same ys)
+
+-- eight values, each of which is known by its place
+pub eight-is : {A : Type 0} (f : ℕ → A) (d : A) (ys : List A) → length ys ≡ 8
+    → ((k : ℕ) → k < 8 → get_or ys k d ≡ f k) → ys ≡ map f line_numbers
+eight-is f d ys n h =
+    sym (map_same ys)
+    ∙ each-is (λ y. y) d ys n
+    ∙ rw (
+      h 0 (omega arith),
+      h 1 (omega arith),
+      h 2 (omega arith),
+      h 3 (omega arith),
+      h 4 (omega arith),
+      h 5 (omega arith),
+      h 6 (omega arith),
+      h 7 (omega arith),
+    )

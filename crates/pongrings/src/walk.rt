@@ -1,5 +1,5 @@
 // What a walk over the stored pongs of the eight lines reads. The counts, the next places and the rings are read off
-// the lines once, and no line is copied.
+// the lines once.
 ghost use Rattle.std.specs.Prelude.{◌≡◌, ◌<◌, min, IfSome};
 ghost use Rattle.std.specs.Option.{unwrap_or};
 ghost use Rattle.pongrings.specs.Ring.{counts_in, nexts_in, rings_in, place_for, largest};
@@ -11,35 +11,17 @@ use protocol::{Line, Pong};
 pub fn counts_in(lines: [Line; 8]) -> [usize; 8]
     ensures { result ≡ counts_in lines }
 {
-    [
-        lines[0].pongcount,
-        lines[1].pongcount,
-        lines[2].pongcount,
-        lines[3].pongcount,
-        lines[4].pongcount,
-        lines[5].pongcount,
-        lines[6].pongcount,
-        lines[7].pongcount,
-    ]
+    lines.map(|x| x.pongcount)
 }
 
 // The next place of each line's ring.
 pub fn nexts_in(lines: [Line; 8]) -> [usize; 8]
     ensures { result ≡ nexts_in lines }
 {
-    [
-        lines[0].pongnext,
-        lines[1].pongnext,
-        lines[2].pongnext,
-        lines[3].pongnext,
-        lines[4].pongnext,
-        lines[5].pongnext,
-        lines[6].pongnext,
-        lines[7].pongnext,
-    ]
+    lines.map(|x| x.pongnext)
 }
 
-// The ring of each line.
+// The ring of each line. As `lines.map(|x| x.pongs)` the proof does not close: it stops at the ring of one line.
 pub fn rings_in(lines: [Line; 8]) -> [[Pong; 10]; 8]
     ensures { result ≡ rings_in lines }
 {
