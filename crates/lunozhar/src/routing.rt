@@ -22,14 +22,13 @@ pub fn lunozhar_write_table<'a>(
     ensures bytes { out.new
         ≡ writer_out number.bytes had old.now old_infinity new.now infinity size out.old }
 {
-    let n = number.bytes;
-    let w = Wanted {
+    let wanted = Wanted {
         had,
         was: old_infinity,
         infinity,
         size,
     };
-    tablewriter::write_table(n, w, old, new, out)
+    Written::from(tablewriter::write_table(number.bytes, wanted, old, new, out))
 }
 
 // The hash of a keyword.

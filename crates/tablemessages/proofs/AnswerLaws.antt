@@ -3,10 +3,12 @@ use Prim.Native.Nat.{ℕ, ◌+◌, ◌*◌, ◌≤◌, ◌<◌}
 use mathlib.Core.Path.{◌≡◌, refl, sym, ap, ap₂, ◌∙◌}
 use mathlib.Core.Bool.{Bool, true, false, cond, not, ◌&&◌}
 use mathlib.Core.List.{List, []}
+use Rattle.std.specs.Prelude.{Result, Ok, Err}
 use native.Mathlib.Omega.{arith}
 use lib.Dec.{eqb, leb}
 use lib.ListN.{length, length-append}
 use borrow.Author.Tests.{lt-ltb, le-ltb}
+use Rattle.answer.specs.declared.Refusal.{Refusal}
 use Rattle.laws.specs.Tests.{first_of}
 use Rattle.laws.specs.Parts.{over}
 use Rattle.wire.proofs.HeaderLaws.{message-length}
@@ -96,10 +98,16 @@ module _ (number : List ℕ) (had : Bool) (old : List ℕ) (old_infinity : ℕ) 
           ≡ joined (messages_of number had old new infinity size)
       whole = ap (λ a. cond (eqb a 0) (joined (messages_of number had old new infinity size)) []) e
 
--- a RESET takes 29 bytes at most
-pub reset-few : (had : Bool) → reset_length had ≤ 29
-reset-few true = omega arith
-reset-few false = omega arith
+-- a test that is passed held, and one that refuses did not
+pub kept : (b : Bool) (r : Refusal) (u : Unit {0}) → ◌≡◌ {A = Result (Unit {0}) Refusal} (Ok u) (cond b (Ok tt) (Err r))
+    → b ≡ true
+kept true r u e = refl
+kept false r u e = cc
+
+pub lost : (b : Bool) (r f : Refusal) → ◌≡◌ {A = Result (Unit {0}) Refusal} (Err f) (cond b (Ok tt) (Err r))
+    → (b ≡ false) × (f ≡ r)
+lost true r f e = cc
+lost false r f e = (refl, cc)
 
 -- the length of all the messages
 pub bytes-length : (had : Bool) (number old new : List ℕ) (infinity size : ℕ) → length number ≡ 16 → 1 ≤ size

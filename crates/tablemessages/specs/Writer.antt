@@ -1,10 +1,12 @@
 -- The writer of updates (RULES 13): the new table, the old one if any, a message number and a data size give a RESET,
 -- where there was no old table, and a run of PATCH messages.
-use Rattle.std.specs.Prelude.{ℕ, zero, suc, ◌+◌, ◌-◌, ◌^◌, Bool, true, cond, not, ◌&&◌, List, [], ◌∷◌, ◌++◌, eqb, leb, ltb, length, take, drop, replicate}
+use Rattle.std.specs.Prelude.{ℕ, zero, suc, ◌+◌, ◌-◌, ◌^◌, Bool, true, cond, not, ◌&&◌, List, [], ◌∷◌, ◌++◌, Result, Ok, Err, eqb, leb, ltb, length, take, drop, replicate}
 use Rattle.laws.specs.Tests.{first_of, all}
 use Rattle.laws.specs.Bytes.{little_bytes}
 use Rattle.laws.specs.Parts.{over}
 use Rattle.wire.specs.Header.{message, route_update}
+use Rattle.answer.specs.Numbers.{number_of}
+use Rattle.answer.specs.declared.Refusal.{Refusal}
 use Rattle.tables.specs.Patch.{packed}
 use Rattle.tables.specs.Tables.{good_length, good_infinity}
 use Rattle.tablemessages.specs.declared.Written.{Written}
@@ -103,6 +105,11 @@ writer_answer number had old old_infinity new infinity size room =
 
 abbrev pub written_as : ℕ → ℕ → Written
 written_as n w = record { answer = n; written = w }
+
+-- the same of an outcome: how many bytes were written, or the refusal
+abbrev pub written_by : Result ℕ Refusal → Written
+written_by (Ok w) = written_as 0 w
+written_by (Err refusal) = written_as (number_of refusal) 0
 
 module _ (number : List ℕ) (had : Bool) (old : List ℕ) (old_infinity : ℕ) (new : List ℕ) (infinity size : ℕ)
     (out : List ℕ) where

@@ -67,13 +67,13 @@ fn written(row: &[u8], out: &mut [u8]) -> Written {
         infinity: rows::byte(row, 0, 4),
         size: rows::size(row, 0, 5),
     };
-    tablewriter::write_table(
+    Written::from(tablewriter::write_table(
         [0, 1, 2, 3, 4, 5, 6, 7, 8, 9, 10, 11, 12, 13, 14, 15],
         wanted,
         rows::word(row, 0, 1),
         rows::word(row, 0, 3),
         words::front(out, rows::size(row, 0, 6)),
-    )
+    ))
 }
 
 pub(crate) fn run(rt: &impl Print, row: &[u8], out: &mut [u8]) -> io::Result<()> {

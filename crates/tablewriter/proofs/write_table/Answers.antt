@@ -5,23 +5,25 @@ use mathlib.Core.Path.{◌≡◌, refl, sym, ap, ◌∙◌}
 use mathlib.Core.Bool.{true}
 use native.Mathlib.Omega.{arith}
 use lib.ListN.{length}
+use borrow.Author.Tests.{leb-true, leb-false}
 use Rattle.laws.specs.Parts.{over}
+use Rattle.std.proofs.lemmas.Result.{err_from_is_err_and}
 use Rattle.tablemessages.specs.Writer.{base_of, data_of, parts_of, messages_of, joined}
 use Rattle.tablemessages.specs.Steps.{may_write}
-use Rattle.tablemessages.proofs.AnswerLaws.{bad-given, too_many, too_short, all-well, refused, accepted, reset-few}
+use Rattle.tablemessages.proofs.AnswerLaws.{bad-given, too_many, too_short, all-well, refused, accepted, kept, lost}
 use Rattle.tablemessages.proofs.AnswerLaws.{bytes-length}
 use Rattle.tablemessages.proofs.DataLaws.{base-length}
 use Rattle.tablemessages.proofs.GoodLaws.{GoodCall, call-to}
 use Rattle.tablemessages.proofs.CallLaws.{data_count, data_few, count_same, plan-fits, all_same}
-use Rattle.tablewriter.proofs.write_table.Goals.{After-data_length-data, After-reset_length, Else-not-may_write}
+use Rattle.tablewriter.proofs.write_table.Goals.{After-data_length-data, After-reset_length, In_ok-require}
 use Rattle.tablewriter.proofs.write_table.Goals as goal
 
 -- the tables and the data size may be written
-may : (c : Else-not-may_write) → let x = c.args in
+may : (c : In_ok-require) → let x = c.args in
     may_write x.w.had x.old.now x.w.was x.new.now x.w.infinity x.w.size ≡ true
-may c = sym c.may_write.ensures ∙ c.if-not-may_write.false
+may c = sym c.may_write.ensures ∙ kept _ _ _ c.in_ok-require.ensures
 
-good : (c : Else-not-may_write) → let x = c.args in
+good : (c : In_ok-require) → let x = c.args in
     GoodCall x.w.had x.old.now x.w.was x.new.now x.w.infinity x.w.size
 good c =
     let x = c.args in
@@ -38,7 +40,7 @@ count c =
     let a = c.all_near-small in
     count_same x.number (omega arith) x.w.had x.old.now x.w.was x.new.now
     x.w.infinity x.w.size
-    (good (goal.at.After-data_length-data c).Else-not-may_write) a.result a.ensures c.data_length-data.result c.data_length-data.ensures
+    (good (goal.at.After-data_length-data c).In_ok-require) a.result a.ensures c.data_length-data.result c.data_length-data.ensures
 
 few : (c : After-data_length-data) → c.data_length-data.result ≤ 65536
 few c =
@@ -46,7 +48,7 @@ few c =
     let a = c.all_near-small in
     rw c.data_length-data.ensures (data_few x.number (omega arith) x.w.had x.old.now x.w.was
     x.new.now x.w.infinity x.w.size
-    (good (goal.at.After-data_length-data c).Else-not-may_write) a.result a.ensures)
+    (good (goal.at.After-data_length-data c).In_ok-require) a.result a.ensures)
 
 bytes : (c : After-data_length-data)
     → let x = c.args in
@@ -57,7 +59,7 @@ bytes c =
     let a = c.all_near-small in
     c.data_length-data.ensures ∙ sym (data_count x.number (omega arith) x.w.had x.old.now x.w.was
     x.new.now x.w.infinity x.w.size
-    (good (goal.at.After-data_length-data c).Else-not-may_write) a.result a.ensures)
+    (good (goal.at.After-data_length-data c).In_ok-require) a.result a.ensures)
 
 -- all the messages' bytes, as the code counts them
 total : (c : After-reset_length)
@@ -71,21 +73,23 @@ total c =
     let k = count (goal.at.After-reset_length c).After-data_length-data in
     let b =
     bytes-length x.w.had x.number x.old.now x.new.now x.w.infinity x.w.size (omega arith)
-    (good (goal.at.After-reset_length c).Else-not-may_write).some in
+    (good (goal.at.After-reset_length c).In_ok-require).some in
     omega (arith, c.reset_length.ensures)
 
-pub returns-then-not-may_write : goal.returns-then-not-may_write
-returns-then-not-may_write c =
+pub returns-in_err-require : goal.returns-in_err-require
+returns-in_err-require c =
     let x = c.args in
+    let p = err_from_is_err_and c.from_residual.result c.from_residual.ensures.1 in
+    let no = lost _ _ _ c.in_err-require.ensures in
     let w =
     refused x.number x.w.had x.old.now x.w.was x.new.now x.w.infinity
     x.w.size x.out.now 14
     (bad-given x.number x.w.had x.old.now x.w.was x.new.now x.w.infinity
     x.w.size x.out.now
-    (sym c.may_write.ensures ∙ c.if-not-may_write.true))
+    (sym c.may_write.ensures ∙ no.0))
     refl in
     record {
-      result = c.answered.ensures ∙ w.0;
+      result = rw (p.1, p.2, no.1) w.0;
       bytes = w.1;
     }
 
@@ -95,77 +99,72 @@ all_near-small-requires c =
     base-length x.w.had x.old.now x.new.now x.w.infinity (good c).like
 
 pub overflow_add-count : goal.overflow_add-count
-overflow_add-count c = omega (arith, few (goal.at.overflow_add-count c).After-data_length-data, (good (goal.at.overflow_add-count c).Else-not-may_write).most)
+overflow_add-count c = omega (arith, few (goal.at.overflow_add-count c).After-data_length-data, (good (goal.at.overflow_add-count c).In_ok-require).most)
 
 pub overflow_sub-count : goal.overflow_sub-count
-overflow_sub-count c = omega (arith, (good (goal.at.overflow_sub-count c).Else-not-may_write).some)
+overflow_sub-count c = omega (arith, (good (goal.at.overflow_sub-count c).In_ok-require).some)
 
 pub nonzero_div-count : goal.nonzero_div-count
-nonzero_div-count c = (good (goal.at.nonzero_div-count c).Else-not-may_write).some
+nonzero_div-count c = (good (goal.at.nonzero_div-count c).In_ok-require).some
 
-pub returns-then-count-gt255 : goal.returns-then-count-gt255
-returns-then-count-gt255 c =
+pub returns-in_err-require-2 : goal.returns-in_err-require-2
+returns-in_err-require-2 c =
     let x = c.args in
-    let k = count (goal.at.returns-then-count-gt255 c).After-data_length-data in
+    let p = err_from_is_err_and c.from_residual-in_err-require-2.result c.from_residual-in_err-require-2.ensures.1 in
+    let no = lost _ _ _ c.in_err-require-2.ensures in
+    let k = count (goal.at.returns-in_err-require-2 c).After-data_length-data in
     let w =
     refused x.number x.w.had x.old.now x.w.was x.new.now x.w.infinity
     x.w.size x.out.now 14
     (too_many x.number x.w.had x.old.now x.w.was x.new.now x.w.infinity
     x.w.size x.out.now
-    (may ((goal.at.returns-then-count-gt255 c).Else-not-may_write)) (omega arith))
+    (may (goal.at.returns-in_err-require-2 c).In_ok-require) (omega (arith, leb-false _ _ no.0)))
     refl in
     record {
-      result = c.answered-then-count-gt255.ensures ∙ w.0;
+      result = rw (p.1, p.2, no.1) w.0;
       bytes = w.1;
     }
 
-pub overflow_add-total : goal.overflow_add-total
-overflow_add-total c =
-    omega (arith, c.reset_length.ensures, reset-few c.args.w.had)
-
-pub overflow_add-total-2 : goal.overflow_add-total-2
-overflow_add-total-2 c =
-    omega (
-      arith,
-      few (goal.at.overflow_add-total-2 c).After-data_length-data,
-      c.reset_length.ensures,
-      reset-few
-          c.args.w.had,
-    )
-
-pub returns-then-out-total : goal.returns-then-out-total
-returns-then-out-total c =
+pub returns-in_err-require-3 : goal.returns-in_err-require-3
+returns-in_err-require-3 c =
     let x = c.args in
-    let k = count ((goal.at.returns-then-out-total c).After-data_length-data) in
-    let t = total (goal.at.returns-then-out-total c).After-reset_length in
+    let p = err_from_is_err_and c.from_residual-in_err-require-3.result c.from_residual-in_err-require-3.ensures.1 in
+    let no = lost _ _ _ c.in_err-require-3.ensures in
+    let few = leb-true _ _ (kept _ _ _ c.in_ok-require-2.ensures) in
+    let k = count (goal.at.returns-in_err-require-3 c).After-data_length-data in
+    let t = total (goal.at.returns-in_err-require-3 c).After-reset_length in
     let w =
     refused x.number x.w.had x.old.now x.w.was x.new.now x.w.infinity
     x.w.size x.out.now 2
     (too_short x.number x.w.had x.old.now x.w.was x.new.now x.w.infinity
     x.w.size x.out.now
-    (may (goal.at.returns-then-out-total c).Else-not-may_write) (omega arith) (omega arith))
+    (may (goal.at.returns-in_err-require-3 c).In_ok-require) (omega (arith, few)) (omega (arith, leb-false _ _ no.0)))
     refl in
     record {
-      result = c.answered-then-out-total.ensures ∙ w.0;
+      result = rw (p.1, p.2, no.1) w.0;
       bytes = w.1;
     }
 
 pub put_all-requires : goal.put_all-requires
 put_all-requires c =
     let x = c.args in
-    let g = good (goal.at.put_all-requires c).Else-not-may_write in
+    let g = good (goal.at.put_all-requires c).In_ok-require in
+    let few = leb-true _ _ (kept _ _ _ c.in_ok-require-2.ensures) in
+    let room = leb-true _ _ (kept _ _ _ c.in_ok-require-3.ensures) in
     let k = count ((goal.at.put_all-requires c).After-data_length-data) in
     let t = total (goal.at.put_all-requires c).After-reset_length in
     let b = bytes-length x.w.had x.number x.old.now x.new.now x.w.infinity x.w.size
     (omega arith) g.some in
     plan-fits x.number (omega arith) x.w.had x.old.now x.w.was x.new.now
     x.w.infinity x.w.size
-    (g) c.all_near-small.result c.all_near-small.ensures _ _ k (omega arith)
+    (g) c.all_near-small.result c.all_near-small.ensures _ _ k (omega (arith, few, room))
 
 pub returns : goal.returns
 returns c =
     let x = c.args in
     let a = c.all_near-small in
+    let few = leb-true _ _ (kept _ _ _ c.in_ok-require-2.ensures) in
+    let room = leb-true _ _ (kept _ _ _ c.in_ok-require-3.ensures) in
     let k = count ((goal.at.returns c).After-data_length-data) in
     let t = total (goal.at.returns c).After-reset_length in
     let w =
@@ -173,12 +172,12 @@ returns c =
     x.w.size x.out.now _ _
     (all-well x.number x.w.had x.old.now x.w.was x.new.now x.w.infinity
     x.w.size x.out.now
-    (may (goal.at.returns c).Else-not-may_write) (omega arith) (omega arith)) t
+    (may (goal.at.returns c).In_ok-require) (omega (arith, few)) (omega (arith, room))) t
     (c.put_all.ensures
     ∙ ap (λ b. over 0 b x.out.now)
     (all_same x.w.had x.number x.old.now x.new.now x.w.infinity x.w.size a.result _
     a.ensures k)) in
     record {
-      result = c.answered-2.ensures ∙ w.0;
+      result = w.0;
       bytes = w.1;
     }

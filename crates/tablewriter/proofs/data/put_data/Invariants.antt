@@ -1,5 +1,5 @@
 -- The first i bytes of the data from `from` on stand at the front of the part, whose length stays.
-use Prim.Native.Nat.{◌-◌, ◌≤◌}
+use Prim.Native.Nat.{◌≤◌}
 use mathlib.Core.Path.{◌≡◌}
 use lib.ListN.{length, take, drop}
 use Rattle.laws.specs.Parts.{over}

@@ -1,8 +1,7 @@
 -- The entries gone through are near where `good` says so; those left decide.
-use Prim.Native.Nat.{◌≤◌, ◌-◌}
 use mathlib.Core.Path.{◌≡◌}
 use mathlib.Core.Bool.{◌&&◌}
-use lib.ListN.{length, drop}
+use lib.ListN.{drop}
 use Rattle.tablemessages.specs.Writer.{base_of, all_near}
 use Rattle.tablewriter.proofs.good.all_near.Given as goal
 

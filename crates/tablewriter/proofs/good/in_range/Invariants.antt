@@ -1,8 +1,7 @@
 -- The entries gone through are in range where `good` says so; those left decide.
-use Prim.Native.Nat.{◌≤◌, ◌-◌}
 use mathlib.Core.Path.{◌≡◌}
 use mathlib.Core.Bool.{◌&&◌}
-use lib.ListN.{length, drop}
+use lib.ListN.{drop}
 use Rattle.laws.specs.Tests.{all}
 use Rattle.tablemessages.specs.Writer.{in_range}
 use Rattle.tablewriter.proofs.good.in_range.Given as goal
