@@ -37,7 +37,7 @@ fn pongs(i: usize, hops: u8) -> [Pong; 10] {
     all
 }
 
-// The table that the words from j on are.
+// The table that the words from the eighth on are.
 fn table(row: &[u8], k: usize) -> Table {
     Table {
         mark: rows::byte(row, k, 7),
