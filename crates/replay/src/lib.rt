@@ -6,7 +6,7 @@ mod calls;
 mod events;
 mod set;
 
-ghost use Rattle.std.specs.Prelude.{◌≤◌, ◌≡◌, ◌⊎◌, eqb};
+ghost use Rattle.std.specs.Prelude.{◌≤◌, ◌≡◌, ◌⊎◌, eqb, take};
 ghost use Rattle.protocol.specs.Calls.{unfound};
 ghost use Rattle.protocol.specs.Queries.{usual_limit, infinity_written};
 ghost use Rattle.relaying.specs.Calls.{told_by};
@@ -51,7 +51,9 @@ impl Answers {
         }
     }
 
-    pub fn as_slice(&self) -> &[u8] {
+    pub fn as_slice(&self) -> &[u8]
+        ensures { result.now ≡ take self.now.count self.now.bytes }
+    {
         &self.bytes[..self.count]
     }
 }
