@@ -13,21 +13,20 @@ pub struct Tally {
     pub counts: [u32; ANSWERS],
 }
 
-// One more message with this answer, in the tally that is lent. A full count stays, and a number that is no answer counts
-// nothing.
-pub fn count(t: &mut Tally, answer: u8)
-    ensures { t.new ≡ countedBy t.old answer }
+// The tally after one more message with this answer. A full count stays, and a number that is no answer counts nothing.
+pub fn counted(mut t: Tally, answer: u8) -> Tally
+    ensures { result ≡ countedBy t answer }
 {
     let i = usize::from(answer);
     if i < ANSWERS {
         t.counts[i] = t.counts[i].saturating_add(1);
     }
+    t
 }
 
-// The tally after it.
-pub fn counted(mut t: Tally, answer: u8) -> Tally
-    ensures { result ≡ countedBy t answer }
+// The same in the tally that is lent.
+pub fn count(t: &mut Tally, answer: u8)
+    ensures { t.new ≡ countedBy t.old answer }
 {
-    count(&mut t, answer);
-    t
+    *t = counted(*t, answer);
 }

@@ -6,7 +6,7 @@ use borrow.Author.Tests.{lt-ltb, le-ltb}
 use Rattle.std.proofs.Math.Nat.{min_comm}
 use Rattle.tally.specs.declared.Tally.{Tally}
 use Rattle.tally.specs.Counts.{answer_count, full, one_more, bump, counted}
-use Rattle.tally.proofs.count.Goals as goal
+use Rattle.tally.proofs.counted.Goals as goal
 
 raised-is : (t : Tally) (a i n : ℕ) → i ≡ a → i < answer_count → n ≡ min (get_or t.counts i 0 + 1) full
     → ◌≡◌ {A = Tally} (record { counts = set t.counts i n }) (counted t a)
@@ -21,8 +21,8 @@ stays t a i e h = rw (← e, le-ltb i answer_count h)
 
 pub returns-then-i-lt-ANSWERS : goal.returns-then-i-lt-ANSWERS
 returns-then-i-lt-ANSWERS c =
-    raised-is c.args.t.now c.args.answer c.from-i.result c.saturating_add.result c.from-i.ensures c.if-i-lt-ANSWERS.true
+    raised-is c.args.t c.args.answer c.from-i.result c.saturating_add.result c.from-i.ensures c.if-i-lt-ANSWERS.true
     c.saturating_add.ensures
 
 pub returns-else-i-lt-ANSWERS : goal.returns-else-i-lt-ANSWERS
-returns-else-i-lt-ANSWERS c = stays c.args.t.now c.args.answer c.from-i.result c.from-i.ensures c.if-i-lt-ANSWERS.false
+returns-else-i-lt-ANSWERS c = stays c.args.t c.args.answer c.from-i.result c.from-i.ensures c.if-i-lt-ANSWERS.false
