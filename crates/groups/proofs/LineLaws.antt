@@ -7,7 +7,7 @@ use native.Mathlib.Nat.{add-zero, add_assoc}
 use native.Mathlib.Omega.{arith}
 use lib.Dec.{leb, eqb}
 use lib.ListN.{length, get_or, take, drop, length-drop, drop_of_length-le}
-use lib.Seq.{drop-drop, get_or-drop, length-take-le}
+use lib.Seq.{drop-cons, drop-drop, get_or-drop, length-take-le}
 use borrow.Author.Tests.{ne_eqb, leb-true, leb-false}
 use Rattle.laws.specs.Tests.{all}
 use Rattle.ascii.specs.Text.{run, leading, is_text, onto}
@@ -18,6 +18,10 @@ use Rattle.ascii.proofs.TextLaws.{run_length}
 -- CR and LF at the front of what is left stand at that place of the whole
 pub pair-drop : (s : List ℕ) (i : ℕ) → pair_at (drop i s) 0 ≡ pair_at s i
 pair-drop s i = simp (get_or-drop, add-zero)
+
+-- where something is left at a place, a line ends there with CR and LF
+pub ends-pair : (s : List ℕ) (i : ℕ) → i < length s → line_ends (drop i s) ≡ pair_at s i
+ends-pair s i h = ap line_ends (drop-cons s i 0 h) ∙ ap (λ t. pair_at t 0) (sym (drop-cons s i 0 h)) ∙ pair-drop s i
 
 module _ (f : ℕ → Bool) (last : ℕ) where
   -- a turn of a search up to `last`: n is the first

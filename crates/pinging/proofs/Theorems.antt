@@ -1,7 +1,7 @@
 -- Of two pings of a line that are taken the second comes a second later; eleven pongs at most answer a ping; and a
 -- message that has its first bytes gives just these.
 -- Assumes nothing.
-use Rattle.std.proofs.Common.{◌≡◌, ℕ, ◌+◌, ◌*◌, ◌≤◌, Bool, true, false, cond, not, ◌&&◌, ◌||◌, eqb, ltb, leb, List, [], ◌∷◌, length, take, replicate, refl, arith, length-take, ltb-false}
+use Rattle.std.proofs.Common.{◌≡◌, ℕ, ◌+◌, ◌*◌, ◌≤◌, Bool, true, false, cond, not, ◌&&◌, ◌||◌, eqb, ltb, leb, List, [], ◌∷◌, length, take, replicate, refl, arith, length-take, ltb-false, ne_eqb}
 use Rattle.laws.specs.Tests.{first_of}
 use Rattle.laws.proofs.Over.{copied-full}
 use Rattle.wire.specs.declared.Header.{Header}
@@ -12,6 +12,11 @@ use Rattle.protocol.specs.Lines.{elapsed}
 use Rattle.protocol.specs.Pings.{is_probe, keep_if, is_fresh, walk, stored_sent, ping_rules, time_kept}
 use Rattle.pinging.specs.Filled.{number_filled, pong_filled}
 use Rattle.pinging.specs.Sending.{pong_count, count_written}
+
+-- a ping that is no probe, on a line with a kept time, e ms later
+pub timed : (time clock e : ℕ) (h : Header) → (h.ttl ≡ 0 → ⊥) → is_probe h ≡ false → e ≡ elapsed clock time
+    → first_of (ping_rules true time clock h) ≡ cond (ltb e 1000) 13 0
+timed time clock e h lives other at = rw (ne_eqb h.ttl 0 lives, other, at)
 
 -- a ping that is no probe was taken at the clock `first`, and so is one at `second`: at least 1,000 ms later
 pub next-apart : (x : Line) (first second : ℕ) (h : Header) → is_probe h ≡ false

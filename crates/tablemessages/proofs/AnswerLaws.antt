@@ -98,6 +98,11 @@ module _ (number : List ℕ) (had : Bool) (old : List ℕ) (old_infinity : ℕ) 
           ≡ joined (messages_of number had old new infinity size)
       whole = ap (λ a. cond (eqb a 0) (joined (messages_of number had old new infinity size)) []) e
 
+-- a RESET takes 29 bytes at most
+pub reset-few : (had : Bool) → reset_length had ≤ 29
+reset-few true = omega arith
+reset-few false = omega arith
+
 -- a test that is passed held, and one that refuses did not
 pub kept : (b : Bool) (r : Refusal) (u : Unit {0}) → ◌≡◌ {A = Result (Unit {0}) Refusal} (Ok u) (cond b (Ok tt) (Err r))
     → b ≡ true
