@@ -121,7 +121,9 @@ impl Chains {
         self.tags[place] == tag && name == name_of(area, pair_at(area, place))
     }
 
-    // The place of this name, which has this tag, in the chain that begins at `from`.
+    // The place of this name, which has this tag, in the chain that begins at `from`. Inlined where names are chained,
+    // with `find`: as a call for each of 512 names, row "name absent" takes 1.3 times as long.
+    #[inline(always)]
     fn walk(&self, area: &[u8], from: usize, name: &[u8], tag: u16) -> Option<usize>
         requires text_from_in_bounds { text_from ≤ length area.now }
         requires walkable { Walkable (name_at area.now) self.now.links self.now.tags from name.now tag }
@@ -139,6 +141,7 @@ impl Chains {
     }
 
     // The place of this name, which has this hash, among those that are chained.
+    #[inline(always)]
     pub(crate) fn find(&self, area: &[u8], name: &[u8], hash: u64) -> Option<usize>
         requires text_from_in_bounds { text_from ≤ length area.now }
         requires hashed { hash ≡ hash_of name.now }

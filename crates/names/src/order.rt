@@ -1,6 +1,10 @@
 // Whether each name lies in the text and may be listed, and whether no two have a byte in common, of areas with room
 // for the pairs and at most 512 names. One pass goes over the numbers; where offsets rise, one pass over the text then
 // tells of all names that they have no zero byte.
+//
+// What goes over pairs by name is inlined into `tested` of search.rt, where the count is known to be 512 at most, so
+// that no pair is read with a test of its place. Left to the compiler, that test stays in the innermost loop, and 512
+// names whose offsets do not rise take 1.7 to 2 times as long.
 ghost use Rattle.std.specs.Prelude.{◌≡◌, not, ◌+◌, ◌-◌, ◌≤◌, ◌<◌, eqb, length, drop};
 ghost use Rattle.laws.specs.Tests.{any, all};
 ghost use Rattle.namearea.specs.Area.{most_names, text_from, span_at, spans_of, end_of};
@@ -81,6 +85,7 @@ fn no_zero_along(list: List) -> bool
 }
 
 // Each of the names lies in the text and may be listed.
+#[inline(always)]
 fn all_listable(list: List) -> bool
     ensures { result ≡ all (listable list.entry.area.now) (spans_of list.entry.count list.entry.area.now) }
 {
@@ -100,6 +105,7 @@ fn are_apart(s: Span, t: Span) -> bool
 }
 
 // Pair i has no byte in common with a pair behind it.
+#[inline(always)]
 fn apart_behind(list: List, i: usize) -> bool
     requires { i < list.count }
     ensures { let a = list.entry.area.now in
@@ -115,6 +121,7 @@ fn apart_behind(list: List, i: usize) -> bool
 }
 
 // No two of the names have a byte in common, pair by pair.
+#[inline(always)]
 fn all_apart(list: List) -> bool
     ensures { result ≡ pairwise apart (spans_of list.entry.count list.entry.area.now) }
 {
@@ -127,6 +134,7 @@ fn all_apart(list: List) -> bool
 }
 
 // Each of the names lies in the text and may be listed, and no two have a byte in common: name by name.
+#[inline(always)]
 fn placed_by_name(list: List) -> bool
     ensures { result ≡ placed list.entry.count list.entry.area.now }
 {
@@ -135,6 +143,7 @@ fn placed_by_name(list: List) -> bool
 
 // The same. Where offsets rise, no two names have a byte in common, and a text without a zero byte has no name with
 // one; a zero byte may yet stand in a gap, and wide gaps are not gone through.
+#[inline(always)]
 pub(crate) fn all_placed(list: List) -> bool
     ensures { result ≡ placed list.entry.count list.entry.area.now }
 {

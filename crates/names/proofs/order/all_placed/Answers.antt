@@ -1,6 +1,5 @@
 -- The numbers decide, or rising offsets and the bytes along the names do, or each name and each two of them.
-use mathlib.Core.Path.{◌≡◌, refl, sym, ◌∙◌}
-use mathlib.Core.Bool.{true}
+use mathlib.Core.Path.{refl, sym, ◌∙◌}
 use native.Mathlib.Omega.{arith}
 use Rattle.laws.proofs.Refusals.{clash}
 use Rattle.names.proofs.OrderLaws.{none-placed, told-unfit, told-whole, told-listed}

@@ -4,7 +4,6 @@ use mathlib.Core.Path.{◌≡◌, ap, ◌∙◌}
 use native.Mathlib.Omega.{arith}
 use Rattle.namearea.specs.Area.{name_of, name_at}
 use Rattle.namearea.proofs.SpanLaws.{pair-there}
-use Rattle.names.specs.Chains.{told_of}
 use Rattle.names.proofs.ChainLaws.{next_walkable, told_some, told-none}
 use Rattle.names.proofs.ChainLaws.{pass-none, pass-more, pass-met, pass_all, pass-stop}
 use Rattle.names.proofs.chains.Chains.chain.Goals.{After-hash-hash}

@@ -1,5 +1,5 @@
 -- The walk begins at the head of the name's bucket.
-use mathlib.Core.Path.{◌≡◌, refl, ap, ◌∙◌}
+use mathlib.Core.Path.{◌≡◌, ap, ◌∙◌}
 use lib.ListN.{get_or}
 use Rattle.names.specs.Chains.{bucket_of, tag_of}
 use Rattle.names.proofs.WalkLaws.{bucket-is, tag_is}
