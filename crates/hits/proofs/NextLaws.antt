@@ -4,7 +4,8 @@ use mathlib.Core.Path.{◌≡◌, refl, sym, ap, ◌∙◌}
 use mathlib.Core.Bool.{Bool, true, false, cond}
 use mathlib.Core.List.{List}
 use native.Mathlib.Omega.{arith}
-use lib.ListN.{length, take, length-take, length-drop}
+use lib.ListN.{length, take, drop, length-take, length-drop}
+use Rattle.std.proofs.lemmas.List.{drop-take}
 use borrow.Author.Tests.{lt-ltb, le-ltb, le-leb}
 use Rattle.laws.proofs.Words.{refuted}
 use Rattle.hits.specs.declared.reading.HitCursor.{HitCursor}
@@ -20,6 +21,12 @@ pub whole-within : (at : ℕ) (p : List ℕ) → 27 ≤ length p → is_whole (b
 whole-within at p h e =
     let fits = whole-fits (body_from at p) e in
     omega (arith, length-drop at (take (length p - 16) p), length-take (length p - 16) p)
+
+-- what the code's `&l[at..end]` holds
+pub part_of : (at end : ℕ) (l : List ℕ) → at ≤ end → take (end - at) (drop at l) ≡ drop at (take end l)
+part_of at end l h =
+    let e : at + (end - at) ≡ end = omega arith in
+    sym (drop-take at (end - at) l) ∙ ap (λ n. drop at (take n l)) e
 
 -- ---- the cases
 module _ (c : HitCursor) (p : List ℕ) where

@@ -19,7 +19,7 @@ pub fn lunozhar_hit_begin(payload: &[u8]) -> HitHead
 pub fn lunozhar_hit_next(cursor: HitCursor, payload: &[u8]) -> HitNext
     ensures { result ≡ next_of cursor payload.now }
 {
-    HitNext::from(cursor.next(payload))
+    cursor.told(payload)
 }
 
 // The hit for a query that the station's own names give, at the front of the output.
