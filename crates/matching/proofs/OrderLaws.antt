@@ -1,7 +1,7 @@
 -- The order of keywords is the library's order of lists of numbers.
 use Rattle.std.proofs.Math.Seq.{drop-cons}
 use Rattle.ascii.specs.Text.{lower}
-use Rattle.std.proofs.Common.{Bool, false, not, ◌==◌, [], ◌∷◌, map, length, get_or, drop, min, ◌+◌, ◌<◌, add-one, length-drop, ◌≡◌, ◌≤◌, ℕ, true, List, refl, sym, ap, ◌∙◌, arith}
+use Rattle.std.proofs.Common.{false, not, ◌==◌, [], ◌∷◌, map, length, get_or, drop, min, ◌+◌, ◌<◌, add-one, length-drop, ◌≡◌, ◌≤◌, ℕ, true, List, refl, sym, ap, ◌∙◌, arith}
 use Rattle.std.specs.declared.cmp.Ordering.{Ordering}
 use Rattle.std.specs.declared.cmp.Ordering.TheVariants.{Less, Equal, Greater}
 use Rattle.std.specs.Ordering.{nat_cmp, is_lt, ordering_reverse, ordering_index, ordering_then}

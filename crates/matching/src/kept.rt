@@ -65,22 +65,30 @@ impl<'a> Kept<'a> {
         }
     }
 
-    // The keywords of a text of 4,096 bytes at most.
-    pub(crate) fn of(text: &'a [u8]) -> Kept<'a>
+    // None yet of the keywords of a text of 4,096 bytes at most.
+    pub(crate) fn none_of(text: &'a [u8]) -> Kept<'a>
         requires { length text.now ≤ 4096 }
         ensures text { result.text.now ≡ text.now }
-        ensures gathered { Gathered text.now result.spans result.count }
+        ensures none { result.count ≡ 0 }
     {
-        let mut kept = Kept {
+        Kept {
             text,
             spans: [Span { start: 0, size: 0 }; LONGEST_TEXT],
             count: 0,
-        };
+        }
+    }
+
+    // Keeps the keywords of the text. They are gathered where they stay: handed on whole, the places were copied.
+    pub(crate) fn gather(&mut self)
+        requires { self.old.count ≡ 0 }
+        ensures text { self.new.text.now ≡ self.old.text.now }
+        ensures gathered { Gathered self.old.text.now self.new.spans self.new.count }
+    {
+        let text = self.text;
         let mut at = 0;
         while let Some(cut) = first_keyword(&text[at..]) {
-            kept.add(at + cut.start, cut.end - cut.start);
+            self.add(at + cut.start, cut.end - cut.start);
             at += cut.end;
         }
-        kept
     }
 }

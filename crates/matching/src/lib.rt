@@ -57,7 +57,8 @@ pub fn matching_places(text: &[u8], area: &[u8]) -> [bool; 512]
     if LONGEST_TEXT < text.len() {
         return [false; MOST_NAMES];
     }
-    let kept = Kept::of(text);
+    let mut kept = Kept::none_of(text);
+    kept.gather();
     match kept.sample() {
         None => [false; MOST_NAMES],
         Some(sample) => {

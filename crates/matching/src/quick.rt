@@ -82,11 +82,13 @@ impl Sample {
 }
 
 impl Kept<'_> {
-    // The span of the longest keyword that is kept.
+    // The span of the longest keyword that is kept, the first of those that are as long.
     fn longest(&self) -> Option<&Span>
         ensures { MatchOption result (self.now.count ≡ 0) (λ s. Contains (take self.now.count self.now.spans) s.now) }
     {
-        self.spans[..self.count].iter().max_by_key(|span| span.size)
+        self.spans[..self.count]
+            .iter()
+            .min_by_key(|span| u16::MAX - span.size)
     }
 
     // Its sample: few names have its bytes. None where none is kept: then no name matches.

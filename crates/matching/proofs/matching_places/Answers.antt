@@ -1,4 +1,5 @@
 -- A text that is too long, one without keywords, or one whose keywords are kept.
+use mathlib.Core.Path.{◌∙◌}
 use Rattle.matching.proofs.MatchLaws.{fill-long, fill-unmatched}
 use Rattle.matching.proofs.matching_places.Goals as goal
 
@@ -10,4 +11,4 @@ returns-then-text-gt-LONGEST_TEXT c =
 pub returns-in-None : goal.returns-in-None
 returns-in-None c =
     let x = c.args in
-    fill-unmatched x.text.now x.area.now (rw c.of-kept.ensures.text at c.in-None.ensures)
+    fill-unmatched x.text.now x.area.now (rw (c.gather.ensures.text ∙ c.none_of-kept.ensures.text) at c.in-None.ensures)

@@ -3,10 +3,10 @@ use Prim.Native.Nat.{◌-◌}
 use mathlib.Core.Path.{◌≡◌}
 use lib.ListN.{length}
 use Rattle.matching.proofs.KeptLaws.{Gathering}
-use Rattle.matching.proofs.kept.Kept.of.Given as goal
+use Rattle.matching.proofs.kept.Kept.gather.Given as goal
 
 abbrev pub invariant-loop-cut : goal.invariant-loop-cut
-invariant-loop-cut l = (l.kept.text.now ≡ l.text) × Gathering l.text l.kept.spans l.kept.count l.at
+invariant-loop-cut l = (l.self.text.now ≡ l.text) × Gathering l.text l.self.spans l.self.count l.at
 
 abbrev pub decreases-loop-cut : goal.decreases-loop-cut
 decreases-loop-cut l = length l.text - l.at
