@@ -118,13 +118,19 @@ fn act(
     out: &mut [u8],
     route: &mut [u8],
 ) {
-    let line = rows::number(row, k, 1);
-    let clock = rows::number(row, k, 2);
     match event {
-        Event::Open => w.open(line),
-        Event::Close => w.close(line),
-        Event::Message => w.message(line, clock, rows::word(row, k, 3), out, route),
+        Event::Open => w.open(rows::number(row, k, 1)),
+        Event::Close => w.close(rows::number(row, k, 1)),
+        Event::Message => w.message(
+            rows::number(row, k, 1),
+            rows::number(row, k, 2),
+            rows::word(row, k, 3),
+            out,
+            route,
+        ),
         Event::Feed => {
+            let line = rows::number(row, k, 1);
+            let clock = rows::number(row, k, 2);
             let area = held_by(held, line, w.lent);
             w.feed(line, clock, rows::word(row, k, 3), area, out, route)
         }

@@ -135,17 +135,25 @@ fn table(rt: &impl Print, area: &[u8], row: &[u8], k: usize) -> io::Result<()> {
 
 fn act(rt: &impl Print, event: Event, area: &mut [u8], row: &[u8], k: usize) -> io::Result<()> {
     let name = rows::word(row, k, 1);
-    let place = rows::size(row, k, 1);
-    let second = rows::number(row, k, 2);
     match event {
         Event::Add => return changed(rt, area, |a| namelist::changes::add(a, name)),
         Event::Remove => return changed(rt, area, |a| namelist::changes::remove(a, name)),
         Event::Find => return found(rt, area, name),
         Event::Table => return table(rt, area, row, k),
         Event::Count => put_number(area, 0, rows::number(row, k, 1)),
-        Event::Pair => put_pair(area, place, second, rows::number(row, k, 3)),
-        Event::Name => put_name(area, place, second, rows::word(row, k, 3)),
-        Event::Fill => fill(area, rows::number(row, k, 1), second),
+        Event::Pair => put_pair(
+            area,
+            rows::size(row, k, 1),
+            rows::number(row, k, 2),
+            rows::number(row, k, 3),
+        ),
+        Event::Name => put_name(
+            area,
+            rows::size(row, k, 1),
+            rows::number(row, k, 2),
+            rows::word(row, k, 3),
+        ),
+        Event::Fill => fill(area, rows::number(row, k, 1), rows::number(row, k, 2)),
     }
     Ok(())
 }
