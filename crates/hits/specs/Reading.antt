@@ -10,6 +10,7 @@ use Rattle.hits.specs.declared.reading.HitRecord.{HitRecord}
 use Rattle.hits.specs.declared.reading.HitNext.{HitNext}
 use Rattle.hits.specs.declared.reading.HitHead.{HitHead}
 use Rattle.hits.specs.declared.reading.Front.{Front}
+use Rattle.hits.specs.declared.reading.Lengths.{Lengths}
 use Rattle.hits.specs.Results.{name_in, extension_in, is_whole, result_size}
 
 -- how many bytes the least payload, what stands before the results, and the mark have
@@ -136,6 +137,11 @@ abbrev pub told_of : Result (Option HitRecord) Refusal → HitCursor → HitNext
 told_of (Ok (Some r)) c = record { answer = 0; found = true; result = r; cursor = c }
 told_of (Ok None) c = stays 0 c
 told_of (Err refusal) c = stays (number_of refusal) c
+
+-- whether a result was read, and how long its name and its extension are
+abbrev pub lengths_in : Option HitRecord → Lengths
+lengths_in (Some r) = record { whole = true; namelen = r.namelen; extlen = r.extlen }
+lengths_in None = record { whole = false; namelen = 0; extlen = 0 }
 
 -- the place of the first zero byte
 abbrev pub zero_at : List ℕ → Option ℕ

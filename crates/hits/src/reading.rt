@@ -1,7 +1,7 @@
 // A hit's payload read: what stands at its front, and then one result a call. The reader's state is a cursor, which a
 // call moves on by one result.
 ghost use Rattle.std.specs.Prelude.{◌+◌, ◌^◌, ◌<◌, ◌≡◌, length, IfSome};
-ghost use Rattle.hits.specs.Reading.{head_of, beginning, stays, zero_at, record_of, told_of, next_of};
+ghost use Rattle.hits.specs.Reading.{head_of, beginning, lengths_in, stays, zero_at, record_of, told_of, next_of};
 
 use answer::Refusal;
 
@@ -32,6 +32,33 @@ pub struct HitRecord {
     pub namelen: usize,
     pub extat: usize,
     pub extlen: usize,
+}
+
+// Whether there is a whole result, and how long its name and its extension are, 0 where there is none.
+#[derive(Clone, Copy)]
+pub struct Lengths {
+    pub whole: bool,
+    pub namelen: usize,
+    pub extlen: usize,
+}
+
+impl From<Option<HitRecord>> for Lengths {
+    ghost from_gives = { λ read lengths. lengths ≡ lengths_in read };
+
+    fn from(read: Option<HitRecord>) -> Lengths {
+        match read {
+            Some(record) => Lengths {
+                whole: true,
+                namelen: record.namelen,
+                extlen: record.extlen,
+            },
+            None => Lengths {
+                whole: false,
+                namelen: 0,
+                extlen: 0,
+            },
+        }
+    }
 }
 
 // What a call of the reader gives a caller in C: its answer, whether there is a result, the result, which is zeros where
