@@ -13,7 +13,7 @@ use Rattle.laws.proofs.Refusals.{clash, no-refusal, none-refused}
 use Rattle.laws.proofs.Words.{stands_iff}
 use Rattle.wire.specs.Header.{header_in, ttl_of, hops_of, size_of}
 use Rattle.protocol.specs.declared.Age.{Age}
-use Rattle.protocol.specs.Memory.{Lookup}
+use Rattle.protocol.specs.declared.Lookup.{Lookup}
 use Rattle.protocol.specs.Memory.{here, gone, hit_limit, Number, age_after, no_age, pick_age, age_of, age_behind}
 use Rattle.protocol.specs.State.{Station, looked_up}
 use Rattle.protocol.specs.Order.{in_order}

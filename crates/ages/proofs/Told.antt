@@ -10,7 +10,7 @@ use borrow.Author.Tests.{eqb-true, eqb-false}
 use Rattle.laws.specs.Tests.{first_of}
 use Rattle.wire.specs.Header.{kind_of, ping_type, pong_type, route_update, query_type, hit_type}
 use Rattle.protocol.specs.declared.Age.{Age}
-use Rattle.protocol.specs.Memory.{Lookup}
+use Rattle.protocol.specs.declared.Lookup.{Lookup}
 use Rattle.protocol.specs.Memory.{number_in, no_age}
 use Rattle.protocol.specs.Lines.{with_pong, empty_line}
 use Rattle.protocol.specs.State.{Station, Change, line_only, line_at, with_line, looked_up}

@@ -1,7 +1,7 @@
 // Floor 1: why a call is refused, by name, and the number that RULES 2.1 gives each refusal.
 #![tactic(auto)]
 
-ghost use Rattle.std.specs.Prelude.{◌≡◌, cond};
+ghost use Rattle.std.specs.Prelude.{ℕ, ◌≡◌, cond};
 ghost use Rattle.answer.specs.Numbers.{number_of, answer_of};
 
 // The refusals; each has its number in RULES 2.1, where the table says when it is given.
@@ -54,4 +54,28 @@ pub fn require(holds: bool, refusal: Refusal) -> Result<(), Refusal>
     ensures { result ≡ cond holds (Ok tt) (Err refusal) }
 {
     if holds { Ok(()) } else { Err(refusal) }
+}
+
+// How a call ended: an outcome, or the answer that one comes to.
+pub trait Ended: Copy {
+    ghost answer: { Self → ℕ };
+
+    fn answer(self) -> u8
+        ensures { result ≡ answer self };
+}
+
+impl Ended for Result<(), Refusal> {
+    ghost answer = { answer_of };
+
+    fn answer(self) -> u8 {
+        answer(self)
+    }
+}
+
+impl Ended for u8 {
+    ghost answer = { λ answer. answer };
+
+    fn answer(self) -> u8 {
+        self
+    }
 }

@@ -15,7 +15,7 @@ use Rattle.wire.proofs.HeaderLaws.{payload-part}
 use Rattle.forwarding.specs.declared.texts.Text.{Text}
 use Rattle.forwarding.specs.Texts.{text_of}
 use Rattle.forwarding.proofs.TextLaws.{text-part, text-within}
-use Rattle.protocol.specs.Memory.{Lookup}
+use Rattle.protocol.specs.declared.Lookup.{Lookup}
 use Rattle.protocol.specs.Queries.{text_in, has_text, query_before, query_rules}
 use Rattle.protocol.specs.Calls.{extent_rules}
 use Rattle.answering.specs.Writing.{asked_rules, asked_text}

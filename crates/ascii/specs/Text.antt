@@ -19,6 +19,10 @@ is_text b = not (eqb b 13 || eqb b 10)
 abbrev pub is_digit : ℕ → Bool
 is_digit b = leb 48 b && leb b 57
 
+-- the classes by number
+abbrev pub class_numbered : ℕ → Class
+class_numbered n = cond (eqb n 0) Blank (cond (eqb n 1) Name (cond (eqb n 2) Text Digit))
+
 -- the classes by name
 abbrev pub in_class : Class → ℕ → Bool
 in_class Blank b = is_blank b

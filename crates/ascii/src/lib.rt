@@ -2,7 +2,7 @@
 #![tactic(auto)]
 
 ghost use Rattle.std.specs.Prelude.{◌≡◌, ◌≤◌, length, get_or, take, drop};
-ghost use Rattle.ascii.specs.Text.{is_blank, is_name, is_text, is_digit, in_class, leading};
+ghost use Rattle.ascii.specs.Text.{is_blank, is_name, is_text, is_digit, class_numbered, in_class, leading};
 ghost use Rattle.laws.specs.Text.{until_zero};
 ghost use Rattle.ascii.specs.Text.{digit_of, decimal_from, number_of};
 
@@ -33,6 +33,38 @@ pub fn is_text(b: u8) -> bool
     !matches!(b, b'\r' | b'\n')
 }
 
+// A class of bytes, given itself or by its number: 0 for blanks, 1 for bytes of a name, 2 for bytes of a line, and any
+// other for digits.
+pub trait ToClass {
+    ghost use Rattle.ascii.specs.declared.Class.{Class};
+
+    ghost class: { Self → Class };
+
+    fn to_class(self) -> Class
+        ensures { result ≡ class self };
+}
+
+impl ToClass for Class {
+    ghost class = { λ class. class };
+
+    fn to_class(self) -> Class {
+        self
+    }
+}
+
+impl ToClass for u8 {
+    ghost class = { class_numbered };
+
+    fn to_class(self) -> Class {
+        match self {
+            0 => Class::Blank,
+            1 => Class::Name,
+            2 => Class::Text,
+            _ => Class::Digit,
+        }
+    }
+}
+
 fn in_class(class: Class, b: u8) -> bool
     ensures { result ≡ in_class class b }
 {
@@ -45,9 +77,10 @@ fn in_class(class: Class, b: u8) -> bool
 }
 
 // How many bytes at the front are of the class.
-pub fn leading(s: &[u8], class: Class) -> usize
-    ensures { result ≡ leading (in_class class) s.now }
+pub fn leading<C: ToClass>(s: &[u8], class: C) -> usize
+    ensures { result ≡ leading (in_class (C.class class)) s.now }
 {
+    let class = class.to_class();
     s.iter().take_while(|b| in_class(class, **b)).count()
 }
 

@@ -14,7 +14,7 @@ use Rattle.laws.proofs.Refusals.{clash, NoRefusal, not-answered}
 use Rattle.laws.proofs.Words.{decided, stands_iff}
 use Rattle.wire.specs.Header.{header_in, kind_of, ttl_of, hops_of, size_of}
 use Rattle.wire.specs.Header.{hit_type}
-use Rattle.protocol.specs.Memory.{Lookup}
+use Rattle.protocol.specs.declared.Lookup.{Lookup}
 use Rattle.protocol.specs.Memory.{number_in, here, gone, Found, Absent, At, find, is_found}
 use Rattle.protocol.specs.State.{Station, remembered, looked_up}
 use Rattle.protocol.specs.Order.{in_order}

@@ -15,7 +15,7 @@ use Rattle.laws.proofs.Words.{decided, stands_iff}
 use Rattle.wire.specs.Header.{kind_of, ttl_of, hops_of, size_of}
 use Rattle.wire.specs.Header.{hit_type}
 use Rattle.protocol.specs.declared.Finding.{Finding}
-use Rattle.protocol.specs.Memory.{Lookup}
+use Rattle.protocol.specs.declared.Lookup.{Lookup}
 use Rattle.protocol.specs.Memory.{capacity, here, gone, hit_limit, Number, number_in, Query, query_at, place_behind}
 use Rattle.protocol.specs.State.{Station, remembered, line_at, looked_up}
 use Rattle.protocol.specs.Order.{in_order}

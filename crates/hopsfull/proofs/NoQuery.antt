@@ -12,7 +12,7 @@ use Rattle.laws.specs.Tests.{first_of, all}
 use Rattle.laws.proofs.Refusals.{clash, and_fst, and_snd, and_intro, of_choice, not-answered}
 use Rattle.laws.proofs.Words.{refuted}
 use Rattle.wire.specs.Header.{header_in, kind_of, payload_of, query_type}
-use Rattle.protocol.specs.Memory.{Lookup}
+use Rattle.protocol.specs.declared.Lookup.{Lookup}
 use Rattle.protocol.specs.Memory.{number_in}
 use Rattle.protocol.specs.State.{Station, line_at, looked_up}
 use Rattle.protocol.specs.Order.{in_order}

@@ -8,7 +8,7 @@ use lib.ListN.{length}
 use borrow.Author.Tests.{eqb-true}
 use Rattle.wire.specs.Header.{header_in, kind_of, payload_of, query_type}
 use Rattle.protocol.specs.declared.Line.{Line}
-use Rattle.protocol.specs.Memory.{Lookup}
+use Rattle.protocol.specs.declared.Lookup.{Lookup}
 use Rattle.protocol.specs.Memory.{number_in, age_behind}
 use Rattle.protocol.specs.Lines.{line_in}
 use Rattle.protocol.specs.State.{Station, line_only, line_at, looked_up}

@@ -4,7 +4,7 @@ use Rattle.std.specs.Prelude.{ℕ, ◌≤◌, ◌≡◌, cond, ◌||◌, List, [
 use Rattle.laws.specs.Tests.{first_of}
 use Rattle.wire.specs.Header.{header_in, kind_of, payload_of, query_type}
 use Rattle.protocol.specs.declared.Line.{Line}
-use Rattle.protocol.specs.Memory.{Lookup}
+use Rattle.protocol.specs.declared.Lookup.{Lookup}
 use Rattle.protocol.specs.Memory.{number_in, age_behind}
 use Rattle.protocol.specs.Lines.{line_in}
 use Rattle.protocol.specs.State.{Station, line_only, looked_up}

@@ -17,7 +17,7 @@ use protocol::Remembered;
 
 // Whether the remembered queries are in order, and what is known of a number.
 #[derive(Clone, Copy)]
-pub struct Survey {
+pub struct Survey<K = Option<Remembered>> {
     pub order: bool,
-    pub known: Option<Remembered>,
+    pub known: K,
 }

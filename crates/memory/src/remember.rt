@@ -1,10 +1,10 @@
 // The ring of a station, written: one query more is remembered, a query has had one hit more, and none is remembered.
 ghost use Rattle.std.specs.Prelude.{◌+◌, min, ◌≡◌, cond};
 ghost use Rattle.laws.specs.Ring.{ring_place};
-ghost use Rattle.protocol.specs.Memory.{capacity, memory_of, number_from, remember_if, raised, lookup_in};
+ghost use Rattle.protocol.specs.Memory.{capacity, memory_of, number_from, remember_if, raised};
 ghost use Rattle.protocol.specs.Calls.{fresh_memory};
 
-use protocol::{CAPACITY, HITS, Remembered};
+use protocol::{CAPACITY, HITS, Known};
 
 // The query with the number (low, high) is remembered, if it was taken; the oldest of 512 makes way.
 pub fn remember(
@@ -48,12 +48,12 @@ fn place_behind(next: usize, after: usize) -> usize
 }
 
 // The query that is known has had one hit more, if one was passed back or delivered.
-pub fn raise(hits: &mut [u8; 512], next: usize, known: Option<Remembered>, answered: bool)
+pub fn raise<K: Known>(hits: &mut [u8; 512], next: usize, known: K, answered: bool)
     ensures { let before = hits.old in
-        hits.new ≡ cond answered (raised capacity next (lookup_in known).after before) before }
+        hits.new ≡ cond answered (raised capacity next (K.lookup known).after before) before }
 {
     if answered {
-        let p = place_behind(next, known.map_or(0, |query| query.after));
+        let p = place_behind(next, known.after());
         hits[p] = HITS.min(hits[p].saturating_add(1));
     }
 }

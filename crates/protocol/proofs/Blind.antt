@@ -16,7 +16,7 @@ use Rattle.wire.specs.Header.{number_of, kind_of, ttl_of, hops_of, size_of, payl
 use Rattle.wire.specs.Header.{hit_type, ping_type, pong_type}
 use Rattle.tables.specs.Updates.{update_answer}
 use Rattle.protocol.specs.declared.Line.{Line}
-use Rattle.protocol.specs.Memory.{Lookup}
+use Rattle.protocol.specs.declared.Lookup.{Lookup}
 use Rattle.protocol.specs.State.{Station, looked_up, held_at}
 use Rattle.protocol.specs.Memory.{number_in}
 use Rattle.protocol.specs.Outcomes.{Terms, Step, pick_result, unused}

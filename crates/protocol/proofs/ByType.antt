@@ -15,7 +15,7 @@ use Rattle.wire.specs.Header.{route_update, query_type, hit_type, ping_type, pon
 use Rattle.tables.specs.Tables.{Held}
 use Rattle.tables.specs.Updates.{update_answer, updated}
 use Rattle.protocol.specs.declared.Line.{Line}
-use Rattle.protocol.specs.Memory.{Lookup}
+use Rattle.protocol.specs.declared.Lookup.{Lookup}
 use Rattle.protocol.specs.declared.Age.{Age}
 use Rattle.protocol.specs.Memory.{capacity, number_in, remember, raise, no_age, age_behind}
 use Rattle.protocol.specs.State.{Station, line_only, line_at, with_line, with_memory, held_at, looked_up}

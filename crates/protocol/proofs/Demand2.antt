@@ -19,7 +19,7 @@ use Rattle.wire.specs.Header.{ping_type}
 use Rattle.keywords.specs.Keywords.{keywords_of}
 use Rattle.tables.specs.Admission.{withholds}
 use Rattle.protocol.specs.declared.Age.{Age}
-use Rattle.protocol.specs.Memory.{Lookup}
+use Rattle.protocol.specs.declared.Lookup.{Lookup}
 use Rattle.protocol.specs.Memory.{capacity, here, gone, number_in, Query, Found, Absent, At, find}
 use Rattle.protocol.specs.Memory.{is_found, hits_of, raise, no_age}
 use Rattle.protocol.specs.State.{Station, remembered, seen, line_at, held_at, looked_up}

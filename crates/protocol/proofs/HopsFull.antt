@@ -10,7 +10,7 @@ use borrow.Author.Tests.{le-leb, eqb-true}
 use Rattle.laws.specs.Tests.{first_of}
 use Rattle.laws.proofs.Refusals.{clash, or_right, not-answered}
 use Rattle.wire.specs.declared.Header.{Header}
-use Rattle.protocol.specs.Memory.{Lookup}
+use Rattle.protocol.specs.declared.Lookup.{Lookup}
 use Rattle.protocol.specs.Queries.{not_allowed, query_rules}
 use Rattle.protocol.specs.HopsFull.{rules_with_row, RowNeverCounts}
 

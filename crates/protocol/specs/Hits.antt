@@ -4,7 +4,7 @@ use Rattle.laws.specs.Tests.{first_of}
 use Rattle.wire.specs.declared.Header.{Header}
 use Rattle.wire.specs.Header.{header_in, payload_of, number_of, message, hit_type}
 use Rattle.protocol.specs.declared.Line.{Line}
-use Rattle.protocol.specs.Memory.{Lookup}
+use Rattle.protocol.specs.declared.Lookup.{Lookup}
 use Rattle.protocol.specs.Memory.{here, gone, hit_limit, age_behind}
 use Rattle.protocol.specs.State.{line_only}
 use Rattle.protocol.specs.Outcomes.{Step, nobody, only_to, quiet, sends, delivers, hands_up, refused_or}

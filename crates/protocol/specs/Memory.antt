@@ -3,6 +3,7 @@ use Rattle.std.specs.Prelude.{ℕ, suc, ◌+◌, ◌%◌, min, ◌≡◌, Bool, 
 use Rattle.laws.specs.Tests.{first_of, any, every, all}
 use Rattle.laws.specs.Bytes.{little}
 use Rattle.laws.specs.Ring.{kept_places, onward, ring_place}
+use Rattle.protocol.specs.declared.Lookup.{Lookup}
 use Rattle.protocol.specs.declared.Remembered.{Remembered}
 use Rattle.protocol.specs.declared.Age.{Age}
 use Rattle.protocol.specs.Lines.{line_count}
@@ -112,12 +113,6 @@ hits_of Absent = 0
 hits_of (At n a h) = h
 
 -- as the rules read it
-pub record Lookup : Type 0 where
-  pub found : Bool
-  pub after : ℕ
-  pub asker : ℕ
-  pub hits : ℕ
-
 abbrev pub lookup_of : Found → Lookup
 lookup_of f = record { found = is_found f; after = after_of f; asker = asker_of f; hits = hits_of f }
 
@@ -125,6 +120,10 @@ lookup_of f = record { found = is_found f; after = after_of f; asker = asker_of 
 abbrev pub lookup_in : Option Remembered → Lookup
 lookup_in None = record { found = false; after = 0; asker = nobody_asked; hits = 0 }
 lookup_in (Some r) = record { found = true; after = r.after; asker = r.asker; hits = r.hits }
+
+-- and the other way round: one that found nothing says nothing, whatever its other fields are
+abbrev pub remembered_in : Lookup → Option Remembered
+remembered_in k = cond k.found (Some record { after = k.after; asker = k.asker; hits = k.hits }) None
 
 -- where a query is found, it stands: the look-up tells its place in the ring
 abbrev pub FoundThere : Type 0

@@ -9,7 +9,7 @@ use Rattle.tables.specs.Admission.{withholds}
 -- the bytes before the first zero byte
 unfoldable pub use Rattle.laws.specs.Text.{until_zero}
 use Rattle.protocol.specs.declared.Line.{Line}
-use Rattle.protocol.specs.Memory.{Lookup}
+use Rattle.protocol.specs.declared.Lookup.{Lookup}
 use Rattle.protocol.specs.Memory.{age_behind}
 use Rattle.protocol.specs.Lines.{is_other, each_line, line_in, held_for}
 use Rattle.protocol.specs.State.{line_only}

@@ -3,7 +3,7 @@
 use Rattle.std.specs.Prelude.{ℕ, Bool, false, List, set}
 use Rattle.tables.specs.Tables.{Held}
 use Rattle.protocol.specs.declared.Line.{Line}
-use Rattle.protocol.specs.Memory.{Lookup}
+use Rattle.protocol.specs.declared.Lookup.{Lookup}
 use Rattle.protocol.specs.Memory.{Memory, Number, Query, capacity, queries_in, find, is_found, lookup_of}
 use Rattle.protocol.specs.Memory.{remember_if, raise_if}
 use Rattle.protocol.specs.Lines.{line_in, held_for}

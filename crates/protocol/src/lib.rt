@@ -6,7 +6,7 @@
 pub mod lines;
 
 ghost use Rattle.std.specs.Prelude.{◌≡◌};
-ghost use Rattle.protocol.specs.Memory.{age_in};
+ghost use Rattle.protocol.specs.Memory.{lookup_in, remembered_in, age_in};
 ghost use Rattle.protocol.specs.Calls.{finding_in};
 
 use answer::Refusal;
@@ -89,6 +89,62 @@ pub struct Remembered {
     pub after: usize,
     pub asker: u8,
     pub hits: u8,
+}
+
+// The same with a field that says whether the number is among the remembered queries: the form in which the rules read
+// it, which look at no other field where it is not.
+#[repr(C)]
+#[derive(Clone, Copy)]
+pub struct Lookup {
+    pub found: bool,
+    pub after: usize,
+    pub asker: u8,
+    pub hits: u8,
+}
+
+// What is known of a number, in either form; `lookup` is the second.
+pub trait Known: Copy {
+    ghost use Rattle.protocol.specs.declared.Lookup.{Lookup};
+
+    ghost lookup: { Self → Lookup };
+
+    fn remembered(self) -> Option<Remembered>
+        ensures { result ≡ remembered_in (lookup self) };
+
+    // How many queries were remembered after the number's, as the second form has it: its field even where the number
+    // is not remembered, and 0 of `None`.
+    fn after(self) -> usize
+        ensures { result ≡ (lookup self).after };
+}
+
+impl Known for Option<Remembered> {
+    ghost lookup = { lookup_in };
+
+    fn remembered(self) -> Option<Remembered> {
+        self // in this form already
+    }
+
+    fn after(self) -> usize {
+        self.map_or(0, |query| query.after)
+    }
+}
+
+impl Known for Lookup {
+    ghost lookup = { λ known. known };
+
+    fn remembered(self) -> Option<Remembered> {
+        let Lookup {
+            found,
+            after,
+            asker,
+            hits,
+        } = self;
+        found.then_some(Remembered { after, asker, hits })
+    }
+
+    fn after(self) -> usize {
+        self.after
+    }
 }
 
 // The age of a query: whether its number was looked up and found, and how many queries were remembered after it, which

@@ -11,7 +11,7 @@ use Rattle.laws.proofs.Refusals.{all_map}
 use Rattle.laws.proofs.Rings.{map-map}
 use Rattle.wire.specs.Header.{header_in, payload_of, ping_type, pong_type, route_update, query_type, hit_type}
 use Rattle.protocol.specs.declared.Line.{Line}
-use Rattle.protocol.specs.Memory.{Lookup}
+use Rattle.protocol.specs.declared.Lookup.{Lookup}
 use Rattle.protocol.specs.declared.Age.{Age}
 use Rattle.protocol.specs.Lines.{line_in, nowhere, empty_line, stored_pongs}
 use Rattle.protocol.specs.Memory.{capacity, memory_in_order, number_in, age_behind}

@@ -8,13 +8,13 @@ pub mod ages;
 ghost use Rattle.std.specs.Prelude.{◌≡◌, IfOk};
 ghost use Rattle.laws.specs.Tests.{first_of};
 ghost use Rattle.answer.specs.Numbers.{answer_of};
-ghost use Rattle.protocol.specs.Memory.{lookup_in};
+ghost use Rattle.protocol.specs.Memory.{remembered_in};
 ghost use Rattle.protocol.specs.Queries.{query_rules};
 ghost use Rattle.protocol.specs.Hits.{hit_rules};
 ghost use Rattle.protocol.specs.Calls.{other_room, unfit_areas, extent_rules, early_rules, opening_rules, closing_rules, own_rules};
 
 use answer::{Refusal, require};
-use protocol::{GONE, HERE, HITS, LARGEST_TEXT, LINES, Remembered};
+use protocol::{GONE, HERE, HITS, Known, LARGEST_TEXT, LINES, Remembered};
 use wire::{HEADER_SIZE, Header, LARGEST_MESSAGE, LARGEST_PAYLOAD};
 
 // Is the route area too short, or does it give another room?
@@ -78,45 +78,45 @@ pub fn closing(order: bool, line: u32, live: bool) -> Result<(), Refusal>
 }
 
 // The refusals of an own query, whose text has `size` bytes and a zero byte or none.
-pub fn own(
+pub fn own<K: Known>(
     order: bool,
     room: usize,
     out: usize,
     route: usize,
     size: usize,
     zero: bool,
-    known: Option<Remembered>,
+    known: K,
 ) -> Result<(), Refusal>
-    ensures { answer_of result ≡ first_of (own_rules order room out route size zero (lookup_in known)) }
+    ensures { answer_of result ≡ first_of (own_rules order room out route size zero (K.lookup known)) }
 {
     require(order, Refusal::NotInOrder)?;
     require(!unfit_areas(room, out, route), Refusal::BadArea)?;
     require(size <= LARGEST_TEXT, Refusal::TooLong)?;
     require(!zero, Refusal::BadPayload)?;
-    require(known.is_none(), Refusal::Repeated)
+    require(known.remembered().is_none(), Refusal::Repeated)
 }
 
 // The refusals of an arriving query, whose text is ended by a zero byte or not.
-pub fn query(limit: u8, h: Header, ended: bool, known: Option<Remembered>) -> Result<(), Refusal>
-    ensures { answer_of result ≡ first_of (query_rules limit h ended (lookup_in known)) }
+pub fn query<K: Known>(limit: u8, h: Header, ended: bool, known: K) -> Result<(), Refusal>
+    ensures { answer_of result ≡ first_of (query_rules limit h ended (K.lookup known)) }
 {
     require(ended, Refusal::BadPayload)?;
     require(
         0 < h.ttl && h.ttl <= 15 && h.hops < limit,
         Refusal::BadTtlOrHops,
     )?;
-    require(known.is_none(), Refusal::Repeated)
+    require(known.remembered().is_none(), Refusal::Repeated)
 }
 
 // The refusals of a hit, and the query that it answers. One for a query that was asked here is delivered before the
 // last two.
-pub fn hit(h: Header, known: Option<Remembered>) -> Result<Remembered, Refusal>
-    ensures number { answer_of result ≡ first_of (hit_rules h (lookup_in known)) }
-    ensures query { IfOk result (λ q. known ≡ Some q) }
+pub fn hit<K: Known>(h: Header, known: K) -> Result<Remembered, Refusal>
+    ensures number { answer_of result ≡ first_of (hit_rules h (K.lookup known)) }
+    ensures query { IfOk result (λ q. remembered_in (K.lookup known) ≡ Some q) }
 {
     require(27 <= h.size, Refusal::BadPayload)?;
     require(h.ttl != 0, Refusal::BadTtlOrHops)?;
-    let query = known.ok_or(Refusal::NotFound)?;
+    let query = known.remembered().ok_or(Refusal::NotFound)?;
     require(query.asker != GONE, Refusal::AskerClosed)?;
     require(query.hits != HITS, Refusal::AnsweredEnough)?;
     let away = query.asker != HERE;

@@ -12,6 +12,7 @@ use lib.ListN.{length, get_or, take, drop, length-take, length-drop, length-set}
 use lib.Seq.{length-take-le}
 use borrow.Author.Tests.{eq-eqb, ne_eqb, le-leb, eqb-false, leb-false, not-false}
 use borrow.Rule.Slice.PartMut.{put_mid}
+use Rattle.std.specs.Prelude.{Some, None}
 use Rattle.laws.specs.Parts.{over}
 use Rattle.laws.specs.Tests.{first_of, any}
 use Rattle.laws.proofs.Refusals.{no-refusal, or_fst, or_snd}
@@ -23,10 +24,11 @@ use Rattle.tables.specs.Updates.{Updated}
 use Rattle.tables.specs.Tables.{Held, held_in}
 use Rattle.tables.specs.Updates.{update_answer, updated, answered, part_with}
 use Rattle.protocol.specs.declared.Line.{Line}
-use Rattle.protocol.specs.Memory.{Lookup}
+use Rattle.protocol.specs.declared.Lookup.{Lookup}
 use Rattle.protocol.specs.declared.Age.{Age}
 use Rattle.protocol.specs.declared.Report.{Report}
-use Rattle.protocol.specs.Memory.{no_age, age_after, pick_age, age_behind}
+use Rattle.protocol.specs.declared.Remembered.{Remembered}
+use Rattle.protocol.specs.Memory.{lookup_in, remembered_in, no_age, age_after, pick_age, age_behind}
 use Rattle.protocol.specs.Lines.{line_in, with_table, part_of, held_for}
 use Rattle.protocol.specs.State.{line_only}
 use Rattle.protocol.specs.Outcomes.{Step, only_to, written_for, hands_up, refused_or}
@@ -209,6 +211,14 @@ module _ (h : Header) (k : Lookup) {a : ℕ} (e : a ≡ first_of (hit_rules h k)
         lives = omega (arith, eqb-false h.ttl 0 p.1.0, eqb-false h.ttl 1 t);
         rises = eqb-false h.hops 255 u;
       }
+
+told-asker : (found : Bool) (r q : Remembered) → cond found (Some r) None ≡ Some q → r.asker ≡ q.asker
+told-asker true r q e = ap (λ k. (lookup_in k).asker) e
+told-asker false r q e = cc
+
+-- the query that a look-up tells of was asked by the look-up's asker
+pub asker-told : (k : Lookup) (q : Remembered) → remembered_in k ≡ Some q → k.asker ≡ q.asker
+asker-told k q e = told-asker k.found record { after = k.after; asker = k.asker; hits = k.hits } q e
 
 module _ (x : Line) (h : Header) (k : Lookup) (m area out : List ℕ) (p : Sendable h hit_type m (length out)) {a : ℕ}
     (e : a ≡ first_of (hit_rules h k)) {age : Age} (eage : age ≡ age_behind (hit_before h) k) where

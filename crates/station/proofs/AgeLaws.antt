@@ -9,7 +9,7 @@ use borrow.Author.Tests.{not-true}
 use Rattle.laws.specs.Tests.{first_of, all}
 use Rattle.laws.proofs.Truth.{both_left, both_right}
 use Rattle.protocol.specs.declared.Age.{Age}
-use Rattle.protocol.specs.Memory.{Lookup}
+use Rattle.protocol.specs.declared.Lookup.{Lookup}
 use Rattle.protocol.specs.Memory.{no_age, age_after, pick_age, age_behind}
 use Rattle.protocol.specs.Outcomes.{Step, hands_up}
 use Rattle.protocol.specs.Queries.{query_after}

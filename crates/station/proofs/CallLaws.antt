@@ -37,7 +37,7 @@ use Rattle.wire.specs.Header.{
   kind_named,
 }
 use Rattle.protocol.specs.declared.Line.{Line}
-use Rattle.protocol.specs.Memory.{Lookup}
+use Rattle.protocol.specs.declared.Lookup.{Lookup}
 use Rattle.protocol.specs.declared.Age.{Age}
 use Rattle.protocol.specs.declared.Report.{Report}
 use Rattle.protocol.specs.Memory.{Memory, no_age, age_after, pick_age, age_behind, memory_of, capacity, here, gone, Number, number_in, number_from, queries_in, find, lookup_of, no_twice, asker_fits, memory_in_order, hits_fit, remember_if, raised, raise, raise_if, left, left_all}

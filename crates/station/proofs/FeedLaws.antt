@@ -17,7 +17,7 @@ use Rattle.laws.proofs.Refusals.{or_fst, or_snd, no-refusal, NoRefusal}
 use Rattle.wire.specs.declared.Header.{Header}
 use Rattle.wire.specs.Header.{header_in, size_of}
 use Rattle.protocol.specs.declared.Line.{Line}
-use Rattle.protocol.specs.Memory.{Lookup}
+use Rattle.protocol.specs.declared.Lookup.{Lookup}
 use Rattle.protocol.specs.Lines.{line_in, line_numbers}
 use Rattle.protocol.specs.State.{Change, line_only}
 use Rattle.protocol.specs.Outcomes.{Terms}

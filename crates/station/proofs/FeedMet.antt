@@ -14,7 +14,7 @@ use borrow.Author.Tests.{eq-eqb, eqb-true, ltb-true, not-false}
 use Rattle.laws.specs.Tests.{first_of}
 use Rattle.laws.proofs.Refusals.{clash, or_fst, no-refusal, NoRefusal}
 use Rattle.protocol.specs.declared.Line.{Line}
-use Rattle.protocol.specs.Memory.{Lookup}
+use Rattle.protocol.specs.declared.Lookup.{Lookup}
 use Rattle.protocol.specs.Memory.{Memory, Number, number_in}
 use Rattle.protocol.specs.Lines.{line_in, nowhere}
 use Rattle.protocol.specs.State.{Station, Change, line_only, station_of, looked_up, memory_after, state_after}

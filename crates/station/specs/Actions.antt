@@ -4,7 +4,7 @@ use Rattle.laws.specs.Parts.{over}
 use Rattle.wire.specs.declared.Header.{Header}
 use Rattle.wire.specs.Header.{header_size, largest_payload, largest_message, header_in, size_of}
 use Rattle.protocol.specs.declared.Line.{Line}
-use Rattle.protocol.specs.Memory.{Lookup}
+use Rattle.protocol.specs.declared.Lookup.{Lookup}
 use Rattle.protocol.specs.declared.Age.{Age}
 use Rattle.protocol.specs.declared.Report.{Report}
 use Rattle.protocol.specs.Memory.{no_age}

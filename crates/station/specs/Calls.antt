@@ -5,7 +5,7 @@ use Rattle.laws.specs.Parts.{over}
 use Rattle.laws.specs.Tests.{first_of, any}
 use Rattle.wire.specs.Header.{size_of}
 use Rattle.protocol.specs.declared.Line.{Line}
-use Rattle.protocol.specs.Memory.{Lookup}
+use Rattle.protocol.specs.declared.Lookup.{Lookup}
 use Rattle.protocol.specs.declared.Age.{Age}
 use Rattle.protocol.specs.declared.Report.{Report}
 use Rattle.protocol.specs.Memory.{age_behind}

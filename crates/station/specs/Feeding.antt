@@ -6,7 +6,7 @@ use Rattle.laws.specs.Parts.{over}
 use Rattle.wire.specs.declared.Header.{Header}
 use Rattle.wire.specs.Header.{header_size}
 use Rattle.protocol.specs.declared.Line.{Line}
-use Rattle.protocol.specs.Memory.{Lookup}
+use Rattle.protocol.specs.declared.Lookup.{Lookup}
 use Rattle.protocol.specs.declared.Report.{Report}
 use Rattle.protocol.specs.Lines.{line_in}
 use Rattle.protocol.specs.State.{Station, Change, line_only}

@@ -1,6 +1,5 @@
 // What an arriving message does, but for the state: the step of its type.
 ghost use Rattle.std.specs.Prelude.{◌≡◌, ◌<◌, length};
-ghost use Rattle.protocol.specs.Memory.{lookup_in};
 ghost use Rattle.protocol.specs.Queries.{usual_limit};
 ghost use Rattle.protocol.specs.Calls.{by_type};
 ghost use Rattle.protocol.specs.Outcomes.{terms_of};
@@ -13,13 +12,13 @@ use crate::pings::{ping_step, pong_step};
 use crate::queries::query_step;
 use crate::updates::update_step;
 use answer::Refusal;
-use protocol::{LIMIT, Line, Own, Remembered};
+use protocol::{Known, LIMIT, Line, Own};
 use wire::{Header, Kind};
 
 // The message is whole and its areas fit. `known` is what the look-up of its number found. `v` is what is read off the
 // lines, which only a ping looks at again.
-pub(crate) fn act(
-    known: Option<Remembered>,
+pub(crate) fn act<K: Known>(
+    known: K,
     room: usize,
     lines: [Line; 8],
     v: View,
@@ -34,10 +33,10 @@ pub(crate) fn act(
     requires l_bound { (l < 8) × (v ≡ view_of lines room l) }
     requires fit { Fit room h m.now (length out.old) (length route.old) }
     ensures does { let terms = terms_of clock own (length out.old) in
-        let step = by_type usual_limit room lines l (lookup_in known) m.now terms route.old in
+        let step = by_type usual_limit room lines l (K.lookup known) m.now terms route.old in
         Does step result out.old out.new }
     ensures area { let terms = terms_of clock own (length out.old) in
-        let step = by_type usual_limit room lines l (lookup_in known) m.now terms route.old in
+        let step = by_type usual_limit room lines l (K.lookup known) m.now terms route.old in
         route.new ≡ step.route }
 {
     match Kind::try_from(h.kind) {

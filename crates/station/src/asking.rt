@@ -1,7 +1,6 @@
 // An own query: its refusals, and the lines it goes to.
 ghost use Rattle.std.specs.Prelude.{◌≡◌, List, ℕ, ◌≤◌, length};
 ghost use Rattle.protocol.specs.declared.Line.{Line};
-ghost use Rattle.protocol.specs.Memory.{lookup_in};
 ghost use Rattle.protocol.specs.Outcomes.{hands_up};
 ghost use Rattle.protocol.specs.Queries.{usual_limit};
 ghost use Rattle.station.specs.Actions.{view_of};
@@ -13,7 +12,7 @@ use forwarding::lines::{any_line, passing};
 use forwarding::messages::own_query;
 use forwarding::texts::any_zero;
 use memory::Survey;
-use protocol::{LIMIT, Line, Report};
+use protocol::{Known, LIMIT, Line, Report};
 use refusals::ages::repeat_age;
 
 // An own query that is not refused is written where it goes to some line.
@@ -43,8 +42,8 @@ fn send_own(
 
 // A query of this station's own, given whether the ring is in order and what it knows of the number, which the ring
 // takes in where the answer is 0.
-pub fn ask(
-    s: Survey,
+pub fn ask<K: Known>(
+    s: Survey<K>,
     room: usize,
     lines: [Line; 8],
     number: [u8; 16],
@@ -52,7 +51,7 @@ pub fn ask(
     out: &mut [u8],
     route: &[u8],
 ) -> Report
-    ensures { let known = lookup_in s.known in
+    ensures { let known = K.lookup s.known in
         let n = own_answer_by s.order known room lines text.now (length out.old) (length route.now) in
         let age = own_age_by s.order known room lines text.now (length out.old) (length route.now) in
         let sent = own_query_sent usual_limit n room lines number text.now route.now in

@@ -2,7 +2,6 @@
 ghost use Rattle.std.specs.Prelude.{◌+◌, ◌%◌, ◌≤◌, ◌<◌, ◌≡◌, true, eqb, length};
 ghost use Rattle.laws.specs.Tests.{first_of};
 ghost use Rattle.wire.specs.Header.{header_in, largest_message};
-ghost use Rattle.protocol.specs.Memory.{lookup_in};
 ghost use Rattle.protocol.specs.Outcomes.{terms_of};
 ghost use Rattle.protocol.specs.Lines.{line_in};
 ghost use Rattle.protocol.specs.Calls.{extent_rules};
@@ -18,7 +17,7 @@ use answer::Refusal;
 use intake::early::before_bytes;
 use intake::joining::{hold, joined_header};
 use memory::Survey;
-use protocol::{Line, Own, Pending, Remembered, Report};
+use protocol::{Known, Line, Own, Pending, Report};
 use refusals::extent;
 use wire::{HEADER_SIZE, Header};
 
@@ -110,9 +109,9 @@ fn waiting(x: Line, bytes: &[u8], held: &mut [u8]) -> Feeding
 
 // A whole message, of which `count` bytes are held: it stands where the bytes were brought, or else it is made whole in
 // the held area.
-fn taken(
+fn taken<K: Known>(
     count: usize,
-    known: Option<Remembered>,
+    known: K,
     room: usize,
     lines: [Line; 8],
     v: View,
@@ -128,7 +127,7 @@ fn taken(
     requires l_bound { (l < 8) × (v ≡ view_of lines room l) }
     requires ends { Ends room h count bytes.now held.old (length out.old) (length route.old) }
     ensures { let terms = terms_of clock own (length out.old) in
-        let step = taken_step h count (lookup_in known) room lines l bytes.now held.old terms route.old in
+        let step = taken_step h count (K.lookup known) room lines l bytes.now held.old terms route.old in
         FeedHanded step result out.old out.new held.new route.new }
 {
     let n = HEADER_SIZE + h.size as usize;
@@ -175,8 +174,8 @@ fn starts(len: usize, size: u32) -> bool
 // Bytes by a line, given whether the ring is in order and what it knows of the number that they bring. The record that
 // comes back belongs at line % 8, and the ring takes the number in where it is to be remembered, or counts the
 // hit.
-pub fn feed(
-    s: Survey,
+pub fn feed<K: Known>(
+    s: Survey<K>,
     room: usize,
     lines: [Line; 8],
     line: u32,
@@ -188,7 +187,7 @@ pub fn feed(
     route: &mut [u8],
 ) -> Feeding
     ensures { let terms = terms_of clock own (length out.old) in
-        let step = fed_step s.order (lookup_in s.known) room lines line bytes.now held.old terms route.old in
+        let step = fed_step s.order (K.lookup s.known) room lines line bytes.now held.old terms route.old in
         FeedHanded step result out.old out.new held.new route.new }
 {
     let l = line % 8;

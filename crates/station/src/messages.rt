@@ -1,6 +1,5 @@
 // An arriving message: its first refusal, and what it does.
 ghost use Rattle.std.specs.Prelude.{◌≡◌, cond, ◌+◌, length};
-ghost use Rattle.protocol.specs.Memory.{lookup_in};
 ghost use Rattle.protocol.specs.Outcomes.{terms_of, unused};
 ghost use Rattle.station.specs.Feeding.{used_by};
 ghost use Rattle.station.specs.Calls.{Handed, arrival_step};
@@ -9,7 +8,7 @@ use crate::act::act;
 use crate::actions::{Action, quietly};
 use crate::lines::read_lines;
 use memory::Survey;
-use protocol::{Line, Own, Report};
+use protocol::{Known, Line, Own, Report};
 use wire::{HEADER_SIZE, read_header};
 
 // How many bytes of a message are used: none where nothing is consumed, else its header and payload.
@@ -38,8 +37,8 @@ fn with_used(a: Action, size: u32) -> Action
 
 // An arriving message, given whether the ring is in order and what it knows of the number. The record that comes back
 // belongs at line % 8, and the ring takes the number in where it is to be remembered, or counts the hit.
-pub fn arrive(
-    s: Survey,
+pub fn arrive<K: Known>(
+    s: Survey<K>,
     room: usize,
     lines: [Line; 8],
     line: u32,
@@ -50,7 +49,7 @@ pub fn arrive(
     route: &mut [u8],
 ) -> Action
     ensures { let terms = terms_of clock own (length out.old) in
-        let step = arrival_step s.order (lookup_in s.known) room lines line m.now terms route.old in
+        let step = arrival_step s.order (K.lookup s.known) room lines line m.now terms route.old in
         Handed step m.now result out.old out.new route.new }
 {
     let h = read_header(m);

@@ -9,9 +9,9 @@ use Rattle.ascii.proofs.Library.{leading-taken}
 use Rattle.ascii.proofs.leading.Goals as goal
 
 pub returns : goal.returns
-returns c =
+returns g c =
     let s = c.args.s.now in
-    let k = c.args.class in
+    let k = g.C.ToClass.class c.args.class in
     count_from_yields_List _ _ c.count.ensures.ran
     (YieldsList-from_take_while _ (in_class k) (YieldsList-from_slice s cc) c.take_while.ensures.closure c.take_while.ensures.done
     (λ x b q k. search (rules, tests)))

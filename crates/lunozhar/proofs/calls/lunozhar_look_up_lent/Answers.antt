@@ -12,6 +12,6 @@ returns c =
     let q = memory_of a.lo.now a.hi.now a.asker.now a.hits.now a.count a.next in
     let number = c.read_header-h.ensures in
     let s = c.survey_ring-s in
-    c.from.ensures ∙ c.look_up.ensures
+    c.from.ensures ∙ c.look_up.ensures.finding
     ∙ ap₂ finding_by (c.in_order-order.ensures ∙ surveyed_order a.room a.lines.at q s.ensures.order)
     (known_is a.number.bytes number q s.ensures.known)

@@ -2,7 +2,7 @@
 use mathlib.Core.Path.{sym, ap, ◌∙◌}
 use lib.ListN.{length}
 use borrow.Author.Rules.{rules}
-use Rattle.protocol.specs.Memory.{Lookup}
+use Rattle.protocol.specs.declared.Lookup.{Lookup}
 use Rattle.protocol.specs.Memory.{memory_of, number_from, find, lookup_of}
 use Rattle.memory.proofs.SearchLaws.{find_first, find-rest}
 use Rattle.memory.proofs.OrderLaws.{kept-none, fits_next, fits_count}

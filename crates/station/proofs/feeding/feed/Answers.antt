@@ -10,7 +10,6 @@ use borrow.Author.Tests.{eqb-true}
 use Rattle.laws.specs.Tests.{first_of}
 use Rattle.answer.specs.Numbers.{number_of, answer_of}
 use Rattle.answer.proofs.Apart.{never_zero, done_is}
-use Rattle.protocol.specs.Memory.{lookup_in}
 use Rattle.protocol.specs.Calls.{extent_rules}
 use Rattle.protocol.specs.Outcomes.{terms_of}
 use Rattle.protocol.specs.declared.Line.{Line}
@@ -18,18 +17,19 @@ use Rattle.station.specs.declared.lines.View.{View}
 use Rattle.station.specs.Feeding.{quiet_feeding}
 use Rattle.station.proofs.FeedLaws.{Found, feed-refused, few-held, unfinished-fits, feed-unfinished}
 use Rattle.station.proofs.FeedLaws.{feed-ends, feed-taken, too_large}
+use Rattle.station.proofs.feeding.feed.Given.{Over}
 use Rattle.station.proofs.feeding.feed.Goals.{After-before_bytes-early, In_default, Then-starts, In-Err-extent}
 use Rattle.station.proofs.feeding.feed.Goals as goal
 
-found : (c : After-before_bytes-early) → (
+found : (g : Over) (c : After-before_bytes-early g) → (
     let a = c.args in
-    Found a.s.order (lookup_in a.s.known) a.room a.lines a.line a.bytes.now a.held.now
+    Found a.s.order (g.K.Known.lookup a.s.known) a.room a.lines a.line a.bytes.now a.held.now
     (terms_of a.clock a.own (length a.out.now)) a.route.now a.out.now
     c.read_lines-v.result c.read_lines-v.result.line.pending.count
     c.joined_header-h.result
     c.min.result (first_of (extent_rules c.min.result c.joined_header-h.result.size)) (answer_of c.before_bytes-early.result)
     )
-found c =
+found g c =
     record {
       view = c.read_lines-v.ensures;
       count = ap (λ (v : View). v.line.pending.count) c.read_lines-v.ensures;
@@ -40,81 +40,81 @@ found c =
     }
 
 pub returns-in-Err : goal.returns-in-Err
-returns-in-Err c =
-    feed-refused (found (goal.at.returns-in-Err c).After-before_bytes-early)
+returns-in-Err g c =
+    feed-refused (found g (goal.at.returns-in-Err g c).After-before_bytes-early)
     (λ z. never_zero c.in-Err.refusal (sym (ap answer_of c.in-Err.is) ∙ z))
     (c.quiet_feeding.ensures ∙ ap (λ n. quiet_feeding n 0 c.read_lines-v.result.line false) (c.from.ensures ∙ sym (ap answer_of c.in-Err.is)))
 
 -- where nothing refuses it
-unrefused : (c : In_default) → answer_of c.before_bytes-early.result ≡ 0
-unrefused c = done_is c.before_bytes-early.result c.in_default.not-Err
+unrefused : (g : Over) (c : In_default g) → answer_of c.before_bytes-early.result ≡ 0
+unrefused g c = done_is c.before_bytes-early.result c.in_default.not-Err
 
 pub overflow_add-all : goal.overflow_add-all
-overflow_add-all c =
+overflow_add-all g c =
     let good = c.well_formed.1.1.1 in
     omega (
       arith,
-      few-held (found (goal.at.overflow_add-all c).After-before_bytes-early)
-          (unrefused (goal.at.overflow_add-all c).In_default),
+      few-held (found g (goal.at.overflow_add-all g c).After-before_bytes-early)
+          (unrefused g (goal.at.overflow_add-all g c).In_default),
       good.1.1.1.0,
     )
 
 -- where the bytes end before their message does
-Part : (c : Then-starts) → ℕ
-Part c = let x = c.read_lines-v.result.line in
+Part : (g : Over) (c : Then-starts g) → ℕ
+Part g c = let x = c.read_lines-v.result.line in
     first_of (extent_rules (x.pending.count + length c.args.bytes.now) c.joined_header-h.result.size)
 
-ends_early : (c : Then-starts) → eqb (Part c) 4 ≡ true
+ends_early : (g : Over) (c : Then-starts g) → eqb (Part g c) 4 ≡ true
 unfolding Part
-ends_early c = sym c.starts-2.ensures ∙ c.if-starts.true
+ends_early g c = sym c.starts-2.ensures ∙ c.if-starts.true
 
-not_0 : (c : Then-starts) → Part c ≡ 0 → ⊥
+not_0 : (g : Over) (c : Then-starts g) → Part g c ≡ 0 → ⊥
 unfolding Part
-not_0 c z = omega (arith, eqb-true (Part c) 4 (ends_early c), z)
+not_0 g c z = omega (arith, eqb-true (Part g c) 4 (ends_early g c), z)
 
 pub waiting-requires : goal.waiting-requires
 unfolding Part
-waiting-requires c =
-    let t = (goal.at.waiting-requires c).Then-starts in
-    (unfinished-fits (found (goal.at.waiting-requires c).After-before_bytes-early)
-    (unrefused (goal.at.waiting-requires c).In_default) refl (not_0 t)).0 (ends_early t)
+waiting-requires g c =
+    let t = (goal.at.waiting-requires g c).Then-starts in
+    (unfinished-fits (found g (goal.at.waiting-requires g c).After-before_bytes-early)
+    (unrefused g (goal.at.waiting-requires g c).In_default) refl (not_0 g t)).0 (ends_early g t)
 
 pub returns-then-starts : goal.returns-then-starts
 unfolding Part
-returns-then-starts c =
-    let t = (goal.at.returns-then-starts c).Then-starts in
-    feed-unfinished (found (goal.at.returns-then-starts c).After-before_bytes-early)
-    (unrefused (goal.at.returns-then-starts c).In_default) refl (not_0 t)
-    (rw (ends_early t) c.waiting.ensures.feeding) (rw (ends_early t) c.waiting.ensures.area)
+returns-then-starts g c =
+    let t = (goal.at.returns-then-starts g c).Then-starts in
+    feed-unfinished (found g (goal.at.returns-then-starts g c).After-before_bytes-early)
+    (unrefused g (goal.at.returns-then-starts g c).In_default) refl (not_0 g t)
+    (rw (ends_early g t) c.waiting.ensures.feeding) (rw (ends_early g t) c.waiting.ensures.area)
 
 pub taken-requires : goal.taken-requires
-taken-requires c =
-    let g = found (goal.at.taken-requires c).After-before_bytes-early in
+taken-requires g c =
+    let f = found g (goal.at.taken-requires g c).After-before_bytes-early in
     record {
-      l_bound = (omega arith, g.view);
-      ends = feed-ends g (unrefused (goal.at.taken-requires c).In_default) c.in-Ok.ensures refl;
+      l_bound = (omega arith, f.view);
+      ends = feed-ends f (unrefused g (goal.at.taken-requires g c).In_default) c.in-Ok.ensures refl;
     }
 
 pub returns-in-Ok : goal.returns-in-Ok
-returns-in-Ok c =
-    feed-taken (found (goal.at.returns-in-Ok c).After-before_bytes-early)
-    (unrefused (goal.at.returns-in-Ok c).In_default) c.in-Ok.ensures refl c.taken.ensures
+returns-in-Ok g c =
+    feed-taken (found g (goal.at.returns-in-Ok g c).After-before_bytes-early)
+    (unrefused g (goal.at.returns-in-Ok g c).In_default) c.in-Ok.ensures refl c.taken.ensures
 
 -- where they do not, and do not make a message either
-larger : (c : In-Err-extent) → eqb (number_of c.in-Err-extent.refusal) 4 ≡ false
-larger c = ap (λ n. eqb n 4) c.in-Err-extent.ensures ∙ sym c.starts-2.ensures ∙ c.if-starts.false
+larger : (g : Over) (c : In-Err-extent g) → eqb (number_of c.in-Err-extent.refusal) 4 ≡ false
+larger g c = ap (λ n. eqb n 4) c.in-Err-extent.ensures ∙ sym c.starts-2.ensures ∙ c.if-starts.false
 
 pub overflow_sub-count : goal.overflow_sub-count
-overflow_sub-count c =
-    (unfinished-fits (found (goal.at.overflow_sub-count c).After-before_bytes-early)
-    (unrefused (goal.at.overflow_sub-count c).In_default) c.in-Err-extent.ensures
-    (never_zero c.in-Err-extent.refusal)).1 (larger (goal.at.overflow_sub-count c).In-Err-extent)
+overflow_sub-count g c =
+    (unfinished-fits (found g (goal.at.overflow_sub-count g c).After-before_bytes-early)
+    (unrefused g (goal.at.overflow_sub-count g c).In_default) c.in-Err-extent.ensures
+    (never_zero c.in-Err-extent.refusal)).1 (larger g (goal.at.overflow_sub-count g c).In-Err-extent)
 
 pub returns-in-Err-extent : goal.returns-in-Err-extent
-returns-in-Err-extent c =
-    let other = larger (goal.at.returns-in-Err-extent c).In-Err-extent in
-    let f = found (goal.at.returns-in-Err-extent c).After-before_bytes-early in
-    let none = unrefused (goal.at.returns-in-Err-extent c).In_default in
+returns-in-Err-extent g c =
+    let other = larger g (goal.at.returns-in-Err-extent g c).In-Err-extent in
+    let f = found g (goal.at.returns-in-Err-extent g c).After-before_bytes-early in
+    let none = unrefused g (goal.at.returns-in-Err-extent g c).In_default in
     let five = too_large f none c.in-Err-extent.ensures (never_zero c.in-Err-extent.refusal) other in
     let x = c.read_lines-v.result.line in
     feed-unfinished f none c.in-Err-extent.ensures (never_zero c.in-Err-extent.refusal)
