@@ -56,26 +56,26 @@ pub fn require(holds: bool, refusal: Refusal) -> Result<(), Refusal>
     if holds { Ok(()) } else { Err(refusal) }
 }
 
-// How a call ended: an outcome, or the answer that one comes to.
-pub trait Ended: Copy {
+// How a call ended, for a caller that has its outcome and for one that has the number of its answer alone.
+pub trait ToAnswer: Copy {
     ghost answer: { Self → ℕ };
 
-    fn answer(self) -> u8
+    fn to_answer(self) -> u8
         ensures { result ≡ answer self };
 }
 
-impl Ended for Result<(), Refusal> {
+impl ToAnswer for Result<(), Refusal> {
     ghost answer = { answer_of };
 
-    fn answer(self) -> u8 {
+    fn to_answer(self) -> u8 {
         answer(self)
     }
 }
 
-impl Ended for u8 {
-    ghost answer = { λ answer. answer };
+impl ToAnswer for u8 {
+    ghost answer = { λ number. number };
 
-    fn answer(self) -> u8 {
+    fn to_answer(self) -> u8 {
         self
     }
 }

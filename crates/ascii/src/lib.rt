@@ -33,8 +33,8 @@ pub fn is_text(b: u8) -> bool
     !matches!(b, b'\r' | b'\n')
 }
 
-// A class of bytes, given itself or by its number: 0 for blanks, 1 for bytes of a name, 2 for bytes of a line, and any
-// other for digits.
+// A class of bytes, for a caller that has the class and for one that has a byte for it: 0 for blanks, 1 for bytes of a
+// name, 2 for bytes of a line, and any other for digits.
 pub trait ToClass {
     ghost use Rattle.ascii.specs.declared.Class.{Class};
 

@@ -15,7 +15,7 @@ pub mod search;
 
 use protocol::Remembered;
 
-// Whether the remembered queries are in order, and what is known of a number.
+// Whether the remembered queries are in order, and what is known of a number, in either form of `protocol::Known`.
 #[derive(Clone, Copy)]
 pub struct Survey<K = Option<Remembered>> {
     pub order: bool,

@@ -92,7 +92,7 @@ pub struct Remembered {
 }
 
 // The same with a field that says whether the number is among the remembered queries: the form in which the rules read
-// it, which look at no other field where it is not.
+// it.
 #[repr(C)]
 #[derive(Clone, Copy)]
 pub struct Lookup {
@@ -102,7 +102,7 @@ pub struct Lookup {
     pub hits: u8,
 }
 
-// What is known of a number, in either form; `lookup` is the second.
+// What is known of a number, for a caller that has it in either form; `lookup` is the second, which the rules read.
 pub trait Known: Copy {
     ghost use Rattle.protocol.specs.declared.Lookup.{Lookup};
 
@@ -111,8 +111,8 @@ pub trait Known: Copy {
     fn remembered(self) -> Option<Remembered>
         ensures { result ≡ remembered_in (lookup self) };
 
-    // How many queries were remembered after the number's, as the second form has it: its field even where the number
-    // is not remembered, and 0 of `None`.
+    // The field `after` of the second form, where the number is not remembered too (0 of `None`): what a repeat hands up
+    // and where a hit is counted is promised by that field alone.
     fn after(self) -> usize
         ensures { result ≡ (lookup self).after };
 }

@@ -4,7 +4,7 @@ ghost use Rattle.protocol.specs.Memory.{no_age, age_after, pick_age, age_behind,
 ghost use Rattle.protocol.specs.Hits.{hit_before};
 ghost use Rattle.protocol.specs.Calls.{finding_in, finding_by};
 
-use answer::{Ended, Refusal, require};
+use answer::{Refusal, ToAnswer, require};
 use protocol::{Age, Known, Remembered};
 use wire::Header;
 
@@ -19,10 +19,10 @@ pub fn hit_age<K: Known>(h: Header, known: K) -> Age
 }
 
 // What a query hands up, arriving or own, that ends so: the repeat check finds its number.
-pub fn repeat_age<E: Ended, K: Known>(end: E, known: K) -> Age
-    ensures { result ≡ pick_age (eqb (E.answer end) 9) (age_after (K.lookup known).after) no_age }
+pub fn repeat_age<A: ToAnswer, K: Known>(end: A, known: K) -> Age
+    ensures { result ≡ pick_age (eqb (A.answer end) 9) (age_after (K.lookup known).after) no_age }
 {
-    if end.answer() == u8::from(Refusal::Repeated) {
+    if end.to_answer() == u8::from(Refusal::Repeated) {
         Age::from(Some(known.after()))
     } else {
         Age::default()
